@@ -1,0 +1,11 @@
+-- `linalg::rotation_quat_axis_angle` meets its contract: the code is the definition. Assumes nothing.
+use Rattle.linalg.specs.Vec.{rotationQuatAxisAngle}
+use Rattle.linalg.proofs.rotation_quat_axis_angle.Statement.{statement}
+use Rattle.linalg.proofs.rotation_quat_axis_angle.Tie as tie
+
+returns : tie.Need-returns
+unfolding rotationQuatAxisAngle
+returns c = cc
+
+pub rotation-quat-axis-angle-spec : {M : Type 1} → statement M
+rotation-quat-axis-angle-spec = tie.close (tie.spec (λ c κs. tt) (λ c κs. tt) returns)

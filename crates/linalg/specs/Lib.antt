@@ -1,0 +1,2 @@
+-- The specs of `linalg`.
+pub mod Vec
