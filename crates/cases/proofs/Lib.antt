@@ -1,0 +1,2 @@
+-- The proof of `cases`.
+pub mod Hold

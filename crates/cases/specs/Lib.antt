@@ -1,0 +1,2 @@
+-- The specs of `cases`.
+pub mod Lines
