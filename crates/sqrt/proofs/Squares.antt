@@ -5,6 +5,7 @@ use native.Mathlib.Nat.{le-trans, le-of-eq, le-of-lt, lt-of-lt-of-le, lt-of-le-o
 use native.Mathlib.Omega.{arith}
 use mathlib.Core.Bool.{Bool, true, false, not, cond}
 use lib.Dec.{T, leb, leb→le, nleb→lt}
+use lib.Pow.{pow-add, pow-mono}
 use lib.Ieee.{size}
 use lib.Ieee.Digits.{size-lt}
 use Rattle.sqrt.specs.Sqrt.{nextBit, isqrtBits, isqrt}
@@ -112,17 +113,21 @@ unfolding isqrtBits
 isqrtBits-floor zero n h = zero-floor n h
 isqrtBits-floor (suc d) n h = nextBit-floor n (isqrtBits d (n / 4)) (isqrtBits-floor d (n / 4) (quarter-lt d n h))
 
-two-le-four : (d : ℕ) → 2 ^ d ≤ 4 ^ d
-two-le-four zero = le-of-eq refl
-two-le-four (suc d) =
+four-power : (d : ℕ) → 4 ^ d ≡ 2 ^ (2 * d)
+four-power zero = refl
+four-power (suc d) =
     let e : 4 ^ suc d ≡ 4 * 4 ^ d = pow-succ' 4 d in
-    let f : 2 ^ suc d ≡ 2 * 2 ^ d = pow-succ' 2 d in
-    let l : 2 ^ d ≤ 4 ^ d = two-le-four d in
+    let f : 2 ^ (2 + 2 * d) ≡ 2 ^ 2 * 2 ^ (2 * d) = pow-add 2 2 (2 * d) in
+    let g : 2 ^ (2 * suc d) ≡ 2 ^ (2 + 2 * d) = ap (λ (x : ℕ). 2 ^ x) (let z : 2 * suc d ≡ 2 + 2 * d = omega arith in z) in
+    let l : 4 ^ d ≡ 2 ^ (2 * d) = four-power d in
     omega arith
+
+enough-bits : (k : ℕ) → 2 ^ k ≤ 4 ^ (k / 2 + 1)
+enough-bits k = le-trans (pow-mono (let z : k ≤ 2 * (k / 2 + 1) = omega arith in z)) (le-of-eq (sym (four-power (k / 2 + 1))))
 
 pub isqrt-floor : (n : ℕ) → FloorSqrt n (isqrt n)
 unfolding isqrt
-isqrt-floor n = isqrtBits-floor (size n) n (lt-of-lt-of-le (size-lt n) (two-le-four (size n)))
+isqrt-floor n = isqrtBits-floor (size n / 2 + 1) n (lt-of-lt-of-le (size-lt n) (enough-bits (size n)))
 
 -- ---- scaled: where s is the integer square root of m, that of m * (c * c), divided by c, is s
 
