@@ -1,0 +1,70 @@
+-- The mesh as flat lists: the halfedges (start, end and pair of each), three in a row a triangle, and the face references (mesh, coplanar and face number of each triangle).
+use Prim.Native.Nat.{ℕ, _+_, _*_, _-_, _%_}
+use mathlib.Core.List.{List}
+use mathlib.Core.Bool.{Bool, false, cond, _&&_}
+use lib.ListN.{getD}
+use lib.IntN.{ℤ, pos, negsuc}
+use lib.Dec.{eqb, ltb}
+
+-- the limits of question 1
+abbrev pub maxHalfedges : ℕ
+maxHalfedges = 65535
+
+abbrev pub maxPoints : ℕ
+maxPoints = 65535
+
+-- how many numbers a halfedge has in its list, and a face reference in its
+abbrev pub halfedgeStride : ℕ
+halfedgeStride = 3
+
+abbrev pub refStride : ℕ
+refStride = 3
+
+-- number k of item e, in a list of `stride` numbers to an item; 0 past the end
+unfoldable pub numberAt : List ℤ → ℕ → ℕ → ℕ → ℤ
+numberAt S e stride k = getD S (e * stride + k) (pos 0)
+
+-- an i32 as the number of a point or a halfedge; a negative one is above every count
+unfoldable pub indexOf : ℤ → ℕ
+indexOf (pos n) = n
+indexOf (negsuc n) = 4294967296
+
+-- number k of halfedge e, as an index
+unfoldable pub field : List ℤ → ℕ → ℕ → ℕ
+field H e k = indexOf (numberAt H e halfedgeStride k)
+
+-- `start_vert`, `end_vert` and `paired_halfedge` of halfedge e
+abbrev pub startVert : List ℤ → ℕ → ℕ
+startVert H e = field H e 0
+
+abbrev pub endVert : List ℤ → ℕ → ℕ
+endVert H e = field H e 1
+
+abbrev pub pairedHalfedge : List ℤ → ℕ → ℕ
+pairedHalfedge H e = field H e 2
+
+-- `is_forward`; an accepted mesh has no negative entry
+abbrev pub isForward : List ℤ → ℕ → Bool
+isForward H e = ltb (startVert H e) (endVert H e)
+
+-- `next_halfedge` and `prev_halfedge`, within the triangle
+unfoldable pub nextHalfedge : ℕ → ℕ
+nextHalfedge e = cond (eqb ((e + 1) % 3) 0) (e + 1 - 3) (e + 1)
+
+unfoldable pub prevHalfedge : ℕ → ℕ
+prevHalfedge e = e - e % 3 + (e % 3 + 2) % 3
+
+-- `==` of two i32
+unfoldable pub eqZ : ℤ → ℤ → Bool
+eqZ (pos a) (pos b) = eqb a b
+eqZ (pos a) (negsuc b) = false
+eqZ (negsuc a) (pos b) = false
+eqZ (negsuc a) (negsuc b) = eqb a b
+
+-- number k of the face reference of triangle t: `mesh_id`, `coplanar_id`, `face_id`
+abbrev pub refAt : List ℤ → ℕ → ℕ → ℤ
+refAt R t k = numberAt R t refStride k
+
+-- `same_face` of the triangles a and b
+unfoldable pub sameFace : List ℤ → ℕ → ℕ → Bool
+sameFace R a b = eqZ (refAt R a 0) (refAt R b 0) && eqZ (refAt R a 1) (refAt R b 1) && eqZ (refAt R a 2) (refAt R b 2)

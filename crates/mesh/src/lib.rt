@@ -1,0 +1,282 @@
+// The mesh of the Rust's src/types.rs as flat lists, and the questions 1 to 11 that document 01 puts to a call.
+// Reads past the end of a list give a default, so that a check survives lists of any length and content.
+mod questions;
+
+use questions::counts_fit;
+use questions::test_at;
+ghost use mathlib.Core.Path.{_≡_};
+ghost use mathlib.Core.List.{[]};
+ghost use mathlib.Core.Bool.{_&&_};
+ghost use Prim.Native.Nat.{_+_, _<_, _≤_, _^_};
+ghost use Rattle.mesh.specs.Mesh.{numberAt, field, startVert, endVert, pairedHalfedge, isForward, nextHalfedge, prevHalfedge, eqZ, refAt, sameFace};
+ghost use Rattle.mesh.specs.Scalar.{radiansOf};
+ghost use Rattle.mesh.specs.Questions.{hasLength, testAt};
+ghost use Rattle.mesh.specs.Check.{numberOf, placeOf, each, _then_, checkMesh, checkRefs, checkEntries, checkFlags};
+
+// The limits of question 1.
+pub const MAX_HALFEDGES: usize = 65535;
+
+pub const MAX_POINTS: usize = 65535;
+
+// How many numbers a halfedge has in its list (start, end, pair), and a face reference in its (mesh, coplanar, face).
+pub const HALFEDGE_STRIDE: usize = 3;
+
+pub const REF_STRIDE: usize = 3;
+
+// What a negative entry is read as: a number above every count.
+const NO_INDEX: usize = 4294967296;
+
+// The answer of the questions: each is answered yes, or the first no with the lowest place that breaks it.
+pub enum Checked {
+    Accepted,
+    Refused { number: usize, place: usize },
+}
+
+// The questions 3 to 11, which are put to each place of a list.
+pub enum Question {
+    Points,
+    Pair,
+    Mutual,
+    Opposite,
+    Joined,
+    Mesh,
+    Entry,
+    Sign,
+    Flag,
+}
+
+// Number k of item e, in a list of `stride` numbers to an item.
+fn number_at(s: &[i32], e: usize, stride: usize, k: usize) -> i32
+    requires { ⌜ (0 < stride) × (stride ≤ 4) × (k ≤ 4) ⌝ }
+    ensures { λ r. ⌜ r ≡ numberAt (now (s .entry)) e stride k ⌝ }
+{
+    if s.len() <= e {
+        return 0;
+    }
+    let at = e * stride + k;
+    if at < s.len() { s[at] } else { 0 }
+}
+
+// Number k of halfedge e, as the number of a point or a halfedge.
+fn field(h: &[i32], e: usize, k: usize) -> usize
+    requires { ⌜ k ≤ 4 ⌝ }
+    ensures { λ r. ⌜ r ≡ field (now (h .entry)) e k ⌝ }
+{
+    let x = number_at(h, e, HALFEDGE_STRIDE, k);
+    if x < 0 { NO_INDEX } else { x as usize }
+}
+
+pub fn start_vert(h: &[i32], e: usize) -> usize
+    ensures { λ r. ⌜ r ≡ startVert (now (h .entry)) e ⌝ }
+{
+    field(h, e, 0)
+}
+
+pub fn end_vert(h: &[i32], e: usize) -> usize
+    ensures { λ r. ⌜ r ≡ endVert (now (h .entry)) e ⌝ }
+{
+    field(h, e, 1)
+}
+
+pub fn paired_halfedge(h: &[i32], e: usize) -> usize
+    ensures { λ r. ⌜ r ≡ pairedHalfedge (now (h .entry)) e ⌝ }
+{
+    field(h, e, 2)
+}
+
+pub fn is_forward(h: &[i32], e: usize) -> bool
+    ensures { λ r. ⌜ r ≡ isForward (now (h .entry)) e ⌝ }
+{
+    start_vert(h, e) < end_vert(h, e)
+}
+
+pub fn next_halfedge(e: usize) -> usize
+    requires { ⌜ e + 1 < 2 ^ 64 ⌝ }
+    ensures { λ r. ⌜ r ≡ nextHalfedge e ⌝ }
+{
+    let n = e + 1;
+    if n % 3 == 0 { n - 3 } else { n }
+}
+
+pub fn prev_halfedge(e: usize) -> usize
+    requires { ⌜ e + 1 < 2 ^ 64 ⌝ }
+    ensures { λ r. ⌜ r ≡ prevHalfedge e ⌝ }
+{
+    let base = e - e % 3;
+    let pos = (e % 3 + 2) % 3;
+    base + pos
+}
+
+// Both hold. A call, so that what it says stays one term in a proof.
+pub fn both(a: bool, b: bool) -> bool
+    ensures { λ r. ⌜ r ≡ a && b ⌝ }
+{
+    a && b
+}
+
+// Do the references of the triangles a and b have the same number k?
+fn same_ref(refs: &[i32], a: usize, b: usize, k: usize) -> bool
+    requires { ⌜ k ≤ 4 ⌝ }
+    ensures { λ r. ⌜ r ≡ eqZ (refAt (now (refs .entry)) a k) (refAt (now (refs .entry)) b k) ⌝ }
+{
+    number_at(refs, a, REF_STRIDE, k) == number_at(refs, b, REF_STRIDE, k)
+}
+
+pub fn same_face(refs: &[i32], a: usize, b: usize) -> bool
+    ensures { λ r. ⌜ r ≡ sameFace (now (refs .entry)) a b ⌝ }
+{
+    both(
+        both(same_ref(refs, a, b, 0), same_ref(refs, a, b, 1)),
+        same_ref(refs, a, b, 2),
+    )
+}
+
+pub fn radians(degrees: f64) -> f64
+    ensures { λ r. ⌜ r ≡ radiansOf degrees ⌝ }
+{
+    degrees * 3.14159265358979323846264338327950288 / 180.0
+}
+
+// Has a list of `len` numbers `per` for each of `count`? Nothing here can wrap.
+pub fn has_length(len: usize, count: usize, per: usize) -> bool
+    ensures { λ r. ⌜ r ≡ hasLength len count per ⌝ }
+{
+    if per == 0 {
+        return len == 0;
+    }
+    if len % per != 0 {
+        return false;
+    }
+    len / per == count
+}
+
+pub fn number_of(checked: Checked) -> usize
+    ensures { λ r. ⌜ r ≡ numberOf checked ⌝ }
+{
+    match checked {
+        Checked::Accepted => 0,
+        Checked::Refused { number, place: _ } => number,
+    }
+}
+
+pub fn place_of(checked: Checked) -> usize
+    ensures { λ r. ⌜ r ≡ placeOf checked ⌝ }
+{
+    match checked {
+        Checked::Accepted => 0,
+        Checked::Refused { number: _, place } => place,
+    }
+}
+
+// The answers so far, and then that of the question q, put to each of so many places: the one search of all questions.
+fn ask(
+    sofar: Checked,
+    number: usize,
+    q: Question,
+    numbers: &[i32],
+    halfedges: &[usize],
+    smoothness: &[f64],
+    flags: &[u8],
+    n: usize,
+    p: usize,
+    places: usize,
+) -> Checked
+    ensures { λ r. ⌜ r ≡ (sofar then each number (testAt q (now (numbers .entry)) (now (halfedges .entry)) (now (smoothness .entry)) (now (flags .entry)) n p) places) ⌝ }
+{
+    let Checked::Accepted = sofar else {
+        return sofar;
+    };
+    let mut place = 0;
+    while place < places {
+        if !test_at(q, numbers, halfedges, smoothness, flags, n, p, place) {
+            return Checked::Refused { number, place };
+        }
+        place += 1;
+    }
+    Checked::Accepted
+}
+
+// The same of a question about halfedges or face references, which reads no other list.
+fn ask_numbers(
+    sofar: Checked,
+    number: usize,
+    q: Question,
+    numbers: &[i32],
+    n: usize,
+    p: usize,
+    places: usize,
+) -> Checked
+    ensures { λ r. ⌜ r ≡ (sofar then each number (testAt q (now (numbers .entry)) [] [] [] n p) places) ⌝ }
+{
+    ask(sofar, number, q, numbers, &[], &[], &[], n, p, places)
+}
+
+// The questions 1 to 7. `lengths` is the answer to question 2, which the caller finds of its own lists by `has_length`.
+pub fn check_mesh(h: &[i32], n: usize, p: usize, lengths: bool) -> Checked
+    ensures { λ r. ⌜ r ≡ checkMesh (now (h .entry)) n p lengths ⌝ }
+{
+    if !counts_fit(n, p) {
+        return Checked::Refused {
+            number: 1,
+            place: 0,
+        };
+    }
+    if !lengths {
+        return Checked::Refused {
+            number: 2,
+            place: 0,
+        };
+    }
+    let points = ask_numbers(Checked::Accepted, 3, Question::Points, h, n, p, n);
+    let pair = ask_numbers(points, 4, Question::Pair, h, n, p, n);
+    let mutual = ask_numbers(pair, 5, Question::Mutual, h, n, p, n);
+    let opposite = ask_numbers(mutual, 6, Question::Opposite, h, n, p, n);
+    ask_numbers(opposite, 7, Question::Joined, h, n, p, n)
+}
+
+// Question 8, after earlier answers: the face references of the triangles.
+pub fn check_refs(sofar: Checked, refs: &[i32], n: usize) -> Checked
+    ensures { λ r. ⌜ r ≡ checkRefs sofar (now (refs .entry)) n ⌝ }
+{
+    ask_numbers(sofar, 8, Question::Mesh, refs, n, 0, n / 3)
+}
+
+// The questions 9 and 10, after earlier answers: the sharp entries' halfedges and smoothness.
+pub fn check_entries(sofar: Checked, halfedges: &[usize], smoothness: &[f64], n: usize) -> Checked
+    ensures { λ r. ⌜ r ≡ checkEntries sofar (now (halfedges .entry)) (now (smoothness .entry)) n ⌝ }
+{
+    let entries = halfedges.len();
+    let numbers: &[i32] = &[];
+    let flags: &[u8] = &[];
+    let named = ask(
+        sofar,
+        9,
+        Question::Entry,
+        numbers,
+        halfedges,
+        smoothness,
+        flags,
+        n,
+        0,
+        entries,
+    );
+    ask(
+        named,
+        10,
+        Question::Sign,
+        numbers,
+        halfedges,
+        smoothness,
+        flags,
+        n,
+        0,
+        entries,
+    )
+}
+
+// Question 11, after earlier answers: the flags of the halfedges.
+pub fn check_flags(sofar: Checked, flags: &[u8], n: usize) -> Checked
+    ensures { λ r. ⌜ r ≡ checkFlags sofar (now (flags .entry)) n ⌝ }
+{
+    ask(sofar, 11, Question::Flag, &[], &[], &[], flags, n, 0, n)
+}
