@@ -1,0 +1,18 @@
+-- `cycles::next_around` meets its contract.
+use borrow.Author.Needs.{needs}
+use Rattle.cycles.specs.Cycles.{nextAround}
+use Rattle.cycles.proofs.next_around.Statement.{statement}
+use Rattle.cycles.proofs.next_around.Tie as tie
+
+paired-halfedge-requires : tie.Need-paired-halfedge-requires
+paired-halfedge-requires c κs = search needs
+
+next-halfedge-requires : tie.Need-next-halfedge-requires
+next-halfedge-requires c κs = search needs
+
+returns : tie.Need-returns
+unfolding nextAround
+returns c = cc
+
+pub next-around-spec : {M : Type 1} → statement M
+next-around-spec = tie.close (tie.spec paired-halfedge-requires next-halfedge-requires returns)
