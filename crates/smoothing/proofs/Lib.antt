@@ -1,0 +1,3 @@
+-- The laws of `smoothing` that its proofs share and the crates above cite.
+pub mod Tangents
+pub mod Edges

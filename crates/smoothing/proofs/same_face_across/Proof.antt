@@ -1,0 +1,11 @@
+-- `smoothing::same_face_across` meets its contract: the code is the definition. Assumes nothing.
+use Rattle.smoothing.specs.Edges.{sameFaceAcross}
+use Rattle.smoothing.proofs.same_face_across.Statement.{statement}
+use Rattle.smoothing.proofs.same_face_across.Tie as tie
+
+returns : tie.Need-returns
+unfolding sameFaceAcross
+returns c = cc
+
+pub same-face-across-spec : {M : Type 1} → statement M
+same-face-across-spec = tie.close (tie.spec (λ c κs. tt) (λ c κs. tt) returns)
