@@ -1,0 +1,21 @@
+-- On an accepted mesh the lent lists hold what `faces` reads and writes. Assumes nothing.
+use Prim.Native.Nat.{ℕ, _<_}
+use native.Mathlib.Omega.{arith}
+use mathlib.Core.Path.{_≡_, sym, subst}
+use mathlib.Core.List.{List}
+use lib.IntN.{ℤ}
+use Rattle.mesh.specs.Sound.{Sound}
+use Rattle.faces.specs.Faces.{FlatIn, VertsIn}
+
+pub flat-in : (H : List ℤ) (n p : ℕ) → Sound H n p → FlatIn H n
+flat-in H n p s = record { triangles = s .triangles; paired-in = s .paired-below }
+
+pub verts-in : (H : List ℤ) (n p : ℕ) → Sound H n p → VertsIn H n p
+verts-in H n p s = record { start-in = s .start-below }
+
+-- a list that keeps its length
+pub flat-still : (H : List ℤ) (j a b : ℕ) → b ≡ a → j < a → FlatIn H a → (j < b) × FlatIn H b
+flat-still H j a b q l f = (omega arith, subst (FlatIn H) (sym q) f)
+
+pub verts-still : (H : List ℤ) (n a b : ℕ) → b ≡ a → VertsIn H n a → VertsIn H n b
+verts-still H n a b q f = subst (VertsIn H n) (sym q) f

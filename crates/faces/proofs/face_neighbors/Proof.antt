@@ -1,0 +1,38 @@
+-- `faces::face_neighbors` meets its contract: the code is the definition. Assumes nothing.
+use borrow.Author.Needs.{needs}
+use Rattle.faces.specs.Faces.{faceNeighbors}
+use Rattle.faces.proofs.face_neighbors.Statement.{statement}
+use Rattle.faces.proofs.face_neighbors.Tie as tie
+
+is-face-neighbor-requires : tie.Need-is-face-neighbor-requires
+is-face-neighbor-requires c κs = search needs
+
+is-face-neighbor-requires-2 : tie.Need-is-face-neighbor-requires-2
+is-face-neighbor-requires-2 c κs = search needs
+
+is-face-neighbor-requires-3 : tie.Need-is-face-neighbor-requires-3
+is-face-neighbor-requires-3 c κs = search needs
+
+add-result : tie.Need-add-result
+add-result c = search needs
+
+add-result-2 : tie.Need-add-result-2
+add-result-2 c = search needs
+
+returns : tie.Need-returns
+unfolding faceNeighbors
+returns c = cc
+
+pub face-neighbors-spec : {M : Type 1} → statement M
+face-neighbors-spec =
+    tie.close
+    (tie.spec
+    is-face-neighbor-requires
+    (λ c κs. tt)
+    is-face-neighbor-requires-2
+    (λ c κs. tt)
+    is-face-neighbor-requires-3
+    (λ c κs. tt)
+    add-result
+    add-result-2
+    returns)

@@ -1,0 +1,15 @@
+-- `faces::is_face_neighbor` meets its contract: the code is the definition. Assumes nothing.
+use borrow.Author.Needs.{needs}
+use Rattle.faces.specs.Faces.{isFaceNeighbor}
+use Rattle.faces.proofs.is_face_neighbor.Statement.{statement}
+use Rattle.faces.proofs.is_face_neighbor.Tie as tie
+
+neighbor-tri-requires : tie.Need-neighbor-tri-requires
+neighbor-tri-requires c κs = search needs
+
+returns : tie.Need-returns
+unfolding isFaceNeighbor
+returns c = cc
+
+pub is-face-neighbor-spec : {M : Type 1} → statement M
+is-face-neighbor-spec = tie.close (tie.spec neighbor-tri-requires (λ c κs. tt) returns)

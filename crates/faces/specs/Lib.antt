@@ -1,0 +1,2 @@
+-- The specs of `faces`, in the order of reading.
+pub mod Faces
