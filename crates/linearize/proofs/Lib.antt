@@ -1,0 +1,2 @@
+-- The laws of `linearize`: public, for the crates above.
+pub mod Laws

@@ -1,0 +1,2 @@
+-- The specs of `linearize`.
+pub mod Linearize

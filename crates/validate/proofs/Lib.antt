@@ -1,0 +1,2 @@
+-- The laws of `validate`.
+mod Laws

@@ -1,0 +1,2 @@
+-- The specs of `validate`.
+pub mod Validate

@@ -1,0 +1,89 @@
+-- `valid_tangents` of src/smoothing_tangents.rs (document 01's mark check). H are the halfedges, P the positions, T the tangents, n and p the counts of halfedges and points.
+use Prim.Native.Nat.{ℕ, _+_, _*_, _^_, _<_, _≤_}
+use mathlib.Core.Path.{_≡_}
+use mathlib.Core.List.{List}
+use mathlib.Core.Bool.{Bool, true, false, cond, not, _&&_, _||_, Bool·beq}
+use lib.ListN.{length}
+use lib.IntN.{ℤ}
+use lib.Ieee.{Float}
+use Rattle.mesh.specs.Mesh.{halfedgeStride, pairedHalfedge, nextHalfedge, prevHalfedge}
+use Rattle.mesh.specs.Questions.{hasLength}
+use Rattle.mesh.specs.Check.{checkMesh}
+use Rattle.mesh.specs.Fold.{foldTo}
+use Rattle.mesh.specs.Sound.{Sound}
+use Rattle.mesh.specs.declared.Checked.{Checked}
+use Rattle.mesh.specs.declared.Checked.the-variants.{Accepted, Refused as CheckRefused}
+use Rattle.smoothing.specs.Lists.{isMarkedInsideQuad}
+use Rattle.smoothing.specs.Edges.{QuadIn}
+use Rattle.validate.specs.declared.Validity.{Validity}
+use Rattle.validate.specs.declared.Validity.the-variants.{Valid, Refused}
+
+-- ---- the marks
+
+-- neither of the other two halfedges of e's triangle is marked
+unfoldable pub noMarkedNeighbor : List Float → ℕ → Bool
+noMarkedNeighbor T e = not (isMarkedInsideQuad T (nextHalfedge e)) && not (isMarkedInsideQuad T (prevHalfedge e))
+
+-- the body of the Rust's loop at halfedge e: its pair agrees, and a marked one has no marked neighbour on either side
+unfoldable pub validAt : List ℤ → List Float → ℕ → Bool
+validAt H T e =
+    let inQuad = isMarkedInsideQuad T e in
+    let pair = pairedHalfedge H e in
+    Bool·beq inQuad (isMarkedInsideQuad T pair)
+    && (not inQuad || noMarkedNeighbor T e && noMarkedNeighbor T pair)
+
+-- the halfedges before e passed, and e does
+abbrev pub validSoFar : List ℤ → List Float → Bool → ℕ → Bool
+validSoFar H T valid e = valid && validAt H T e
+
+-- `valid_tangents`: yes where there are not four numbers per halfedge, else whether every halfedge passes
+unfoldable pub validTangents : List ℤ → List Float → ℕ → Bool
+validTangents H T n = cond (hasLength (length T) n 4) (foldTo (validSoFar H T) true n) true
+
+-- ---- the call
+
+-- question 2: 3 numbers per halfedge and 3 per point; it is not asked of the tangents
+abbrev pub lengthsFit : List ℤ → List Float → ℕ → ℕ → Bool
+lengthsFit H P n p = hasLength (length H) n halfedgeStride && hasLength (length P) p 3
+
+-- the answer after the questions 1 to 7
+abbrev pub validityOf : Checked → Bool → Validity
+validityOf Accepted valid = Valid valid
+validityOf (CheckRefused number place) valid = Refused number place
+
+-- the answer, for every input
+abbrev pub validAnswer : List ℤ → List Float → List Float → ℕ → ℕ → Validity
+validAnswer H P T n p = validityOf (checkMesh H n p (lengthsFit H P n p)) (validTangents H T n)
+
+-- document 01's number and place of an answer, 0 for a mesh that got through; and its value: 1 for yes, 0 for no, and 0 for a refused call, which has none
+abbrev pub numberOf : Validity → ℕ
+numberOf (Valid valid) = 0
+numberOf (Refused number place) = number
+
+abbrev pub placeOf : Validity → ℕ
+placeOf (Valid valid) = 0
+placeOf (Refused number place) = place
+
+abbrev pub valueOf : Validity → ℕ
+valueOf (Valid true) = 1
+valueOf (Valid false) = 0
+valueOf (Refused number place) = 0
+
+-- ---- what the inner functions ask of their lists
+
+-- in e's triangle: the next number is no overflow, and the other two halfedges have a tangent
+pub record NeighborsIn (T : List Float) (e : ℕ) : Type 0 where
+  pub few : e + 1 < 2 ^ 64
+  pub next-in : nextHalfedge e * 4 + 4 ≤ length T
+  pub prev-in : prevHalfedge e * 4 + 4 ≤ length T
+
+-- the same of halfedge e and of its pair, which have tangents themselves
+pub record MarksIn (H : List ℤ) (T : List Float) (e : ℕ) : Type 0 where
+  pub quad : QuadIn H T e
+  pub here : NeighborsIn T e
+  pub there : NeighborsIn T (pairedHalfedge H e)
+
+-- the lists of an accepted call that have tangents
+pub record Lists (H : List ℤ) (T : List Float) (n p : ℕ) : Type 0 where
+  pub sound : Sound H n p
+  pub tangents : length T ≡ n * 4

@@ -1,0 +1,120 @@
+// `valid_tangents` of src/smoothing_tangents.rs (document 01's mark check): do the marks of paired halfedges agree, and
+// has no marked halfedge a marked neighbour?
+ghost use mathlib.Core.Path.{_≡_};
+ghost use mathlib.Core.Bool.{true};
+ghost use Rattle.mesh.specs.Fold.{foldTo};
+ghost use Rattle.mesh.specs.Sound.{Sound};
+ghost use Rattle.validate.specs.Validate.{noMarkedNeighbor, validAt, validSoFar, validTangents, lengthsFit, validAnswer, numberOf, placeOf, valueOf, NeighborsIn, MarksIn, Lists};
+use mesh::Checked;
+
+// The answer of the call.
+pub enum Validity {
+    Valid(bool),
+    Refused { number: usize, place: usize },
+}
+
+pub fn number_of(validity: Validity) -> usize
+    ensures { λ r. ⌜ r ≡ numberOf validity ⌝ }
+{
+    match validity {
+        Validity::Valid(_) => 0,
+        Validity::Refused { number, place: _ } => number,
+    }
+}
+
+pub fn place_of(validity: Validity) -> usize
+    ensures { λ r. ⌜ r ≡ placeOf validity ⌝ }
+{
+    match validity {
+        Validity::Valid(_) => 0,
+        Validity::Refused { number: _, place } => place,
+    }
+}
+
+pub fn value_of(validity: Validity) -> usize
+    ensures { λ r. ⌜ r ≡ valueOf validity ⌝ }
+{
+    match validity {
+        Validity::Valid(valid) => if valid { 1 } else { 0 },
+        Validity::Refused {
+            number: _,
+            place: _,
+        } => 0,
+    }
+}
+
+// Is neither of the other two halfedges of e's triangle marked?
+fn no_marked_neighbor(t: &[f64], e: usize) -> bool
+    requires { ⌜ NeighborsIn (now t) e ⌝ }
+    ensures { λ r. ⌜ r ≡ noMarkedNeighbor (now (t .entry)) e ⌝ }
+{
+    let next = mesh::next_halfedge(e);
+    let prev = mesh::prev_halfedge(e);
+    if smoothing::is_marked_inside_quad(t, next) {
+        return false;
+    }
+    !smoothing::is_marked_inside_quad(t, prev)
+}
+
+// The body of the loop at halfedge e.
+fn valid_at(h: &[i32], t: &[f64], e: usize) -> bool
+    requires { ⌜ MarksIn (now h) (now t) e ⌝ }
+    ensures { λ r. ⌜ r ≡ validAt (now (h .entry)) (now (t .entry)) e ⌝ }
+{
+    let in_quad = smoothing::is_marked_inside_quad(t, e);
+    let pair = mesh::paired_halfedge(h, e);
+    if in_quad != smoothing::is_marked_inside_quad(t, pair) {
+        return false;
+    }
+    if in_quad {
+        return mesh::both(no_marked_neighbor(t, e), no_marked_neighbor(t, pair));
+    }
+    true
+}
+
+// Every halfedge of lists that are known to be right.
+fn all_valid(n: usize, p: usize, h: &[i32], t: &[f64]) -> bool
+    requires { ⌜ Lists (now h) (now t) n p ⌝ }
+    ensures { λ r. ⌜ r ≡ foldTo (validSoFar (now (h .entry)) (now (t .entry))) true n ⌝ }
+{
+    for e in 0..n {
+        if !valid_at(h, t, e) {
+            return false;
+        }
+    }
+    true
+}
+
+// The marks of an accepted mesh. Tangents of another length answer yes.
+fn marks_valid(n: usize, p: usize, h: &[i32], t: &[f64]) -> bool
+    requires { ⌜ Sound (now h) n p ⌝ }
+    ensures { λ r. ⌜ r ≡ validTangents (now (h .entry)) (now (t .entry)) n ⌝ }
+{
+    if !mesh::has_length(t.len(), n, 4) {
+        return true;
+    }
+    all_valid(n, p, h, t)
+}
+
+fn lengths_fit(n: usize, p: usize, h: &[i32], pos: &[f64]) -> bool
+    ensures { λ r. ⌜ r ≡ lengthsFit (now (h .entry)) (now (pos .entry)) n p ⌝ }
+{
+    mesh::both(
+        mesh::has_length(h.len(), n, mesh::HALFEDGE_STRIDE),
+        mesh::has_length(pos.len(), p, 3),
+    )
+}
+
+// The public call, for lists of any length and content. Of the positions only the length is asked about.
+pub fn valid_tangents(n: usize, p: usize, h: &[i32], pos: &[f64], t: &[f64]) -> Validity
+    ensures { λ r. ⌜ r ≡ validAnswer (now (h .entry)) (now (pos .entry)) (now (t .entry)) n p ⌝ }
+{
+    let checked = mesh::check_mesh(h, n, p, lengths_fit(n, p, h, pos));
+    let Checked::Accepted = checked else {
+        return Validity::Refused {
+            number: mesh::number_of(checked),
+            place: mesh::place_of(checked),
+        };
+    };
+    Validity::Valid(marks_valid(n, p, h, t))
+}
