@@ -1,0 +1,5 @@
+-- The laws of `sharpen`. Those that say what a listing is are public.
+mod Count
+pub mod Listed
+pub mod Room
+pub mod Pillow

@@ -1,0 +1,18 @@
+-- `sharpen::dihedral` meets its contract: the code is the definition. Assumes nothing.
+use borrow.Author.Needs.{needs}
+use Rattle.sharpen.specs.Crease.{dihedralOf}
+use Rattle.sharpen.proofs.dihedral.Statement.{statement}
+use Rattle.sharpen.proofs.dihedral.Tie as tie
+
+point-at-requires : tie.Need-point-at-requires
+point-at-requires c κs = search needs
+
+point-at-requires-2 : tie.Need-point-at-requires-2
+point-at-requires-2 c κs = search needs
+
+returns : tie.Need-returns
+unfolding dihedralOf
+returns c = cc
+
+pub dihedral-spec : {M : Type 1} → statement M
+dihedral-spec = tie.close (tie.spec (λ c κs. tt) point-at-requires point-at-requires-2 (λ c κs. tt) (λ c κs. tt) (λ c κs. tt) returns)

@@ -1,0 +1,4 @@
+-- The specs of `sharpen`, in the order of reading.
+pub mod Crease
+pub mod Entries
+pub mod Sharpen

@@ -1,0 +1,97 @@
+-- The crease listing as a public call: its questions, its answer, and the lists after it. H are the halfedges, A the face normals, E and S the two lent lists, n and p the counts.
+use Prim.Native.Nat.{ℕ, _+_, _*_, _/_, _≤_}
+use mathlib.Core.Path.{_≡_}
+use mathlib.Core.List.{List}
+use mathlib.Core.Bool.{Bool, true, _&&_}
+use lib.ListN.{length}
+use lib.IntN.{ℤ}
+use lib.Ieee.{Float}
+use Rattle.mesh.specs.Mesh.{halfedgeStride}
+use Rattle.mesh.specs.Questions.{hasLength}
+use Rattle.mesh.specs.Check as mesh
+use Rattle.mesh.specs.Check.{checkMesh}
+use Rattle.mesh.specs.Sound.{Sound}
+use Rattle.mesh.specs.declared.Checked.{Checked}
+use Rattle.mesh.specs.declared.Checked.the-variants.{Accepted, Refused}
+use Rattle.sharpen.specs.Crease.{minRadians, isCrease, NormalsIn}
+use Rattle.sharpen.specs.Entries.{Entries, entriesIn, listEdges, countBelow}
+use Rattle.sharpen.specs.declared.Listing.{Listing}
+use Rattle.sharpen.specs.declared.Listing.the-variants.{Listed, Refused as RefusedListing}
+
+-- ---- document 01's values of an answer
+
+-- number and place of a refusal; 0 for a mesh that got through
+abbrev pub numberOf : Listing → ℕ
+numberOf (Listed entries tally) = 0
+numberOf (RefusedListing number place) = number
+
+abbrev pub placeOf : Listing → ℕ
+placeOf (Listed entries tally) = 0
+placeOf (RefusedListing number place) = place
+
+-- the number of entries, and the crease tally; 0 for a refusal, which lists nothing
+abbrev pub entriesOf : Listing → ℕ
+entriesOf (Listed entries tally) = entries
+entriesOf (RefusedListing number place) = 0
+
+abbrev pub tallyOf : Listing → ℕ
+tallyOf (Listed entries tally) = tally
+tallyOf (RefusedListing number place) = 0
+
+-- what holds of each answer, after the answer of the questions: it has their number and place, and its tally is half of its entries
+pub record Values (checked : Checked) (r : Listing) : Type 0 where
+  pub number : numberOf r ≡ mesh.numberOf checked
+  pub place : placeOf r ≡ mesh.placeOf checked
+  pub half : entriesOf r ≡ 2 * tallyOf r
+
+-- ---- the questions
+
+-- question 2 of the lists that the call is lent
+abbrev pub lengthsFit : List ℤ → List Float → List ℕ → List Float → ℕ → Bool
+lengthsFit H A E S n =
+    hasLength (length H) n halfedgeStride && hasLength (length A) (n / 3) 3
+    && (hasLength (length E) n 1 && hasLength (length S) n 1)
+
+-- questions 1 to 7
+abbrev pub checkLists : List ℤ → List Float → List ℕ → List Float → ℕ → ℕ → Checked
+checkLists H A E S n p = checkMesh H n p (lengthsFit H A E S n)
+
+-- what they establish
+pub record Lists (H : List ℤ) (A : List Float) (E : List ℕ) (S : List Float) (n p : ℕ) : Type 0 where
+  pub sound : Sound H n p
+  pub mesh : length H ≡ n * halfedgeStride
+  pub normals : length A ≡ n / 3 * 3
+  pub halfedges : length E ≡ n
+  pub smoothness : length S ≡ n
+
+-- what one turn of the loop needs, after k entries: normals at halfedge e, and room for two entries more where its edge is listed
+pub record EdgeFits (H : List ℤ) (A : List Float) (limit : Float) (e k : ℕ) (E : List ℕ) (S : List Float) : Type 0 where
+  pub normals : NormalsIn H A e
+  pub halfedges : isCrease H A limit e ≡ true → k + 2 ≤ length E
+  pub smoothness : isCrease H A limit e ≡ true → k + 2 ≤ length S
+
+-- ---- the call
+
+-- the lists with the entries of an accepted mesh
+abbrev pub creases : List ℤ → List Float → Float → Float → List ℕ → List Float → ℕ → Entries
+creases H A angle smooth E S n = listEdges H (isCrease H A (minRadians angle)) smooth (entriesIn E S 0) n
+
+-- the crease tally: the number of edges that are listed
+abbrev pub creaseTally : List ℤ → List Float → Float → ℕ → ℕ
+creaseTally H A angle n = countBelow (isCrease H A (minRadians angle)) n
+
+abbrev pub answerOf : Checked → ℕ → ℕ → Listing
+answerOf Accepted entries tally = Listed entries tally
+answerOf (Refused number place) entries tally = RefusedListing number place
+
+abbrev pub whenAccepted : Checked → Entries → Entries → Entries
+whenAccepted Accepted a b = a
+whenAccepted (Refused number place) a b = b
+
+-- the answer of `sharpen_edges`
+abbrev pub sharpenEdges : List ℤ → List Float → Float → Float → List ℕ → List Float → ℕ → ℕ → Listing
+sharpenEdges H A angle smooth E S n p = answerOf (checkLists H A E S n p) (creases H A angle smooth E S n .count) (creaseTally H A angle n)
+
+-- the lists after it: as lent where it refuses
+abbrev pub entriesAfter : List ℤ → List Float → Float → Float → List ℕ → List Float → ℕ → ℕ → Entries
+entriesAfter H A angle smooth E S n p = whenAccepted (checkLists H A E S n p) (creases H A angle smooth E S n) (entriesIn E S 0)
