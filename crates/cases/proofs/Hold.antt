@@ -1,17 +1,36 @@
 -- Every line of document 01 that is marked (P) holds: what the definitions compute is what it states. antt computes both lists. Assumes nothing.
 use mathlib.Core.Path.{_≡_, refl}
-use lib.Ieee.{add, sub, mul, div, neg, round, ofBits, toBits}
+use lib.Ieee.{add, sub, mul, div, neg, lt, le, eq, ne, round, ofBits, toBits}
+use Rattle.float.specs.F64.{maxOf, isFinite}
 use Rattle.sqrt.specs.Sqrt.{squareRoot}
 use Rattle.math.specs.Kernels.{absHighWord, signBit}
 use Rattle.math.specs.Trig.{sinOf, cosOf}
 use Rattle.math.specs.Acos.{acosOf, acosBeyond, acosSmall}
+use Rattle.linalg.specs.Vec.{add3, sub3, neg3, div3, dotOf, length2Of, lengthOf}
+use Rattle.mesh.specs.Mesh.{numberAt, indexOf, field, nextHalfedge, prevHalfedge}
+use Rattle.mesh.specs.Lowest.{lowestFrom, lowest}
+use Rattle.mesh.specs.Fold.{foldTo}
+use Rattle.mesh.specs.Check.{checkMesh}
+use Rattle.smoothing.specs.Directions.{vec3FromVec4, isDegenerate, safeNormalize, circularTangent}
+use Rattle.smoothing.specs.Lists.{pointAt, tangentAt, putTangent, weightAt}
+use Rattle.smoothing.specs.Edges.{edgeVec}
+use Rattle.linearize.specs.Linearize.{withUnitWeight, linearized, linearizeEnd, linearizeEdge, linearizeAt, linearizeFlatTangents}
+use Rattle.validate.specs.Validate.{noMarkedNeighbor, validAt, validTangents}
 use Rattle.cases.specs.Lines.{lines, computedOf, statedOf}
 
 -- what the lines compute with
-unfoldable computation : Unit {0}
-unfolding add sub mul div neg round ofBits toBits squareRoot absHighWord signBit sinOf cosOf acosOf acosBeyond acosSmall
-computation = tt
+unfoldable floats : Unit {0}
+unfolding add sub mul div neg lt le eq ne round ofBits toBits maxOf isFinite squareRoot absHighWord signBit sinOf cosOf acosOf acosBeyond acosSmall
+floats = tt
+
+unfoldable meshes : Unit {0}
+unfolding numberAt indexOf field nextHalfedge prevHalfedge lowestFrom lowest foldTo checkMesh
+meshes = tt
+
+unfoldable calls : Unit {0}
+unfolding add3 sub3 neg3 div3 dotOf length2Of lengthOf vec3FromVec4 isDegenerate safeNormalize circularTangent pointAt tangentAt putTangent weightAt edgeVec withUnitWeight linearized linearizeEnd linearizeEdge linearizeAt linearizeFlatTangents noMarkedNeighbor validAt validTangents
+calls = tt
 
 pub lines-hold : computedOf lines ≡ statedOf lines
-unfolding computation
+unfolding floats meshes calls
 lines-hold = refl

@@ -1,2 +1,3 @@
 -- The specs of `cases`.
+pub mod Pillow
 pub mod Lines

@@ -1,52 +1,121 @@
 -- The lines of document 01 that are marked (P): in each, what the definitions compute and what document 01 states.
-use Prim.Native.Nat.{ℕ, _^_}
-use mathlib.Core.Bool.{false}
-use mathlib.Core.List.{List, [], _∷_}
-use lib.Ieee.{Float, nan, neg, binary64, round}
-use Rattle.float.specs.Ops.{zero, one, two}
+use Prim.Native.Nat.{ℕ, zero, suc}
+use mathlib.Core.Bool.{true, false}
+use mathlib.Core.List.{List, [], _∷_, _++_}
+use lib.IntN.{pos, negsuc}
+use lib.Ieee.{Float, nan, fin, neg}
+use Rattle.float.specs.Ops.{zero as 0f, one, two, three, four}
 use Rattle.sqrt.specs.Sqrt.{sqrtOf}
 use Rattle.math.specs.Consts.{pio2-hi}
 use Rattle.math.specs.Trig.{sinOf, cosOf}
 use Rattle.math.specs.Acos.{acosOf}
+use Rattle.linalg.specs.declared.Vec3.{Vec3}
+use Rattle.linalg.specs.declared.Vec4.{Vec4}
+use Rattle.mesh.specs.Mesh.{nextHalfedge, prevHalfedge}
+use Rattle.mesh.specs.declared.Checked.{Checked}
+use Rattle.mesh.specs.declared.Checked.the-variants.{Refused}
+use Rattle.smoothing.specs.Directions.{circularTangent}
+use Rattle.linearize.specs.Linearize.{linearizeAnswer, tangentsAfter}
+use Rattle.validate.specs.declared.Validity.{Validity}
+use Rattle.validate.specs.declared.Validity.the-variants.{Valid}
+use Rattle.validate.specs.Validate.{validAnswer}
+use Rattle.cases.specs.Pillow.{points, halfedges, positions, meshWith, mesh, noTangents, straightened, weighted}
 
 -- the kinds of value that a line speaks of
 pub data Value : Type 0 where
+  number : ℕ → Value
   float : Float → Value
+  tangent : Vec4 → Value
+  tangents : List Float → Value
+  checked : Checked → Value
+  validity : Validity → Value
 
 pub record Line : Type 0 where
   pub computed : Value
   pub stated : Value
 
 infixl 20 _is_
-abbrev pub _is_ : Float → Float → Line
-x is y = record { computed = float x; stated = float y }
+abbrev pub _is_ : Value → Value → Line
+x is y = record { computed = x; stated = y }
 
--- m / 2 ^ k, which is a value of the format wherever it stands below
+-- m / 2 ^ k, for an odd m
 abbrev pub fraction : ℕ → ℕ → Float
-fraction m k = round binary64 false m (2 ^ k)
+fraction m zero = fin false m (pos zero)
+fraction m (suc k) = fin false m (negsuc k)
 
-abbrev pub four : Float
-four = fraction 4 0
+abbrev pub vec : Float → Float → Float → Vec3
+vec x y z = record { x = x; y = y; z = z }
+
+abbrev pub tangentOf : Float → Float → Float → Float → Value
+tangentOf x y z w = tangent (record { x = x; y = y; z = z; w = w })
+
+-- Next of 0 is 1, of 2 is 0; previous of 0 is 2, of 3 is 5.
+abbrev pub nextAndPrevious : List Line
+nextAndPrevious =
+    (number (nextHalfedge 0) is number 1)
+    ∷ (number (nextHalfedge 2) is number 0)
+    ∷ (number (prevHalfedge 0) is number 2)
+    ∷ (number (prevHalfedge 3) is number 5)
+    ∷ []
 
 -- Square roots: 4 gives 2, 2.25 gives 1.5, -0 gives -0, -1 gives not-a-number.
 abbrev pub squareRoots : List Line
-squareRoots = (sqrtOf four is two) ∷ (sqrtOf (fraction 9 2) is fraction 3 1) ∷ (sqrtOf (neg zero) is neg zero) ∷ (sqrtOf (neg one) is nan) ∷ []
+squareRoots =
+    (float (sqrtOf four) is float two)
+    ∷ (float (sqrtOf (fraction 9 2)) is float (fraction 3 1))
+    ∷ (float (sqrtOf (neg 0f)) is float (neg 0f))
+    ∷ (float (sqrtOf (neg one)) is float nan)
+    ∷ []
 
 -- Sine of 2^-27 is 2^-27 and cosine of it is 1.
 abbrev pub sineAndCosine : List Line
-sineAndCosine = (sinOf (fraction 1 27) is fraction 1 27) ∷ (cosOf (fraction 1 27) is one) ∷ []
+sineAndCosine = (float (sinOf (fraction 1 27)) is float (fraction 1 27)) ∷ (float (cosOf (fraction 1 27)) is float one) ∷ []
 
 -- `acos` of 1 is 0; of 0 it is `PIO2_HI`.
 abbrev pub arccosine : List Line
-arccosine = (acosOf one is zero) ∷ (acosOf zero is pio2-hi) ∷ []
+arccosine = (float (acosOf one) is float 0f) ∷ (float (acosOf 0f) is float pio2-hi) ∷ []
 
-abbrev pub join : List Line → List Line → List Line
-join [] ms = ms
-join (l ∷ ls) ms = l ∷ join ls ms
+-- the clamped weight
+abbrev pub leastWeight : Float
+leastWeight = fraction 3002399751580331 52
 
--- all of them, in document 01's order
+-- `circular_tangent` of (1,0,0) and edge (3,0,0) is (1,0,0,1).
+-- Of (0,1,0) and edge (2,0,0): y is (2^53 - 1)/2^53 and the weight 3002399751580331/2^52. (x and z are 0.)
+-- Of (0,0,0) and edge (2,0,0): the same weight, direction all 0.
+abbrev pub circularTangents : List Line
+circularTangents =
+    (tangent (circularTangent (vec one 0f 0f) (vec three 0f 0f)) is tangentOf one 0f 0f one)
+    ∷ (tangent (circularTangent (vec 0f one 0f) (vec two 0f 0f)) is tangentOf 0f (fraction 9007199254740991 53) 0f leastWeight)
+    ∷ (tangent (circularTangent (vec 0f 0f 0f) (vec two 0f 0f)) is tangentOf 0f 0f 0f leastWeight)
+    ∷ []
+
+-- the mark check of the pillow with these weights
+abbrev pub marks : List Float → Value
+marks ws = validity (validAnswer mesh positions (weighted ws) halfedges points)
+
+abbrev pub minus : Float
+minus = neg one
+
+-- Pillow, weights all 1: marks valid. Mark only halfedge 0: not valid. Mark 0 and 5: valid. Mark 0, 5, 1 and 4: not valid.
+abbrev pub pillowMarks : List Line
+pillowMarks =
+    (marks (one ∷ one ∷ one ∷ one ∷ one ∷ one ∷ []) is validity (Valid true))
+    ∷ (marks (minus ∷ one ∷ one ∷ one ∷ one ∷ one ∷ []) is validity (Valid false))
+    ∷ (marks (minus ∷ one ∷ one ∷ one ∷ one ∷ minus ∷ []) is validity (Valid true))
+    ∷ (marks (minus ∷ minus ∷ one ∷ one ∷ minus ∷ minus ∷ []) is validity (Valid false))
+    ∷ []
+
+-- Pillow with the pair of 0 set to 0: refused 5, place 5.
+abbrev pub pillowRefused : List Line
+pillowRefused = (checked (linearizeAnswer (meshWith 0) positions noTangents halfedges points) is checked (Refused 5 5)) ∷ []
+
+-- The whole listing: the pillow straightened, all tangents 0.
+abbrev pub pillowStraightened : List Line
+pillowStraightened = (tangents (tangentsAfter mesh positions noTangents halfedges points) is tangents straightened) ∷ []
+
+-- all of them
 abbrev pub lines : List Line
-lines = join squareRoots (join sineAndCosine arccosine)
+lines = nextAndPrevious ++ squareRoots ++ sineAndCosine ++ arccosine ++ circularTangents ++ pillowMarks ++ pillowRefused ++ pillowStraightened
 
 abbrev pub computedOf : List Line → List Value
 computedOf [] = []
