@@ -1,5 +1,5 @@
--- The laws of `faces`: Lent and Verts are for the crates above.
+-- The laws of `faces`: Lent, Loops and Verts are for the crates above.
 pub mod Lent
 pub mod Verts
 mod Codes
-mod Loops
+pub mod Loops

@@ -1,0 +1,6 @@
+-- The laws of `creases`: those that the crates above cite are public.
+pub mod Lent
+pub mod Creases
+pub mod Linked
+pub mod Points
+mod Pillow

@@ -1,0 +1,3 @@
+-- The specs of `creases`, in the order of reading.
+pub mod Creases
+pub mod Linked

@@ -1,0 +1,3 @@
+-- The specs of `edges`, in the order of reading.
+pub mod Smoothness
+pub mod Edges

@@ -1,0 +1,3 @@
+-- The specs of `little_endian`, in the order of reading.
+pub mod Numbers
+pub mod Filled

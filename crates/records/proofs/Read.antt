@@ -1,0 +1,87 @@
+-- The laws of the answer of a reading, and of the lists after it. Assumes nothing.
+use Prim.Native.Nat.{ℕ, _*_, _≤_}
+use mathlib.Core.Path.{_≡_, refl, sym, _∙_}
+use mathlib.Core.Bool.{Bool, true, false}
+use mathlib.Core.List.{List}
+use borrow.Author.Tests.{eq-eqb, ne-eqb}
+use lib.ListN.{length}
+use lib.IntN.{ℤ}
+use lib.Ieee.{Float}
+use Rattle.little_endian.specs.Numbers.{f64Item, i32Item, byteItem}
+use Rattle.records.specs.Records.{bodyAt, parseInput}
+use Rattle.records.specs.Lists.{ifSpread, hasRoom, Lists, listsOf, withRoom, readAnswer, readLists, MeshRoom, SpreadRoom}
+use Rattle.records.specs.declared.Parsed.{Parsed}
+use Rattle.records.specs.declared.Parsed.the-variants.{Input, Refused}
+use Rattle.records.proofs.Parse.{mesh-bodies, spread-bodies, few}
+use Rattle.records.proofs.Lists.{room}
+use Rattle.little_endian.proofs.Filled.{filled-none}
+use Rattle.little_endian.specs.Filled.{filled}
+
+-- a refusal goes back as it is
+pub goes-back : (s : List ℕ) (L : Lists) (r : Parsed) (number place : ℕ) → r ≡ parseInput s → r ≡ Refused number place → (r ≡ readAnswer s L) × (L ≡ readLists r s L)
+unfolding readAnswer withRoom readLists
+goes-back s L r number place e f = (rw (← e, f), rw f)
+
+pub as-lent : (s : List ℕ) (L : Lists) (number place : ℕ) → L ≡ readLists (Refused number place) s L
+unfolding readLists
+as-lent s L number place = refl
+
+module _ (s : List ℕ) (P : List Float) (H : List ℤ) (T N : List Float) (F : List ℕ) (o p n : ℕ) (e : Input o p n ≡ parseInput s) (b : Bool) (h : b ≡ hasRoom o p n (length P) (length H) (length T) (length N) (length F)) where
+  pub no-room : b ≡ false → Refused 2 0 ≡ readAnswer s (listsOf P H T N F)
+  unfolding readAnswer withRoom
+  no-room f = rw (← e, ← h, f)
+
+  module _ (f : b ≡ true) where
+    pub read : Input o p n ≡ readAnswer s (listsOf P H T N F)
+    unfolding readAnswer withRoom
+    read = rw (← e, ← h, f)
+
+    fits : (3 * p ≤ length P) × (3 * n ≤ length H) × (4 * n ≤ length T) × (ifSpread o (3 * p) ≤ length N) × (ifSpread o n ≤ length F)
+    fits = room o p n (length P) (length H) (length T) (length N) (length F) (sym h ∙ f)
+
+    pub mesh-room : MeshRoom p n (length s) (length P) (length H) (length T)
+    mesh-room =
+        record {
+          few-points = few s o p n (sym e) .0;
+          few-halfedges = few s o p n (sym e) .1;
+          bodies = mesh-bodies s o p n (sym e);
+          position-room = fits .0;
+          halfedge-room = fits .1;
+          tangent-room = fits .2;
+        }
+
+    -- spreading has its point normals and flags
+    module _ (spread : o ≡ 2) where
+      all-due : (count : ℕ) → ifSpread o count ≡ count
+      unfolding ifSpread
+      all-due count = rw (eq-eqb o 2 spread)
+
+      pub spread-room : SpreadRoom p n (length s) (length N) (length F)
+      spread-room =
+          record {
+            few-points = few s o p n (sym e) .0;
+            few-halfedges = few s o p n (sym e) .1;
+            bodies = spread-bodies s o p n (sym e) spread;
+            normal-room = rw (all-due (3 * p)) at (fits .3);
+            flag-room = rw (all-due n) at (fits .4);
+          }
+
+      pub spread-lists : (P′ : List Float) (H′ : List ℤ) (T′ N′ : List Float) (F′ : List ℕ) →
+          P′ ≡ filled (f64Item s (bodyAt p n 3)) (3 * p) P →
+          H′ ≡ filled (i32Item s (bodyAt p n 4)) (3 * n) H →
+          T′ ≡ filled (f64Item s (bodyAt p n 5)) (4 * n) T →
+          N′ ≡ filled (f64Item s (bodyAt p n 6)) (3 * p) N →
+          F′ ≡ filled (byteItem s (bodyAt p n 7)) n F →
+          listsOf P′ H′ T′ N′ F′ ≡ readLists (Input o p n) s (listsOf P H T N F)
+      unfolding readLists
+      spread-lists P′ H′ T′ N′ F′ x y z v w = rw (all-due (3 * p), all-due n, x, y, z, v, w)
+
+    -- the other operations leave both as lent
+    pub mesh-lists : (o ≡ 2 → ⊥) → (P′ : List Float) (H′ : List ℤ) (T′ : List Float) →
+        P′ ≡ filled (f64Item s (bodyAt p n 3)) (3 * p) P →
+        H′ ≡ filled (i32Item s (bodyAt p n 4)) (3 * n) H →
+        T′ ≡ filled (f64Item s (bodyAt p n 5)) (4 * n) T →
+        listsOf P′ H′ T′ N F ≡ readLists (Input o p n) s (listsOf P H T N F)
+    unfolding readLists ifSpread
+    mesh-lists g P′ H′ T′ x y z =
+        rw (ne-eqb o 2 g, ← filled-none (f64Item s (bodyAt p n 6)) N, ← filled-none (byteItem s (bodyAt p n 7)) F, x, y, z)

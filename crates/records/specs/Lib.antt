@@ -1,0 +1,3 @@
+-- The specs of `records`, in the order of reading.
+pub mod Records
+pub mod Lists
