@@ -1,0 +1,3 @@
+-- The laws that the proofs of `replay_mesh` share.
+mod Fronts
+mod Lent

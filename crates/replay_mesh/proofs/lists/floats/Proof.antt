@@ -1,0 +1,24 @@
+-- `replay_mesh::floats` meets its contract: the list is read only where it has room. Assumes nothing.
+use borrow.Author.Needs.{needs}
+use Rattle.replay_mesh.proofs.Fronts.{front}
+use Rattle.replay_mesh.proofs.lists.floats.Statement.{statement}
+use Rattle.replay_mesh.proofs.lists.floats.Tie as tie
+
+length-at-requires : tie.Need-length-at-requires
+length-at-requires c κs = search needs
+
+after-requires : tie.Need-after-requires
+after-requires c κs = search needs
+
+fill-floats-requires : tie.Need-fill-floats-requires
+fill-floats-requires c κs = search needs
+
+same-length : tie.Need-same-length
+same-length c = search needs
+
+returns : tie.Need-returns
+returns c = front _ _ (search needs)
+
+pub floats-spec : {M : Type 1} → statement M
+floats-spec =
+    tie.close (tie.spec length-at-requires after-requires fill-floats-requires same-length returns)

@@ -1,0 +1,108 @@
+// Replays the oracle's answers to calls on meshes, read from standard input, and writes how many were compared and how many
+// differ. README.md beside src/ says what a case holds and how the file was made.
+mod calls;
+mod leaves;
+mod lists;
+mod questions;
+
+use calls::check;
+use calls::crease;
+use calls::straighten;
+use leaves::flat;
+use leaves::quad;
+use leaves::tfn;
+use libc::STDOUT_FILENO;
+use lists::Case;
+use questions::questions;
+use replay::Tally;
+
+// Does the unit answer as the oracle did?
+fn agrees(s: &[u8], op: usize, c: Case) -> bool {
+    match op {
+        1 => straighten(s, c),
+        2 => check(s, c),
+        3 => crease(s, c),
+        4 => tfn(s, c),
+        5 => quad(s, c),
+        6 => flat(s, c),
+        _ => questions(s, op, c),
+    }
+}
+
+fn case_at(s: &[u8], at: usize) -> Case {
+    Case {
+        at: replay::after(at, 24),
+        n: replay::half_word(s, replay::after(at, 8)),
+        p: replay::half_word(s, replay::after(at, 12)),
+        number: replay::half_word(s, replay::after(at, 16)),
+        place: replay::half_word(s, replay::after(at, 20)),
+    }
+}
+
+struct Step {
+    tally: Tally,
+    more: bool,
+}
+
+// Reads the next case, of at most 4096 bytes, and answers its size: 0 where there is none.
+fn read_case(buf: &mut [u8]) -> usize {
+    if buf.len() < 4096 {
+        return 0;
+    }
+    let k = io::read_full(0, &mut buf[..4]);
+    if k < 4 {
+        return 0;
+    }
+    let size = replay::half_word(buf, 0);
+    if size < 24 {
+        return 0;
+    }
+    if 4096 < size {
+        return 0;
+    }
+    io::read_full(0, &mut buf[4..size]);
+    size
+}
+
+fn step_in(buf: &mut [u8], t: Tally) -> Step {
+    if read_case(buf) == 0 {
+        return Step {
+            tally: t,
+            more: false,
+        };
+    }
+    let op = replay::half_word(buf, 4);
+    let same = agrees(buf, op, case_at(buf, 0));
+    Step {
+        tally: replay::counted(t, same),
+        more: true,
+    }
+}
+
+fn next_step(t: Tally) -> Step {
+    let mut buf = [0u8; 4096];
+    step_in(&mut buf, t)
+}
+
+fn main() {
+    let mut t = Tally {
+        compared: 0,
+        differ: 0,
+    };
+    let mut cases = u64::MAX;
+    let mut more = true;
+    while more {
+        if cases == 0 {
+            return;
+        }
+        cases -= 1;
+        let s = next_step(t);
+        t = s.tally;
+        more = s.more;
+    }
+    io::write_all(STDOUT_FILENO, b"compared ");
+    io::print_decimal(STDOUT_FILENO, t.compared);
+    io::write_all(STDOUT_FILENO, b" differ ");
+    io::print_decimal(STDOUT_FILENO, t.differ);
+    io::write_all(STDOUT_FILENO, b"\n");
+}
