@@ -117,4 +117,5 @@ def main():
     print(len(out) - refused, "accepted,", refused, "refused", file=sys.stderr)
 
 
-main()
+if __name__ == "__main__":
+    main()

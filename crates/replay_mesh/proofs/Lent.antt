@@ -11,7 +11,7 @@ use Rattle.mesh.specs.declared.Checked.the-variants.{Accepted}
 use Rattle.mesh.proofs.Accepted.{accepted}
 use Rattle.faces.specs.Faces.{VertsIn}
 use Rattle.faces.proofs.Lent.{verts-in, verts-still}
-use Rattle.replay_mesh.specs.Front.{Points}
+use Rattle.replay_mesh.specs.Points.{Points}
 
 -- the points, in a list that has as many places as the points' own
 pub verts : (H : List ℤ) (F E : List ℕ) (p m : ℕ) → m ≡ length E → Points H F E p → VertsIn H (length F) m

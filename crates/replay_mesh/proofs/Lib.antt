@@ -1,3 +1,2 @@
 -- The laws that the proofs of `replay_mesh` share.
-mod Fronts
 mod Lent

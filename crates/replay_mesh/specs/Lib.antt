@@ -1,2 +1,2 @@
 -- The specs of `replay_mesh`.
-pub mod Front
+pub mod Points

@@ -1,9 +1,9 @@
 // The three public calls: straightening, the mark check and the crease listing.
-use super::lists::Case;
-use super::lists::floats;
-use super::lists::same_checked;
-use super::lists::same_refusal;
-use super::lists::signed;
+use replay_cases::Case;
+use replay_cases::floats;
+use replay_cases::same_checked;
+use replay_cases::same_refusal;
+use replay_cases::signed;
 use sharpen::Listing;
 use validate::Validity;
 

@@ -1,13 +1,13 @@
 // Leaves over a mesh: `tangent_from_normal`, `is_inside_quad`, `is_marked_inside_quad`, `flat_faces`, `vert_flat_face` and
 // `vert_halfedge`.
-ghost use Rattle.replay_mesh.specs.Front.{Points};
-use super::lists::Case;
-use super::lists::floats;
-use super::lists::same_checked;
-use super::lists::signed;
+ghost use Rattle.replay_mesh.specs.Points.{Points};
 use faces::FlatFace;
 use linalg::Vec4;
 use mesh::Checked;
+use replay_cases::Case;
+use replay_cases::floats;
+use replay_cases::same_checked;
+use replay_cases::signed;
 
 // The bits of a tangent are those at s[at..].
 fn same_tangent(s: &[u8], at: usize, v: Vec4) -> bool {

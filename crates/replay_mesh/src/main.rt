@@ -2,7 +2,6 @@
 // differ. README.md beside src/ says what a case holds and how the file was made.
 mod calls;
 mod leaves;
-mod lists;
 mod questions;
 
 use calls::check;
@@ -12,9 +11,9 @@ use leaves::flat;
 use leaves::quad;
 use leaves::tfn;
 use libc::STDOUT_FILENO;
-use lists::Case;
 use questions::questions;
 use replay::Tally;
+use replay_cases::Case;
 
 // Does the unit answer as the oracle did?
 fn agrees(s: &[u8], op: usize, c: Case) -> bool {
@@ -29,50 +28,20 @@ fn agrees(s: &[u8], op: usize, c: Case) -> bool {
     }
 }
 
-fn case_at(s: &[u8], at: usize) -> Case {
-    Case {
-        at: replay::after(at, 24),
-        n: replay::half_word(s, replay::after(at, 8)),
-        p: replay::half_word(s, replay::after(at, 12)),
-        number: replay::half_word(s, replay::after(at, 16)),
-        place: replay::half_word(s, replay::after(at, 20)),
-    }
-}
-
 struct Step {
     tally: Tally,
     more: bool,
 }
 
-// Reads the next case, of at most 4096 bytes, and answers its size: 0 where there is none.
-fn read_case(buf: &mut [u8]) -> usize {
-    if buf.len() < 4096 {
-        return 0;
-    }
-    let k = io::read_full(0, &mut buf[..4]);
-    if k < 4 {
-        return 0;
-    }
-    let size = replay::half_word(buf, 0);
-    if size < 24 {
-        return 0;
-    }
-    if 4096 < size {
-        return 0;
-    }
-    io::read_full(0, &mut buf[4..size]);
-    size
-}
-
 fn step_in(buf: &mut [u8], t: Tally) -> Step {
-    if read_case(buf) == 0 {
+    if replay_cases::read_case(buf) == 0 {
         return Step {
             tally: t,
             more: false,
         };
     }
     let op = replay::half_word(buf, 4);
-    let same = agrees(buf, op, case_at(buf, 0));
+    let same = agrees(buf, op, replay_cases::case_at(buf, 0));
     Step {
         tally: replay::counted(t, same),
         more: true,

@@ -1,12 +1,12 @@
 // The questions of the calls that are lent more lists: spreading (operation 7), making from sharp edges (8), making from
 // normals (9). Of most lists the case has only the length.
-use super::lists::Case;
-use super::lists::bytes;
-use super::lists::floats;
-use super::lists::numbers;
-use super::lists::same_checked;
-use super::lists::signed;
 use mesh::Checked;
+use replay_cases::Case;
+use replay_cases::bytes;
+use replay_cases::floats;
+use replay_cases::numbers;
+use replay_cases::same_checked;
+use replay_cases::signed;
 
 // The lengths of the lists that the case does not hold, and whether it has tangents.
 struct Lengths {

@@ -1,8 +1,8 @@
--- `replay_mesh::read_case` is safe and ends. Assumes nothing.
-use Rattle.replay_mesh.proofs.Fronts.{front}
+-- `replay_cases::read_case` is safe and ends. Assumes nothing.
+use Rattle.replay_cases.proofs.Fronts.{front}
 use borrow.Author.Needs.{needs}
-use Rattle.replay_mesh.proofs.read_case.Statement.{statement}
-use Rattle.replay_mesh.proofs.read_case.Tie as tie
+use Rattle.replay_cases.proofs.read_case.Statement.{statement}
+use Rattle.replay_cases.proofs.read_case.Tie as tie
 
 returns : tie.Need-returns
 returns c = search needs

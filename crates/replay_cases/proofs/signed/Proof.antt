@@ -1,8 +1,8 @@
--- `replay_mesh::signed` meets its contract: the list is read only where it has room. Assumes nothing.
+-- `replay_cases::signed` meets its contract: the list is read only where it has room. Assumes nothing.
 use borrow.Author.Needs.{needs}
-use Rattle.replay_mesh.proofs.Fronts.{front}
-use Rattle.replay_mesh.proofs.lists.signed.Statement.{statement}
-use Rattle.replay_mesh.proofs.lists.signed.Tie as tie
+use Rattle.replay_cases.proofs.Fronts.{front}
+use Rattle.replay_cases.proofs.signed.Statement.{statement}
+use Rattle.replay_cases.proofs.signed.Tie as tie
 
 length-at-requires : tie.Need-length-at-requires
 length-at-requires c κs = search needs

@@ -1,6 +1,7 @@
-// The lists of a case. One that is longer than its room reads as empty.
+// A case of a file of the oracle's answers to calls on meshes: its counts, its refusal and its lists. A list that is longer
+// than its room reads as empty.
 ghost use Prim.Native.Nat.{_≤_};
-ghost use Rattle.replay_mesh.specs.Front.{Front};
+ghost use Rattle.replay_cases.specs.Front.{Front};
 use mesh::Checked;
 
 // Where the lists of a case are, its counts, and the refusal that it ends in: number 0 where it is accepted.
@@ -67,4 +68,35 @@ pub fn same_refusal(number: usize, place: usize, c: Case) -> bool {
 
 pub fn same_checked(checked: Checked, c: Case) -> bool {
     same_refusal(mesh::number_of(checked), mesh::place_of(checked), c)
+}
+
+// The case in a buffer.
+pub fn case_at(s: &[u8], at: usize) -> Case {
+    Case {
+        at: replay::after(at, 24),
+        n: replay::half_word(s, replay::after(at, 8)),
+        p: replay::half_word(s, replay::after(at, 12)),
+        number: replay::half_word(s, replay::after(at, 16)),
+        place: replay::half_word(s, replay::after(at, 20)),
+    }
+}
+
+// Reads the next case, of at most 4096 bytes, and answers its size: 0 where there is none.
+pub fn read_case(buf: &mut [u8]) -> usize {
+    if buf.len() < 4096 {
+        return 0;
+    }
+    let k = io::read_full(0, &mut buf[..4]);
+    if k < 4 {
+        return 0;
+    }
+    let size = replay::half_word(buf, 0);
+    if size < 24 {
+        return 0;
+    }
+    if 4096 < size {
+        return 0;
+    }
+    io::read_full(0, &mut buf[4..size]);
+    size
 }

@@ -1,0 +1,2 @@
+-- The laws of `replay_cases`, for the programs too.
+pub mod Fronts

@@ -1,0 +1,2 @@
+-- What the contracts of `replay_cases` cite.
+pub mod Front
