@@ -5,7 +5,7 @@ ghost use Prim.Native.Nat.{_+_, _≤_};
 ghost use lib.ListN.{length};
 ghost use Rattle.sharpen.specs.Crease.{minRadians, dihedralOf, isCrease, NormalsIn};
 ghost use Rattle.sharpen.specs.Entries.{entriesIn, pushEdge, listEdge, listEdges};
-ghost use Rattle.sharpen.specs.Sharpen.{lengthsFit, checkLists, Lists, EdgeFits, Values, sharpenEdges, entriesAfter};
+ghost use Rattle.sharpen.specs.Sharpen.{lengthsFit, checkLists, Lists, EdgeFits, Values, numberOf, placeOf, entriesOf, tallyOf, sharpenEdges, entriesAfter};
 use mesh::Checked;
 
 // The answer: how many entries the lists have and how many edges they name, or the first question answered no and its
@@ -13,6 +13,54 @@ use mesh::Checked;
 pub enum Listing {
     Listed { entries: usize, tally: usize },
     Refused { number: usize, place: usize },
+}
+
+pub fn number_of(listing: Listing) -> usize
+    ensures { λ r. ⌜ r ≡ numberOf listing ⌝ }
+{
+    match listing {
+        Listing::Listed {
+            entries: _,
+            tally: _,
+        } => 0,
+        Listing::Refused { number, place: _ } => number,
+    }
+}
+
+pub fn place_of(listing: Listing) -> usize
+    ensures { λ r. ⌜ r ≡ placeOf listing ⌝ }
+{
+    match listing {
+        Listing::Listed {
+            entries: _,
+            tally: _,
+        } => 0,
+        Listing::Refused { number: _, place } => place,
+    }
+}
+
+pub fn entries_of(listing: Listing) -> usize
+    ensures { λ r. ⌜ r ≡ entriesOf listing ⌝ }
+{
+    match listing {
+        Listing::Listed { entries, tally: _ } => entries,
+        Listing::Refused {
+            number: _,
+            place: _,
+        } => 0,
+    }
+}
+
+pub fn tally_of(listing: Listing) -> usize
+    ensures { λ r. ⌜ r ≡ tallyOf listing ⌝ }
+{
+    match listing {
+        Listing::Listed { entries: _, tally } => tally,
+        Listing::Refused {
+            number: _,
+            place: _,
+        } => 0,
+    }
 }
 
 // The limit of the rule; a limit that is not a number acts as 1e-4.

@@ -1,0 +1,26 @@
+-- How an answer goes back through a lent list: the number of the refusal (0 where the call is accepted), its place, and the two numbers of an accepted call. Places that the list lacks are left out.
+use Prim.Native.Nat.{ℕ}
+use mathlib.Core.List.{List}
+use mathlib.Core.Bool.{Bool, true, false}
+use lib.ListN.{set}
+use Rattle.mesh.specs.declared.Checked.{Checked}
+use Rattle.mesh.specs.Check.{numberOf, placeOf}
+use Rattle.validate.specs.declared.Validity.{Validity}
+use Rattle.validate.specs.Validate as Valid
+use Rattle.sharpen.specs.declared.Listing.{Listing}
+use Rattle.sharpen.specs.Sharpen as Sharp
+
+unfoldable pub put : List ℕ → ℕ → ℕ → ℕ → ℕ → List ℕ
+put A number place first second = set (set (set (set A 0 number) 1 place) 2 first) 3 second
+
+-- straightening: no further numbers
+abbrev pub putChecked : List ℕ → Checked → List ℕ
+putChecked A r = put A (numberOf r) (placeOf r) 0 0
+
+-- the mark check: 1 for yes, 0 for no
+abbrev pub putValidity : List ℕ → Validity → List ℕ
+putValidity A r = put A (Valid.numberOf r) (Valid.placeOf r) (Valid.valueOf r) 0
+
+-- the crease listing: the number of entries, and the tally
+abbrev pub putListing : List ℕ → Listing → List ℕ
+putListing A r = put A (Sharp.numberOf r) (Sharp.placeOf r) (Sharp.entriesOf r) (Sharp.tallyOf r)

@@ -1,0 +1,2 @@
+-- The specs of `capi`.
+pub mod Answers

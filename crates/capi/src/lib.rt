@@ -1,0 +1,98 @@
+// The public calls as C functions: flat lists, counts as numbers, and the answer as numbers through a lent list (the number
+// of the refusal or 0, its place, and the two numbers of an accepted call). A slice is a pointer and a length.
+// include/tangents.h declares them.
+ghost use mathlib.Core.Path.{_≡_};
+ghost use lib.ListN.{set};
+ghost use Rattle.linearize.specs.Linearize.{linearizeAnswer, tangentsAfter};
+ghost use Rattle.validate.specs.Validate.{validAnswer};
+ghost use Rattle.sharpen.specs.Sharpen.{sharpenEdges, entriesAfter};
+ghost use Rattle.capi.specs.Answers.{put, putChecked, putValidity, putListing};
+
+fn put_at(answer: &mut [usize], k: usize, x: usize)
+    ensures { λ _. ⌜ now (answer .exit) ≡ set (now (answer .entry)) k x ⌝ }
+{
+    if k < answer.len() {
+        answer[k] = x;
+    }
+}
+
+fn put_answer(answer: &mut [usize], number: usize, place: usize, first: usize, second: usize)
+    ensures { λ _. ⌜ now (answer .exit) ≡ put (now (answer .entry)) number place first second ⌝ }
+{
+    put_at(answer, 0, number);
+    put_at(answer, 1, place);
+    put_at(answer, 2, first);
+    put_at(answer, 3, second);
+}
+
+// Straightening.
+#[no_mangle]
+pub extern "C" fn tangents_linearize_flat_tangents(
+    n: usize,
+    p: usize,
+    h: &[i32],
+    pos: &[f64],
+    t: &mut [f64],
+    answer: &mut [usize],
+)
+    ensures { λ _. ⌜ now (t .exit) ≡ tangentsAfter (now (h .entry)) (now (pos .entry)) (now (t .entry)) n p ⌝ }
+    ensures { λ _. ⌜ now (answer .exit) ≡ putChecked (now (answer .entry)) (linearizeAnswer (now (h .entry)) (now (pos .entry)) (now (t .entry)) n p) ⌝ }
+{
+    let checked = linearize::linearize_flat_tangents(n, p, h, pos, t);
+    put_answer(
+        answer,
+        mesh::number_of(checked),
+        mesh::place_of(checked),
+        0,
+        0,
+    );
+}
+
+// The mark check.
+#[no_mangle]
+pub extern "C" fn tangents_valid_tangents(
+    n: usize,
+    p: usize,
+    h: &[i32],
+    pos: &[f64],
+    t: &[f64],
+    answer: &mut [usize],
+)
+    ensures { λ _. ⌜ now (answer .exit) ≡ putValidity (now (answer .entry)) (validAnswer (now (h .entry)) (now (pos .entry)) (now (t .entry)) n p) ⌝ }
+{
+    let valid = validate::valid_tangents(n, p, h, pos, t);
+    put_answer(
+        answer,
+        validate::number_of(valid),
+        validate::place_of(valid),
+        validate::value_of(valid),
+        0,
+    );
+}
+
+// The crease listing.
+#[no_mangle]
+pub extern "C" fn tangents_sharpen_edges(
+    n: usize,
+    p: usize,
+    h: &[i32],
+    normals: &[f64],
+    angle: f64,
+    smooth: f64,
+    halfedges: &mut [usize],
+    smoothness: &mut [f64],
+    answer: &mut [usize],
+)
+    ensures { λ _. ⌜ now (halfedges .exit) ≡ entriesAfter (now (h .entry)) (now (normals .entry)) angle smooth (now (halfedges .entry)) (now (smoothness .entry)) n p .halfedges ⌝ }
+    ensures { λ _. ⌜ now (smoothness .exit) ≡ entriesAfter (now (h .entry)) (now (normals .entry)) angle smooth (now (halfedges .entry)) (now (smoothness .entry)) n p .smoothness ⌝ }
+    ensures { λ _. ⌜ now (answer .exit) ≡ putListing (now (answer .entry)) (sharpenEdges (now (h .entry)) (now (normals .entry)) angle smooth (now (halfedges .entry)) (now (smoothness .entry)) n p) ⌝ }
+{
+    let listing = sharpen::sharpen_edges(n, p, h, normals, angle, smooth, halfedges, smoothness);
+    put_answer(
+        answer,
+        sharpen::number_of(listing),
+        sharpen::place_of(listing),
+        sharpen::entries_of(listing),
+        sharpen::tally_of(listing),
+    );
+}

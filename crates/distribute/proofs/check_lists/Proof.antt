@@ -1,0 +1,17 @@
+-- `distribute::check_lists` meets its contract.
+use Rattle.distribute.specs.Distribute.{checkLists}
+use Rattle.distribute.proofs.check_lists.Statement.{statement}
+use Rattle.distribute.proofs.check_lists.Tie as tie
+
+returns : tie.Need-returns
+unfolding checkLists
+returns c = rw (c .before .check-mesh .ensures, c .before .before .lengths-fit .ensures) at (c .check-flags .ensures)
+
+pub check-lists-spec : {M : Type 1} → statement M
+check-lists-spec =
+    tie.close
+    (tie.spec
+    (λ c κs. tt)
+    (λ c κs. tt)
+    (λ c κs. tt)
+    returns)

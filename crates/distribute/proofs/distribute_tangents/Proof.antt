@@ -1,0 +1,74 @@
+-- `distribute::distribute_tangents` meets its contract. Demand 3 follows from the answer and the tangents.
+use mathlib.Core.Path.{_≡_, refl, sym, ap, _∙_}
+use Prim.Native.Nat.{ℕ}
+use lib.ListN.{replicate}
+use Rattle.float.specs.Ops.{zero}
+use denote.Ref.{now}
+use mathlib.Core.List.{List}
+use lib.Ieee.{Float}
+use Rattle.distribute.specs.Distribute.{distributeTangents, tangentsAfter, AnyOrder}
+use Rattle.distribute.specs.declared.Spreading.{Spreading}
+use Rattle.distribute.proofs.Accepted.{lists-of}
+use Rattle.distribute.proofs.Order.{any-order}
+use borrow.Author.Needs.{needs}
+use Rattle.distribute.proofs.distribute_tangents.Statement.{statement}
+use Rattle.distribute.proofs.distribute_tangents.Tie as tie
+
+demand-3 : (s : tie.Start) (after : List Float) (r : Spreading)
+    → r ≡ distributeTangents (now (s .args .h)) (now (s .args .pos)) (now (s .args .normals)) (now (s .args .fixed)) (now (s .args .t)) (now (s .args .current)) (now (s .args .desired)) (s .args .n) (s .args .p)
+    → after ≡ tangentsAfter (now (s .args .h)) (now (s .args .pos)) (now (s .args .normals)) (now (s .args .fixed)) (now (s .args .t)) (now (s .args .current)) (now (s .args .desired)) (s .args .n) (s .args .p)
+    → AnyOrder (now (s .args .h)) (now (s .args .pos)) (now (s .args .normals)) (now (s .args .fixed)) (now (s .args .t)) (now (s .args .current)) (now (s .args .desired)) (s .args .n) (s .args .p) after r
+demand-3 s after r = any-order (now (s .args .h)) (now (s .args .pos)) (now (s .args .normals)) (now (s .args .fixed)) (now (s .args .t)) (now (s .args .current)) (now (s .args .desired)) (s .args .n) (s .args .p)
+
+returns : tie.Need-returns
+returns c =
+    let e = sym (c .before .before .before .check-lists .ensures) ∙ c .before .enum-told2 .given .1 in
+    let r = rw (c .before .enum-told2 .given .1) at (c .answer .ensures) in
+    (rw e r, (rw e, (rw e, (rw e, demand-3 (c .before .before .before .before .before .before .before .before .before .before .before .before .before) (now (c .before .before .before .before .before .before .before .before .before .before .before .before .before .args .t)) (c .answer .result) (rw e r) (rw e)))))
+
+spread-all-requires : tie.Need-spread-all-requires
+spread-all-requires c κs =
+    let a = c .before .before .before .before .before .before .before .before .before .before .before .before .before .before .before .args in
+    lists-of (now (a .h)) (now (a .pos)) (now (a .normals)) (now (a .fixed)) (now (a .t)) (now (a .current)) (now (a .desired)) (a .n) (a .p)
+    (sym (c .before .before .before .before .before .check-lists .ensures) ∙ c .before .before .before .enum-told .given .1)
+
+returns-2 : tie.Need-returns-2
+returns-2 c =
+    let a = c .before .before .before .before .before .before .before .before .before .before .before .before .before .before .before .before .before .before .before .before .before .before .before .before .before .before .before .before .before .before .before .args in
+    let e = sym (c .before .before .before .before .before .before .before .before .before .before .before .before .before .before .before .before .before .before .before .before .before .check-lists .ensures) ∙ c .before .before .before .before .before .before .before .before .before .before .before .before .before .before .before .before .before .before .before .enum-told .given .1 in
+    let l = lists-of (now (a .h)) (now (a .pos)) (now (a .normals)) (now (a .fixed)) (now (a .t)) (now (a .current)) (now (a .desired)) (a .n) (a .p) e in
+    let s = c .before .before .before .before .before .before .before .before .before .before .before .before .before .before .before .spread-all in
+    let r = rw (c .before .before .before .before .before .before .before .before .before .before .before .before .before .before .before .before .before .before .before .enum-told .given .1, s .ensures .looked-is, s .ensures .turned-is) at (c .answer2 .ensures) in (
+      rw e r,
+      (
+        rw e (s .ensures .tangents-are),
+        (
+          rw e (c .before .before .before .before .before .before .before .clear .ensures ∙ ap (λ (k : ℕ). replicate k zero) (s .kept .1 .1 .1 .1 .1 .1 .1 .0 ∙ l .current)),
+          (
+            rw e (c .before .before .before .clear2 .ensures ∙ ap (λ (k : ℕ). replicate k zero) (s .kept .1 .1 .1 .1 .1 .1 .1 .1 .0 ∙ l .desired)),
+            demand-3 (c .before .before .before .before .before .before .before .before .before .before .before .before .before .before .before .before .before .before .before .before .before .before .before .before .before .before .before .before .before .before .before) (s .last .1 .1 .1 .1 .1 .1 .0) (c .answer2 .result) (rw e r) (rw e (s .ensures .tangents-are)),
+          ),
+        ),
+      ),
+    )
+
+pub distribute-tangents-spec : {M : Type 1} → statement M
+distribute-tangents-spec =
+    tie.close
+    (tie.spec
+    (λ c κs. tt)
+    (λ c. search needs)
+    (λ c. search needs)
+    (λ c κs. tt)
+    (λ c. refl)
+    (λ c. refl)
+    (λ c. refl)
+    returns
+    spread-all-requires
+    (λ c κs. tt)
+    (λ c κs. tt)
+    (λ c κs. tt)
+    (λ c. c .before .before .before .before .before .before .before .before .before .before .before .before .before .before .before .spread-all .kept .1 .1 .1 .1 .1 .1 .0)
+    (λ c. c .before .before .before .before .before .before .before .clear .kept .0 ∙ c .before .before .before .before .before .before .before .before .before .before .before .before .before .before .before .spread-all .kept .1 .1 .1 .1 .1 .1 .1 .0)
+    (λ c. c .before .before .before .clear2 .kept .0 ∙ c .before .before .before .before .before .before .before .before .before .before .before .before .before .before .before .spread-all .kept .1 .1 .1 .1 .1 .1 .1 .1 .0)
+    returns-2)

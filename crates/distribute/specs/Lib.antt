@@ -1,0 +1,2 @@
+-- The specs of `distribute`.
+pub mod Distribute

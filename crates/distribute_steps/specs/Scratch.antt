@@ -1,0 +1,51 @@
+-- How the code holds what the walks go by: the numbers in a struct, the angles in the first places of the two scratch lists C (`current_angle`) and D (`desired_angle`).
+use Prim.Native.Nat.{ℕ, _+_, _*_, _≤_, _<_}
+use mathlib.Core.List.{List}
+use lib.ListN.{length, take}
+use lib.IntN.{ℤ}
+use lib.Ieee.{Float}
+use Rattle.mesh.specs.Mesh.{startVert, endVert}
+use Rattle.distribute_steps.specs.FloatSteps.{Gathered, Plan}
+use Rattle.distribute_steps.specs.declared.Carried.{Carried}
+use Rattle.distribute_steps.specs.declared.Turning.{Turning}
+
+-- what the first walk has gathered
+abbrev pub gatheredOf : List Float → List Float → Carried → Gathered
+gatheredOf C D g = record {
+  normal = g .normal;
+  currentAngle = take (g .count) C;
+  desiredAngle = take (g .count) D;
+  lastEdge = g .«last_edge»;
+  firstTangent = g .«first_tangent»;
+  lastTangent = g .«last_tangent»;
+}
+
+-- what the second walk goes by, at angle i
+abbrev pub planOf : List Float → List Float → Turning → ℕ → Plan
+planOf C D p i = record {
+  currentAngle = take (p .count) C;
+  desiredAngle = take (p .count) D;
+  scale = p .scale;
+  offset = p .offset;
+  axis = p .axis;
+  index = i;
+}
+
+-- ---- what the lists must hold for a call
+
+-- the start's point and the end of `current` have a position
+pub record EdgeFrom (H : List ℤ) (P : List Float) (start current : ℕ) : Type 0 where
+  pub center-in : startVert H start * 3 + 3 ≤ length P
+  pub end-in : endVert H current * 3 + 3 ≤ length P
+
+-- each list has a place for one angle more
+pub record GatherRoom (C D : List Float) (g : Carried) : Type 0 where
+  pub current-in : g .count < length C
+  pub desired-in : g .count < length D
+
+-- halfedge e has a tangent, and there is an angle i: the lists of angles are not read past their end
+pub record TurnRoom (T C D : List Float) (p : Turning) (i e : ℕ) : Type 0 where
+  pub tangent-in : e * 4 + 4 ≤ length T
+  pub angle-in : i < p .count
+  pub current-in : p .count ≤ length C
+  pub desired-in : p .count ≤ length D

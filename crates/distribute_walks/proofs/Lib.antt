@@ -1,0 +1,5 @@
+-- The laws of `distribute_walks`, for the crates above.
+pub mod Lawful
+mod Points
+mod Bodies
+mod Starts

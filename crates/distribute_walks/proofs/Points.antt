@@ -1,0 +1,13 @@
+-- On an accepted mesh every halfedge of a walk has its points.
+use mathlib.Core.Path.{_≡_}
+use mathlib.Core.List.{List}
+use Prim.Native.Nat.{ℕ, _*_, _<_}
+use native.Mathlib.Omega.{arith}
+use lib.ListN.{length}
+use lib.IntN.{ℤ}
+use lib.Ieee.{Float}
+use Rattle.mesh.specs.Sound.{Sound}
+use Rattle.distribute_steps.specs.Scratch.{EdgeFrom}
+
+pub edge-from : {H : List ℤ} {n p : ℕ} {P : List Float} → Sound H n p → length P ≡ p * 3 → (start e : ℕ) → start < n → e < n → EdgeFrom H P start e
+edge-from s l start e a b = record { center-in = omega (arith, s .start-below start a); end-in = omega (arith, s .end-below e b) }

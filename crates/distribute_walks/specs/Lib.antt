@@ -1,0 +1,2 @@
+-- The specs of `distribute_walks`.
+pub mod Walks
