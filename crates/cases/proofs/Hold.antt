@@ -16,6 +16,12 @@ use Rattle.smoothing.specs.Lists.{pointAt, tangentAt, putTangent, weightAt}
 use Rattle.smoothing.specs.Edges.{edgeVec}
 use Rattle.linearize.specs.Linearize.{withUnitWeight, linearized, linearizeEnd, linearizeEdge, linearizeAt, linearizeFlatTangents}
 use Rattle.validate.specs.Validate.{noMarkedNeighbor, validAt, validTangents}
+use Rattle.mesh.specs.Check.{checkFlags}
+use Rattle.linalg.specs.Vec.{crossOf}
+use Rattle.cycles.specs.Cycles.{nextAround}
+use Rattle.spread.specs.Spread.{firstWalk, fixedFrom, pass, secondWalk, spread, spreadFrom, spreadOn, walksFrom}
+use Rattle.distribute_steps.specs.FloatSteps.{begin, gatherEdge, turnsNone, tangentDirection}
+use Rattle.distribute.specs.Distribute.{checkLists}
 use Rattle.cases.specs.Lines.{lines, computedOf, statedOf}
 
 -- what the lines compute with
@@ -31,6 +37,10 @@ unfoldable calls : Unit {0}
 unfolding add3 sub3 neg3 div3 dotOf length2Of lengthOf vec3FromVec4 isDegenerate safeNormalize circularTangent pointAt tangentAt putTangent weightAt edgeVec withUnitWeight linearized linearizeEnd linearizeEdge linearizeAt linearizeFlatTangents noMarkedNeighbor validAt validTangents
 calls = tt
 
+unfoldable spreads : Unit {0}
+unfolding checkFlags checkLists firstWalk fixedFrom pass secondWalk spread spreadFrom spreadOn walksFrom begin gatherEdge turnsNone tangentDirection crossOf nextAround
+spreads = tt
+
 pub lines-hold : computedOf lines ≡ statedOf lines
-unfolding floats meshes calls
+unfolding floats meshes calls spreads
 lines-hold = refl

@@ -19,7 +19,10 @@ use Rattle.linearize.specs.Linearize.{linearizeAnswer, tangentsAfter}
 use Rattle.validate.specs.declared.Validity.{Validity}
 use Rattle.validate.specs.declared.Validity.the-variants.{Valid}
 use Rattle.validate.specs.Validate.{validAnswer}
-use Rattle.cases.specs.Pillow.{points, halfedges, positions, meshWith, mesh, noTangents, straightened, weighted}
+use Rattle.distribute.specs.declared.Spreading.{Spreading}
+use Rattle.distribute.specs.declared.Spreading.the-variants.{Spread}
+use Rattle.distribute.specs.Distribute.{distributeTangents}
+use Rattle.cases.specs.Pillow.{points, halfedges, positions, meshWith, mesh, noTangents, straightened, weighted, zeroNormals, zeroAngles}
 
 -- the kinds of value that a line speaks of
 pub data Value : Type 0 where
@@ -29,6 +32,7 @@ pub data Value : Type 0 where
   tangents : List Float → Value
   checked : Checked → Value
   validity : Validity → Value
+  counts : Spreading → Value
 
 pub record Line : Type 0 where
   pub computed : Value
@@ -109,13 +113,25 @@ pillowMarks =
 abbrev pub pillowRefused : List Line
 pillowRefused = (checked (linearizeAnswer (meshWith 0) positions noTangents halfedges points) is checked (Refused 5 5)) ∷ []
 
+-- the answer to spreading the straightened pillow, point normals all 0, with these flags
+abbrev pub spreading : List ℕ → Value
+spreading flags = counts (distributeTangents mesh positions zeroNormals flags straightened zeroAngles zeroAngles halfedges points)
+
+-- Pillow, straightened tangents of the listing below, point normals all 0, flag on 0 only: looked 2, turned 0. All flags: looked 6, turned 0. No flags: looked 0, turned 0.
+abbrev pub pillowSpread : List Line
+pillowSpread =
+    (spreading (1 ∷ 0 ∷ 0 ∷ 0 ∷ 0 ∷ 0 ∷ []) is counts (Spread 2 0))
+    ∷ (spreading (1 ∷ 1 ∷ 1 ∷ 1 ∷ 1 ∷ 1 ∷ []) is counts (Spread 6 0))
+    ∷ (spreading (0 ∷ 0 ∷ 0 ∷ 0 ∷ 0 ∷ 0 ∷ []) is counts (Spread 0 0))
+    ∷ []
+
 -- The whole listing: the pillow straightened, all tangents 0.
 abbrev pub pillowStraightened : List Line
 pillowStraightened = (tangents (tangentsAfter mesh positions noTangents halfedges points) is tangents straightened) ∷ []
 
 -- all of them
 abbrev pub lines : List Line
-lines = nextAndPrevious ++ squareRoots ++ sineAndCosine ++ arccosine ++ circularTangents ++ pillowMarks ++ pillowRefused ++ pillowStraightened
+lines = nextAndPrevious ++ squareRoots ++ sineAndCosine ++ arccosine ++ circularTangents ++ pillowMarks ++ pillowSpread ++ pillowRefused ++ pillowStraightened
 
 abbrev pub computedOf : List Line → List Value
 computedOf [] = []

@@ -1,6 +1,7 @@
 -- Document 01's pillow: three points, two triangles back to back; and the tangents of its exact lines.
 use Prim.Native.Nat.{ℕ}
 use mathlib.Core.List.{List, [], _∷_}
+use lib.ListN.{replicate}
 use lib.IntN.{ℤ, pos}
 use lib.Ieee.{Float}
 use Rattle.float.specs.Ops.{lit, zero}
@@ -57,3 +58,11 @@ straightened =
 abbrev pub weighted : List Float → List Float
 weighted [] = []
 weighted (w ∷ ws) = zero ∷ zero ∷ zero ∷ w ∷ weighted ws
+
+-- a normal for each point, all 0
+abbrev pub zeroNormals : List Float
+zeroNormals = replicate 9 zero
+
+-- a scratch list, with a place for each halfedge
+abbrev pub zeroAngles : List Float
+zeroAngles = replicate 6 zero
