@@ -9,6 +9,8 @@ use Rattle.validate.specs.declared.Validity.{Validity}
 use Rattle.validate.specs.Validate as Valid
 use Rattle.sharpen.specs.declared.Listing.{Listing}
 use Rattle.sharpen.specs.Sharpen as Sharp
+use Rattle.distribute.specs.declared.Spreading.{Spreading}
+use Rattle.distribute.specs.Distribute as Spread
 
 unfoldable pub put : List ℕ → ℕ → ℕ → ℕ → ℕ → List ℕ
 put A number place first second = set (set (set (set A 0 number) 1 place) 2 first) 3 second
@@ -24,3 +26,7 @@ putValidity A r = put A (Valid.numberOf r) (Valid.placeOf r) (Valid.valueOf r) 0
 -- the crease listing: the number of entries, and the tally
 abbrev pub putListing : List ℕ → Listing → List ℕ
 putListing A r = put A (Sharp.numberOf r) (Sharp.placeOf r) (Sharp.entriesOf r) (Sharp.tallyOf r)
+
+-- spreading: looked and turned
+abbrev pub putSpreading : List ℕ → Spreading → List ℕ
+putSpreading A r = put A (Spread.numberOf r) (Spread.placeOf r) (Spread.lookedOf r) (Spread.turnedOf r)

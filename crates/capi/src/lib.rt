@@ -6,7 +6,9 @@ ghost use lib.ListN.{set};
 ghost use Rattle.linearize.specs.Linearize.{linearizeAnswer, tangentsAfter};
 ghost use Rattle.validate.specs.Validate.{validAnswer};
 ghost use Rattle.sharpen.specs.Sharpen.{sharpenEdges, entriesAfter};
-ghost use Rattle.capi.specs.Answers.{put, putChecked, putValidity, putListing};
+ghost use Rattle.distribute.specs.Distribute.{distributeTangents, scratchAfter, checkLists};
+ghost use Rattle.distribute.specs.Distribute.{tangentsAfter as spreadAfter};
+ghost use Rattle.capi.specs.Answers.{put, putChecked, putValidity, putListing, putSpreading};
 
 fn put_at(answer: &mut [usize], k: usize, x: usize)
     ensures { λ _. ⌜ now (answer .exit) ≡ set (now (answer .entry)) k x ⌝ }
@@ -94,5 +96,44 @@ pub extern "C" fn tangents_sharpen_edges(
         sharpen::place_of(listing),
         sharpen::entries_of(listing),
         sharpen::tally_of(listing),
+    );
+}
+
+// Spreading, with the answer's two counts looked and turned.
+#[no_mangle]
+pub extern "C" fn tangents_distribute_tangents(
+    n: usize,
+    p: usize,
+    h: &[i32],
+    pos: &[f64],
+    normals: &[f64],
+    flags: &[u8],
+    t: &mut [f64],
+    current: &mut [f64],
+    desired: &mut [f64],
+    answer: &mut [usize],
+)
+    ensures { λ _. ⌜ now (t .exit) ≡ spreadAfter (now (h .entry)) (now (pos .entry)) (now (normals .entry)) (now (flags .entry)) (now (t .entry)) (now (current .entry)) (now (desired .entry)) n p ⌝ }
+    ensures { λ _. ⌜ now (current .exit) ≡ scratchAfter (checkLists (now (h .entry)) (now (pos .entry)) (now (normals .entry)) (now (flags .entry)) (now (t .entry)) (now (current .entry)) (now (desired .entry)) n p) (now (current .entry)) n ⌝ }
+    ensures { λ _. ⌜ now (desired .exit) ≡ scratchAfter (checkLists (now (h .entry)) (now (pos .entry)) (now (normals .entry)) (now (flags .entry)) (now (t .entry)) (now (current .entry)) (now (desired .entry)) n p) (now (desired .entry)) n ⌝ }
+    ensures { λ _. ⌜ now (answer .exit) ≡ putSpreading (now (answer .entry)) (distributeTangents (now (h .entry)) (now (pos .entry)) (now (normals .entry)) (now (flags .entry)) (now (t .entry)) (now (current .entry)) (now (desired .entry)) n p) ⌝ }
+{
+    let spreading = distribute::distribute_tangents(
+        n,
+        p,
+        h,
+        pos,
+        normals,
+        flags,
+        t,
+        current,
+        desired,
+    );
+    put_answer(
+        answer,
+        distribute::number_of(spreading),
+        distribute::place_of(spreading),
+        distribute::looked_of(spreading),
+        distribute::turned_of(spreading),
     );
 }

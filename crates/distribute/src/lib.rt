@@ -5,7 +5,7 @@ ghost use lib.ListN.{length, replicate};
 ghost use Rattle.float.specs.Ops.{zero};
 ghost use Rattle.distribute_steps.specs.FloatSteps.{floatSteps};
 ghost use Rattle.distribute_walks.specs.Walks.{Lists};
-ghost use Rattle.distribute.specs.Distribute.{lengthsFit, checkLists, spreadTangents, Reports, answerOf, distributeTangents, tangentsAfter, scratchAfter, AnyOrder};
+ghost use Rattle.distribute.specs.Distribute.{numberOf, placeOf, lookedOf, turnedOf, lengthsFit, checkLists, spreadTangents, Reports, answerOf, distributeTangents, tangentsAfter, scratchAfter, AnyOrder};
 use distribute_walks::Counts;
 use mesh::Checked;
 
@@ -13,6 +13,54 @@ use mesh::Checked;
 pub enum Spreading {
     Spread { looked: usize, turned: usize },
     Refused { number: usize, place: usize },
+}
+
+pub fn number_of(spreading: Spreading) -> usize
+    ensures { λ r. ⌜ r ≡ numberOf spreading ⌝ }
+{
+    match spreading {
+        Spreading::Spread {
+            looked: _,
+            turned: _,
+        } => 0,
+        Spreading::Refused { number, place: _ } => number,
+    }
+}
+
+pub fn place_of(spreading: Spreading) -> usize
+    ensures { λ r. ⌜ r ≡ placeOf spreading ⌝ }
+{
+    match spreading {
+        Spreading::Spread {
+            looked: _,
+            turned: _,
+        } => 0,
+        Spreading::Refused { number: _, place } => place,
+    }
+}
+
+pub fn looked_of(spreading: Spreading) -> usize
+    ensures { λ r. ⌜ r ≡ lookedOf spreading ⌝ }
+{
+    match spreading {
+        Spreading::Spread { looked, turned: _ } => looked,
+        Spreading::Refused {
+            number: _,
+            place: _,
+        } => 0,
+    }
+}
+
+pub fn turned_of(spreading: Spreading) -> usize
+    ensures { λ r. ⌜ r ≡ turnedOf spreading ⌝ }
+{
+    match spreading {
+        Spreading::Spread { looked: _, turned } => turned,
+        Spreading::Refused {
+            number: _,
+            place: _,
+        } => 0,
+    }
 }
 
 // The loop over the halfedges of an accepted mesh.

@@ -1,0 +1,4 @@
+-- The laws of `create`: those that the crates above cite are public.
+pub mod Lent
+mod Create
+mod Pillow

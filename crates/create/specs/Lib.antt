@@ -1,0 +1,2 @@
+-- The specs of `create`, in the order of reading.
+pub mod Create

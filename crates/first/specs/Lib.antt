@@ -1,0 +1,2 @@
+-- The specs of `first`.
+pub mod First

@@ -1,0 +1,116 @@
+// The first tangent of each halfedge in `create_tangents`.
+ghost use mathlib.Core.Path.{_≡_};
+ghost use Prim.Native.Nat.{_+_, _*_, _≤_, _<_};
+ghost use lib.ListN.{length};
+ghost use Rattle.mesh.specs.Mesh.{startVert};
+ghost use Rattle.mesh.specs.Fold.{foldTo};
+ghost use Rattle.faces.specs.Faces.{flatFaces};
+ghost use Rattle.first.specs.First.{FaceIn, FirstLists, faceAt, FirstIn, vertNormal, firstTangent, putFirstTangent, firstTangents};
+use faces::FlatFace;
+use linalg::Vec3;
+use linalg::Vec4;
+
+// The normal of point v, or that of the one flat face at it.
+fn vert_normal(normals: &[f64], face_normals: &[f64], v: usize, face: FlatFace) -> Vec3
+    requires { ⌜ (v * 3 + 3 ≤ length (now normals)) × FaceIn (length (now «face_normals»)) face ⌝ }
+    ensures { λ r. ⌜ r ≡ vertNormal (now (normals .entry)) (now («face_normals» .entry)) v face ⌝ }
+{
+    match face {
+        FlatFace::NoFace => smoothing::point_at(normals, v),
+        FlatFace::OneFace(t) => smoothing::point_at(face_normals, t),
+        FlatFace::MoreFaces(t) => smoothing::point_at(normals, v),
+    }
+}
+
+// The first tangent of halfedge e. `t` still holds its old weight.
+fn first_tangent(
+    n: usize,
+    h: &[i32],
+    refs: &[i32],
+    pos: &[f64],
+    normals: &[f64],
+    face_normals: &[f64],
+    at: &[usize],
+    old: bool,
+    t: &[f64],
+    e: usize,
+) -> Vec4
+    requires { ⌜ (e < n) × FirstIn (now h) (now pos) (now normals) (now «face_normals») (now at) (now t) n ⌝ }
+    ensures { λ r. ⌜ r ≡ firstTangent (now (h .entry)) (now (refs .entry)) (now (pos .entry)) (now (normals .entry)) (now («face_normals» .entry)) (now (t .entry)) old (faceAt (now (at .entry)) (startVert (now (h .entry)) e)) e ⌝ }
+{
+    if smoothing::is_inside_quad(h, refs, t, old, e) {
+        return Vec4 {
+            x: 0.0,
+            y: 0.0,
+            z: 0.0,
+            w: -1.0,
+        };
+    }
+    let v = mesh::start_vert(h, e);
+    let normal = vert_normal(normals, face_normals, v, faces::flat_face(at, v));
+    smoothing::tangent_from_normal(h, pos, face_normals, normal, e)
+}
+
+// Writes it, in the list that the old weights are read from. That is safe: of the old weights only e's own is read, before it is
+// written here, and no other turn of the loop writes it.
+fn put_first_tangent(
+    n: usize,
+    h: &[i32],
+    refs: &[i32],
+    pos: &[f64],
+    normals: &[f64],
+    face_normals: &[f64],
+    at: &[usize],
+    old: bool,
+    t: &mut [f64],
+    e: usize,
+)
+    requires { ⌜ (e < n) × FirstIn (now h) (now pos) (now normals) (now «face_normals») (now at) (now t) n ⌝ }
+    ensures { λ _. ⌜ now (t .exit) ≡ putFirstTangent (now (h .entry)) (now (refs .entry)) (now (pos .entry)) (now (normals .entry)) (now («face_normals» .entry)) (now (t .entry)) old (faceAt (now (at .entry))) (now (t .entry)) e ⌝ }
+{
+    let tangent = first_tangent(n, h, refs, pos, normals, face_normals, at, old, t, e);
+    smoothing::put_tangent(t, e, tangent);
+}
+
+// The first tangents, where `at` is the result of `vert_flat_face`.
+fn put_first_tangents(
+    n: usize,
+    h: &[i32],
+    refs: &[i32],
+    pos: &[f64],
+    normals: &[f64],
+    face_normals: &[f64],
+    at: &[usize],
+    old: bool,
+    t: &mut [f64],
+)
+    requires { ⌜ FirstIn (now h) (now pos) (now normals) (now «face_normals») (now at) (now t) n ⌝ }
+    ensures { λ _. ⌜ now (t .exit) ≡ foldTo (putFirstTangent (now (h .entry)) (now (refs .entry)) (now (pos .entry)) (now (normals .entry)) (now («face_normals» .entry)) (now (t .entry)) old (faceAt (now (at .entry)))) (now (t .entry)) n ⌝ }
+{
+    let mut e = 0;
+    while e < n {
+        put_first_tangent(n, h, refs, pos, normals, face_normals, at, old, t, e);
+        e += 1;
+    }
+}
+
+// Which triangles lie in flat faces, and the first tangents, whatever `flat` and `at` held.
+pub fn first_tangents(
+    n: usize,
+    h: &[i32],
+    refs: &[i32],
+    pos: &[f64],
+    normals: &[f64],
+    face_normals: &[f64],
+    old: bool,
+    t: &mut [f64],
+    flat: &mut [u8],
+    at: &mut [usize],
+)
+    requires { ⌜ FirstLists (now h) (now pos) (now normals) (now «face_normals») (now at) (now t) n × (length (now flat) ≡ n) ⌝ }
+    ensures { λ _. ⌜ (now (flat .exit) ≡ flatFaces (now (h .entry)) (now (refs .entry)) n) × (now (t .exit) ≡ firstTangents (now (h .entry)) (now (refs .entry)) (now (pos .entry)) (now (normals .entry)) (now («face_normals» .entry)) (now (t .entry)) old n) ⌝ }
+{
+    faces::flat_faces(h, refs, flat);
+    faces::vert_flat_face(h, refs, flat, at);
+    put_first_tangents(n, h, refs, pos, normals, face_normals, at, old, t);
+}

@@ -1,0 +1,2 @@
+-- The laws of `shapes`, which the crates above cite.
+pub mod Lent

@@ -1,0 +1,46 @@
+-- `shapes::shape_vert` meets its contract: three calls in a row. Assumes nothing.
+use Rattle.shapes.proofs.Lent.{shape-in, crease-in}
+use Rattle.shapes.specs.Shapes.{shapeVert}
+use Rattle.creases.proofs.Points.{first-is}
+use native.Mathlib.Omega.{arith}
+use mathlib.Core.Path.{_∙_}
+use Rattle.shapes.proofs.shape_vert.Statement.{statement}
+use Rattle.shapes.proofs.shape_vert.Tie as tie
+
+first-crease-requires : tie.Need-first-crease-requires
+first-crease-requires c κs = let p = c .before .before .before .before .before .before .before .pre in (p .0, omega (arith, p .1 .creases .lists .sound .few-halfedges))
+
+crease-at-requires : tie.Need-crease-at-requires
+crease-at-requires c κs = let p = c .before .before .before .before .before .before .before .before .pre in (p .0, p .1 .creases)
+
+shape-crease-requires : tie.Need-shape-crease-requires
+shape-crease-requires c κs =
+    let z = c .before .before .before .before .before .before .before .before .before .before .before in
+    let w = z .pre .1 in (
+      crease-in (w .creases .lists .sound) (z .args .smooth .now) (z .args .v) _ _ (c .before .before .before .first-crease .ensures ∙ first-is (w .creases) (z .args .v) (z .pre .0)) (c .before .before .crease-at .ensures),
+      w .flat,
+      shape-in w,
+    )
+
+same-length : tie.Need-same-length
+same-length c = c .before .before .before .before .shape-crease .kept .1 .1 .1 .1 .0
+
+same-length-2 : tie.Need-same-length-2
+same-length-2 c = c .before .before .before .before .shape-crease .kept .1 .1 .1 .1 .1 .0
+
+returns : tie.Need-returns
+unfolding shapeVert
+returns c =
+    let z = c .before .before .before .before .before .before .before .before .before .before .before .before .before .before .before .before in
+    simp (← first-is (z .pre .1 .creases) (z .args .v) (z .pre .0), ← c .before .before .before .before .before .before .before .before .first-crease .ensures, ← c .before .before .before .before .before .before .before .crease-at .ensures) (c .before .before .before .before .shape-crease .ensures)
+
+pub shape-vert-spec : {M : Type 1} → statement M
+shape-vert-spec =
+    tie.close
+    (tie.spec
+    first-crease-requires
+    crease-at-requires
+    shape-crease-requires
+    same-length
+    same-length-2
+    returns)

@@ -1,0 +1,100 @@
+-- What a crease through a point, and a meeting of creases, do to the tangents of a vertex cycle. H are the halfedges, P the positions, F the result of `flat_faces`, T the tangents, n how many halfedges there are.
+use Prim.Native.Nat.{ℕ, _+_, _*_, _/_, _≤_}
+use mathlib.Core.Path.{_≡_}
+use mathlib.Core.List.{List, foldl}
+use mathlib.Core.Bool.{cond, _||_}
+use lib.ListN.{length}
+use lib.IntN.{ℤ}
+use lib.Dec.{eqb}
+use lib.Ieee.{Float, eq}
+use Rattle.float.specs.Ops.{_⊗_, zero}
+use Rattle.linalg.specs.declared.Vec3.{Vec3}
+use Rattle.linalg.specs.declared.Vec4.{Vec4}
+use Rattle.linalg.specs.Vec.{sub3, neg3, normalizeOf}
+use Rattle.mesh.specs.Mesh.{pairedHalfedge}
+use Rattle.mesh.specs.Sound.{Sound}
+use Rattle.smoothing.specs.Directions.{vec3FromVec4, circularTangent}
+use Rattle.smoothing.specs.Lists.{tangentAt, putTangent, isMarkedInsideQuad}
+use Rattle.smoothing.specs.Edges.{EdgeIn, edgeVec}
+use Rattle.cycles.specs.Cycles.{vertexCycle}
+use Rattle.faces.specs.Faces.{isFlat}
+
+-- ---- what the lists must be for a call: `shape-in` and `align-in` of `proofs/Lent.antt` give it from `VertIn`
+
+-- a sound mesh, and a tangent for each of its n halfedges
+pub record TangentsIn (H : List ℤ) (T : List Float) (n : ℕ) : Type 0 where
+  pub points : ℕ
+  pub sound : Sound H n points
+  pub tangents : length T ≡ n * 4
+
+-- and a flag for each triangle, in a list with a place for each halfedge
+pub record MeetingIn (H : List ℤ) (F : List ℕ) (T : List Float) (n : ℕ) : Type 0 where
+  pub tangents : TangentsIn H T n
+  pub flat : length F ≡ n
+
+-- two halfedges with both ends and a tangent each
+pub record AlignIn (H : List ℤ) (P T : List Float) (first second : ℕ) : Type 0 where
+  pub first-edge : EdgeIn H P first
+  pub second-edge : EdgeIn H P second
+  pub first-in : first * 4 + 4 ≤ length T
+  pub second-in : second * 4 + 4 ≤ length T
+
+-- ---- `sharpen_tangent`
+
+-- its four numbers
+unfoldable pub sharpened : Float → Vec4 → Vec4
+sharpened s t = record { x = s ⊗ t .x; y = s ⊗ t .y; z = s ⊗ t .z; w = cond (eq s zero) zero (t .w) }
+
+unfoldable pub sharpenTangent : List Float → ℕ → Float → List Float
+sharpenTangent T e s = putTangent T e (sharpened s (tangentAt T e))
+
+-- ---- a crease through a point, of the halfedges `first` and `second`
+
+-- `circular_tangent` with the edge of halfedge e, stored at e
+unfoldable pub putCircularTangent : List ℤ → List Float → List Float → ℕ → Vec3 → List Float
+putCircularTangent H P T e dir = putTangent T e (circularTangent dir (edgeVec H P e))
+
+-- `new_tangent`
+unfoldable pub newTangent : List Float → ℕ → ℕ → Vec3
+newTangent T first second = normalizeOf (sub3 (vec3FromVec4 (tangentAt T first)) (vec3FromVec4 (tangentAt T second)))
+
+-- Both halfedges along one line. The Rust takes both edges from `pos`, the start of `first`: each starts at the point, so its own edge vector is the same.
+unfoldable pub alignTangents : List ℤ → List Float → List Float → ℕ → ℕ → List Float
+alignTangents H P T first second =
+    let dir = newTangent T first second in
+    putCircularTangent H P (putCircularTangent H P T first dir) second (neg3 dir)
+
+-- what the loop round the vertex cycle changes: the tangents, and `smoothness`, which is that of the side it is on
+pub record Sides : Type 0 where
+  pub tangents : List Float
+  pub smoothness : Float
+
+abbrev pub sidesOf : List Float → Float → Sides
+sidesOf T s = record { tangents = T; smoothness = s }
+
+-- the body of the loop, at halfedge `current`; `beyond` is the smoothness from `second` on
+unfoldable pub sharpenSide : ℕ → ℕ → Float → Sides → ℕ → Sides
+sharpenSide first second beyond m current =
+    cond (eqb current second) (sidesOf (m .tangents) beyond)
+    (cond (eqb current first || isMarkedInsideQuad (m .tangents) current) m
+    (sidesOf (sharpenTangent (m .tangents) current (m .smoothness)) (m .smoothness)))
+
+-- the loop; `between` is the smoothness from `first` to `second`
+unfoldable pub sharpenSides : List ℤ → ℕ → List Float → ℕ → ℕ → Float → Float → List Float
+sharpenSides H n T first second between beyond =
+    foldl (sharpenSide first second beyond) (sidesOf T between) (vertexCycle H n first) .tangents
+
+-- ---- a meeting
+
+-- `s`: 0 beside a flat face, else the mean smoothness
+unfoldable pub meetingSmoothness : List ℤ → List ℕ → Float → ℕ → Float
+meetingSmoothness H F mean current = cond (isFlat F (current / 3) || isFlat F (pairedHalfedge H current / 3)) zero mean
+
+-- the body of the loop, at halfedge `current`
+unfoldable pub sharpenMeetingAt : List ℤ → List ℕ → Float → List Float → ℕ → List Float
+sharpenMeetingAt H F mean T current =
+    cond (isMarkedInsideQuad T current) T (sharpenTangent T current (meetingSmoothness H F mean current))
+
+-- the loop, from the halfedge of the first crease
+unfoldable pub sharpenMeeting : List ℤ → List ℕ → ℕ → List Float → ℕ → Float → List Float
+sharpenMeeting H F n T first mean = foldl (sharpenMeetingAt H F mean) T (vertexCycle H n first)
