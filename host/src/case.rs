@@ -1,0 +1,118 @@
+//! The oracle's text format: cases, answers, and the unit's answer to a case, written as the oracle writes it.
+
+use crate::{distribute_tangents, linearize_flat_tangents, sharpen_edges, valid_tangents, Refused};
+use std::collections::BTreeMap;
+use std::fmt::Write as _;
+
+/// A case, or an answer: its operation, its number, and its lines by their first word.
+pub struct Block {
+    pub op: String,
+    pub id: String,
+    lines: BTreeMap<String, String>,
+}
+
+impl Block {
+    fn words(&self, name: &str) -> impl Iterator<Item = &str> {
+        self.lines.get(name).map_or("", |s| s.as_str()).split_whitespace()
+    }
+
+    pub fn has(&self, name: &str) -> bool {
+        self.lines.contains_key(name)
+    }
+
+    pub fn line(&self, name: &str) -> Option<&str> {
+        self.lines.get(name).map(|s| s.as_str())
+    }
+
+    pub fn floats(&self, name: &str) -> Vec<f64> {
+        self.words(name).map(|w| f64::from_bits(u64::from_str_radix(w, 16).expect("bits"))).collect()
+    }
+
+    pub fn signed(&self, name: &str) -> Vec<i32> {
+        self.words(name).map(|w| w.parse().expect("an i32")).collect()
+    }
+
+    pub fn bytes(&self, name: &str) -> Vec<u8> {
+        self.words(name).map(|w| w.parse().expect("a byte")).collect()
+    }
+
+    pub fn numbers(&self, name: &str) -> Vec<usize> {
+        self.words(name).map(|w| w.parse().expect("a number")).collect()
+    }
+
+    /// The counts of halfedges and of points.
+    pub fn counts(&self) -> (usize, usize) {
+        let c = self.numbers("counts");
+        (c[1], c[0])
+    }
+}
+
+/// The cases, or the answers, of a text.
+pub fn blocks(text: &str) -> Vec<Block> {
+    let mut out = Vec::new();
+    let mut here: Option<Block> = None;
+    for line in text.lines() {
+        let (word, rest) = line.split_once(' ').unwrap_or((line, ""));
+        match word {
+            "case" | "result" => {
+                let (op, id) = rest.split_once(' ').expect("operation and number");
+                here = Some(Block { op: op.into(), id: id.into(), lines: BTreeMap::new() });
+            }
+            "end" => out.extend(here.take()),
+            "" | "#" => {}
+            _ => {
+                if let Some(b) = &mut here {
+                    b.lines.insert(word.into(), rest.into());
+                }
+            }
+        }
+    }
+    out
+}
+
+fn hex(name: &str, xs: &[f64]) -> String {
+    let mut s = String::from(name);
+    for x in xs {
+        let bits = if x.is_nan() { 0x7ff8_0000_0000_0000 } else { x.to_bits() };
+        write!(s, " {bits:016x}").unwrap();
+    }
+    s
+}
+
+fn decimal(name: &str, xs: &[usize]) -> String {
+    let mut s = String::from(name);
+    for x in xs {
+        write!(s, " {x}").unwrap();
+    }
+    s
+}
+
+/// The unit's answer to a case, line by line as the oracle writes it, or `None` for an operation that the unit has no call for.
+pub fn answer(c: &Block) -> Option<Result<Vec<String>, Refused>> {
+    let (n, p) = c.counts();
+    let (h, pos) = (c.signed("he"), c.floats("pos"));
+    let mut t = c.floats("tan");
+    Some(match c.op.as_str() {
+        "straighten" => linearize_flat_tangents(n, p, &h, &pos, &mut t).map(|()| vec![hex("tan", &t)]),
+        "check" => valid_tangents(n, p, &h, &pos, &t).map(|v| vec![format!("valid {}", v as u8)]),
+        "crease" => {
+            let limits = c.floats("ang");
+            // the oracle damages an empty mesh's room to -1: a length that no list has, as n + 1 is none that the mesh calls for
+            let room = c.words("room").next().and_then(|w| w.parse().ok()).unwrap_or(n + 1);
+            let (mut halfedges, mut smoothness) = (vec![usize::MAX; room], vec![f64::NAN; room]);
+            sharpen_edges(n, p, &h, &c.floats("fn"), limits[0], limits[1], &mut halfedges, &mut smoothness).map(|l| {
+                assert!(halfedges[l.entries..].iter().all(|&e| e == usize::MAX), "a place past the entries was written");
+                vec![decimal("list", &halfedges[..l.entries]), hex("smooth", &smoothness[..l.entries]), format!("tally {}", l.tally)]
+            })
+        }
+        "spread" => {
+            // the scratch is handed in full, and has to come back all zeros
+            let (mut current, mut desired) = (vec![f64::NAN; n.min(1 << 20)], vec![1.5; n.min(1 << 20)]);
+            distribute_tangents(n, p, &h, &pos, &c.floats("vn"), &c.bytes("fl"), &mut t, &mut current, &mut desired).map(|k| {
+                assert!(current.iter().chain(&desired).all(|x| x.to_bits() == 0), "scratch is left");
+                vec![hex("tan", &t), format!("looked {} turned {}", k.looked, k.turned)]
+            })
+        }
+        _ => return None,
+    })
+}

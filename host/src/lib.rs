@@ -1,0 +1,107 @@
+//! Safe wrappers over the unit's C functions (include/tangents.h), and the oracle's text format.
+//!
+//! Each wrapper lends slices; the unit itself asks every question about their lengths and contents, so nothing is tested here.
+
+pub mod case;
+
+mod raw {
+    extern "C" {
+        pub fn tangents_linearize_flat_tangents(
+            n: usize, p: usize, h: *const i32, h_len: usize, pos: *const f64, pos_len: usize, t: *mut f64, t_len: usize,
+            answer: *mut usize, answer_len: usize,
+        );
+        pub fn tangents_valid_tangents(
+            n: usize, p: usize, h: *const i32, h_len: usize, pos: *const f64, pos_len: usize, t: *const f64, t_len: usize,
+            answer: *mut usize, answer_len: usize,
+        );
+        pub fn tangents_sharpen_edges(
+            n: usize, p: usize, h: *const i32, h_len: usize, normals: *const f64, normals_len: usize, angle: f64, smooth: f64,
+            halfedges: *mut usize, halfedges_len: usize, smoothness: *mut f64, smoothness_len: usize,
+            answer: *mut usize, answer_len: usize,
+        );
+        pub fn tangents_distribute_tangents(
+            n: usize, p: usize, h: *const i32, h_len: usize, pos: *const f64, pos_len: usize, normals: *const f64, normals_len: usize,
+            flags: *const u8, flags_len: usize, t: *mut f64, t_len: usize, current: *mut f64, current_len: usize,
+            desired: *mut f64, desired_len: usize, answer: *mut usize, answer_len: usize,
+        );
+    }
+}
+
+/// Why a call was refused: document 01's number of the question, and the lowest place that breaks it.
+#[derive(Clone, Copy, Debug, PartialEq, Eq)]
+pub struct Refused {
+    pub number: usize,
+    pub place: usize,
+}
+
+/// The two numbers of an accepted call, or the refusal.
+fn outcome(answer: [usize; 4]) -> Result<[usize; 2], Refused> {
+    match answer {
+        [0, _, first, second] => Ok([first, second]),
+        [number, place, ..] => Err(Refused { number, place }),
+    }
+}
+
+/// Straightening: the Rust's `linearize_flat_tangents`.
+pub fn linearize_flat_tangents(n: usize, p: usize, h: &[i32], pos: &[f64], t: &mut [f64]) -> Result<(), Refused> {
+    let mut answer = [0; 4];
+    unsafe {
+        raw::tangents_linearize_flat_tangents(
+            n, p, h.as_ptr(), h.len(), pos.as_ptr(), pos.len(), t.as_mut_ptr(), t.len(), answer.as_mut_ptr(), 4,
+        );
+    }
+    outcome(answer).map(|_| ())
+}
+
+/// The mark check: the Rust's `valid_tangents`.
+pub fn valid_tangents(n: usize, p: usize, h: &[i32], pos: &[f64], t: &[f64]) -> Result<bool, Refused> {
+    let mut answer = [0; 4];
+    unsafe {
+        raw::tangents_valid_tangents(n, p, h.as_ptr(), h.len(), pos.as_ptr(), pos.len(), t.as_ptr(), t.len(), answer.as_mut_ptr(), 4);
+    }
+    outcome(answer).map(|[valid, _]| valid == 1)
+}
+
+/// What the crease listing wrote: the number of entries, and the tally of edges.
+#[derive(Clone, Copy, Debug, PartialEq, Eq)]
+pub struct Listed {
+    pub entries: usize,
+    pub tally: usize,
+}
+
+/// The crease listing: the Rust's `sharpen_edges`, with the angle in degrees.
+#[allow(clippy::too_many_arguments)]
+pub fn sharpen_edges(
+    n: usize, p: usize, h: &[i32], normals: &[f64], angle: f64, smooth: f64, halfedges: &mut [usize], smoothness: &mut [f64],
+) -> Result<Listed, Refused> {
+    let mut answer = [0; 4];
+    unsafe {
+        raw::tangents_sharpen_edges(
+            n, p, h.as_ptr(), h.len(), normals.as_ptr(), normals.len(), angle, smooth, halfedges.as_mut_ptr(), halfedges.len(),
+            smoothness.as_mut_ptr(), smoothness.len(), answer.as_mut_ptr(), 4,
+        );
+    }
+    outcome(answer).map(|[entries, tally]| Listed { entries, tally })
+}
+
+/// The two counts of spreading.
+#[derive(Clone, Copy, Debug, PartialEq, Eq)]
+pub struct Counts {
+    pub looked: usize,
+    pub turned: usize,
+}
+
+/// Spreading: the Rust's `distribute_tangents`. The two scratch lists have one place per halfedge and hold zeros afterwards.
+#[allow(clippy::too_many_arguments)]
+pub fn distribute_tangents(
+    n: usize, p: usize, h: &[i32], pos: &[f64], normals: &[f64], flags: &[u8], t: &mut [f64], current: &mut [f64], desired: &mut [f64],
+) -> Result<Counts, Refused> {
+    let mut answer = [0; 4];
+    unsafe {
+        raw::tangents_distribute_tangents(
+            n, p, h.as_ptr(), h.len(), pos.as_ptr(), pos.len(), normals.as_ptr(), normals.len(), flags.as_ptr(), flags.len(),
+            t.as_mut_ptr(), t.len(), current.as_mut_ptr(), current.len(), desired.as_mut_ptr(), desired.len(), answer.as_mut_ptr(), 4,
+        );
+    }
+    outcome(answer).map(|[looked, turned]| Counts { looked, turned })
+}

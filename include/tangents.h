@@ -1,0 +1,44 @@
+/* The unit's calls for C: `rt staticlib capi` makes target/staticlib/libcapi.a. docs/CALLS.md says more of each.
+ *
+ * n is the number of halfedges and p the number of points, at most 65,535 each. A list is a pointer and its length in elements;
+ * lists that are written must not overlap any other. h has start, end and pair of each halfedge (3 n), pos three numbers for
+ * each point (3 p), t the tangents (4 n: x, y, z and the weight).
+ *
+ * Every call answers through `answer`, four numbers: the number of the first question of document 01 that the mesh does not
+ * meet (0 if it is accepted), its lowest place, and the two numbers of an accepted call. A shorter list gets as many as it
+ * holds. A refused call writes nothing else. */
+#ifndef TANGENTS_H
+#define TANGENTS_H
+
+#include <stddef.h>
+#include <stdint.h>
+
+#ifdef __cplusplus
+extern "C" {
+#endif
+
+/* Straightening: writes t. */
+void tangents_linearize_flat_tangents(size_t n, size_t p, const int32_t *h, size_t h_len, const double *pos, size_t pos_len,
+                                      double *t, size_t t_len, size_t *answer, size_t answer_len);
+
+/* The mark check: answer[2] is 1 for yes and 0 for no. Tangents of another length than 4 n answer yes. */
+void tangents_valid_tangents(size_t n, size_t p, const int32_t *h, size_t h_len, const double *pos, size_t pos_len,
+                             const double *t, size_t t_len, size_t *answer, size_t answer_len);
+
+/* The crease listing: normals has three numbers for each triangle, angle is in degrees. Writes the entries into halfedges and
+ * smoothness, n places each; answer[2] is the number of entries and answer[3] the number of edges. */
+void tangents_sharpen_edges(size_t n, size_t p, const int32_t *h, size_t h_len, const double *normals, size_t normals_len,
+                            double angle, double smooth, size_t *halfedges, size_t halfedges_len, double *smoothness,
+                            size_t smoothness_len, size_t *answer, size_t answer_len);
+
+/* Spreading: normals has three numbers for each point, flags one of 0 and 1 for each halfedge, and the scratch lists current
+ * and desired a place for each halfedge; they hold zeros afterwards. Writes t; answer[2] is looked and answer[3] turned. */
+void tangents_distribute_tangents(size_t n, size_t p, const int32_t *h, size_t h_len, const double *pos, size_t pos_len,
+                                  const double *normals, size_t normals_len, const uint8_t *flags, size_t flags_len, double *t,
+                                  size_t t_len, double *current, size_t current_len, double *desired, size_t desired_len,
+                                  size_t *answer, size_t answer_len);
+
+#ifdef __cplusplus
+}
+#endif
+#endif
