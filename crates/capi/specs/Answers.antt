@@ -1,7 +1,6 @@
 -- How an answer goes back through a lent list: the number of the refusal (0 where the call is accepted), its place, and the two numbers of an accepted call. Places that the list lacks are left out.
 use Prim.Native.Nat.{ℕ}
 use mathlib.Core.List.{List}
-use mathlib.Core.Bool.{Bool, true, false}
 use lib.ListN.{set}
 use Rattle.mesh.specs.declared.Checked.{Checked}
 use Rattle.mesh.specs.Check.{numberOf, placeOf}
