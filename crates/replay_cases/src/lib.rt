@@ -1,7 +1,7 @@
 // A case of a file of the oracle's answers to calls on meshes: its counts, its refusal and its lists. A list that is longer
 // than its room reads as empty.
 ghost use Prim.Native.Nat.{_≤_};
-ghost use Rattle.replay_cases.specs.Front.{Front};
+ghost use Rattle.little_endian.specs.Front.{Front};
 use mesh::Checked;
 
 // Where the lists of a case are, its counts, and the refusal that it ends in: number 0 where it is accepted.

@@ -1,5 +1,5 @@
 -- `replay_cases::read_case` is safe and ends. Assumes nothing.
-use Rattle.replay_cases.proofs.Fronts.{front}
+use Rattle.little_endian.proofs.Fronts.{front}
 use borrow.Author.Needs.{needs}
 use Rattle.replay_cases.proofs.read_case.Statement.{statement}
 use Rattle.replay_cases.proofs.read_case.Tie as tie

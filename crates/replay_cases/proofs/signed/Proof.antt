@@ -1,6 +1,6 @@
 -- `replay_cases::signed` meets its contract: the list is read only where it has room. Assumes nothing.
 use borrow.Author.Needs.{needs}
-use Rattle.replay_cases.proofs.Fronts.{front}
+use Rattle.little_endian.proofs.Fronts.{front}
 use Rattle.replay_cases.proofs.signed.Statement.{statement}
 use Rattle.replay_cases.proofs.signed.Tie as tie
 

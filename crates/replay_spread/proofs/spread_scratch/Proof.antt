@@ -1,5 +1,5 @@
 -- `replay_spread::spread_scratch` is safe and ends. Assumes nothing.
-use Rattle.replay_cases.proofs.Fronts.{front}
+use Rattle.little_endian.proofs.Fronts.{front}
 use borrow.Author.Needs.{needs}
 use Rattle.replay_spread.proofs.spread_scratch.Statement.{statement}
 use Rattle.replay_spread.proofs.spread_scratch.Tie as tie

@@ -1,5 +1,5 @@
 -- `replay_mesh::flat_in` is safe and ends. Assumes nothing.
-use Rattle.replay_cases.proofs.Fronts.{front}
+use Rattle.little_endian.proofs.Fronts.{front}
 use borrow.Author.Needs.{needs}
 use Rattle.replay_mesh.proofs.leaves.flat_in.Statement.{statement}
 use Rattle.replay_mesh.proofs.leaves.flat_in.Tie as tie

@@ -1,2 +1,0 @@
--- The laws of `replay_cases`, for the programs too.
-pub mod Fronts

@@ -1,2 +1,0 @@
--- What the contracts of `replay_cases` cite.
-pub mod Front
