@@ -2,15 +2,20 @@
 // Reads past the end of a list give a default, so that a check survives lists of any length and content.
 mod questions;
 
+use questions::all_at;
 use questions::counts_fit;
 use questions::test_at;
 ghost use mathlib.Core.Path.{_≡_};
 ghost use mathlib.Core.List.{[]};
 ghost use mathlib.Core.Bool.{_&&_};
-ghost use Prim.Native.Nat.{_+_, _<_, _≤_, _^_};
-ghost use Rattle.mesh.specs.Mesh.{numberAt, field, startVert, endVert, pairedHalfedge, isForward, nextHalfedge, prevHalfedge, eqZ, refAt, sameFace};
+ghost use Prim.Native.Nat.{_+_, _*_, _%_, _<_, _≤_, _^_};
+ghost use lib.ListN.{length};
+ghost use lib.Dec.{leb};
+ghost use Rattle.mesh.specs.Mesh.{halfedgeStride, numberAt, field, startVert, endVert, pairedHalfedge, isForward, nextHalfedge, prevHalfedge, eqZ, refAt, sameFace};
 ghost use Rattle.mesh.specs.Scalar.{radiansOf};
+ghost use Rattle.mesh.specs.Lowest.{lowest};
 ghost use Rattle.mesh.specs.Questions.{hasLength, testAt};
+ghost use Rattle.mesh.specs.All.{allAt, askEach};
 ghost use Rattle.mesh.specs.Check.{numberOf, placeOf, each, _then_, checkMesh, checkRefs, checkEntries, checkFlags};
 
 // The limits of question 1.
@@ -63,6 +68,15 @@ fn field(h: &[i32], e: usize, k: usize) -> usize
     ensures { λ r. ⌜ r ≡ field (now (h .entry)) e k ⌝ }
 {
     let x = number_at(h, e, HALFEDGE_STRIDE, k);
+    if x < 0 { NO_INDEX } else { x as usize }
+}
+
+// The same within the list.
+fn field_within(h: &[i32], e: usize, k: usize) -> usize
+    requires { ⌜ e * halfedgeStride + k < length (now h) ⌝ }
+    ensures { λ r. ⌜ r ≡ field (now (h .entry)) e k ⌝ }
+{
+    let x = h[e * HALFEDGE_STRIDE + k];
     if x < 0 { NO_INDEX } else { x as usize }
 }
 
@@ -211,6 +225,35 @@ fn ask_numbers(
     ask(sofar, number, q, numbers, &[], &[], &[], n, p, places)
 }
 
+// Are the questions 3 to 7 answered yes at every halfedge? One pass, which an accepted mesh does not leave early.
+fn all_hold(h: &[i32], n: usize, p: usize) -> bool
+    requires { ⌜ n % 3 ≡ 0 ⌝ }
+    ensures { λ r. ⌜ r ≡ hasLength (length (now (h .entry))) n halfedgeStride && leb n (lowest (allAt (now (h .entry)) n p) n) ⌝ }
+{
+    if !has_length(h.len(), n, HALFEDGE_STRIDE) {
+        return false;
+    }
+    let mut e = 0;
+    while e < n {
+        if !all_at(h, n, p, e) {
+            return false;
+        }
+        e += 1;
+    }
+    true
+}
+
+// The questions 3 to 7, one after the other.
+fn ask_each(h: &[i32], n: usize, p: usize) -> Checked
+    ensures { λ r. ⌜ r ≡ askEach (now (h .entry)) n p ⌝ }
+{
+    let points = ask_numbers(Checked::Accepted, 3, Question::Points, h, n, p, n);
+    let pair = ask_numbers(points, 4, Question::Pair, h, n, p, n);
+    let mutual = ask_numbers(pair, 5, Question::Mutual, h, n, p, n);
+    let opposite = ask_numbers(mutual, 6, Question::Opposite, h, n, p, n);
+    ask_numbers(opposite, 7, Question::Joined, h, n, p, n)
+}
+
 // The questions 1 to 7. `lengths` is the answer to question 2, which the caller finds of its own lists by `has_length`.
 pub fn check_mesh(h: &[i32], n: usize, p: usize, lengths: bool) -> Checked
     ensures { λ r. ⌜ r ≡ checkMesh (now (h .entry)) n p lengths ⌝ }
@@ -227,11 +270,10 @@ pub fn check_mesh(h: &[i32], n: usize, p: usize, lengths: bool) -> Checked
             place: 0,
         };
     }
-    let points = ask_numbers(Checked::Accepted, 3, Question::Points, h, n, p, n);
-    let pair = ask_numbers(points, 4, Question::Pair, h, n, p, n);
-    let mutual = ask_numbers(pair, 5, Question::Mutual, h, n, p, n);
-    let opposite = ask_numbers(mutual, 6, Question::Opposite, h, n, p, n);
-    ask_numbers(opposite, 7, Question::Joined, h, n, p, n)
+    if all_hold(h, n, p) {
+        return Checked::Accepted;
+    }
+    ask_each(h, n, p)
 }
 
 // Question 8, after earlier answers: the face references of the triangles.

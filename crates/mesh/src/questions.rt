@@ -5,13 +5,17 @@ use super::Question;
 use super::REF_STRIDE;
 use super::both;
 use super::end_vert;
+use super::field_within;
 use super::next_halfedge;
 use super::number_at;
 use super::paired_halfedge;
 use super::start_vert;
 ghost use mathlib.Core.Path.{_≡_};
-ghost use Prim.Native.Nat.{_+_, _<_, _^_};
+ghost use Prim.Native.Nat.{_+_, _*_, _%_, _<_, _^_};
+ghost use lib.ListN.{length};
+ghost use Rattle.mesh.specs.Mesh.{halfedgeStride};
 ghost use Rattle.mesh.specs.Questions.{countsFit, hasPoints, isOpposite, isJoined, namesHalfedge, hasClearSign, isFlag, testAt};
+ghost use Rattle.mesh.specs.All.{allAt};
 
 pub fn counts_fit(n: usize, p: usize) -> bool
     ensures { λ r. ⌜ r ≡ countsFit n p ⌝ }
@@ -42,6 +46,29 @@ pub fn is_joined(h: &[i32], e: usize) -> bool
     ensures { λ r. ⌜ r ≡ isJoined (now (h .entry)) e ⌝ }
 {
     start_vert(h, next_halfedge(e)) == end_vert(h, e)
+}
+
+// The questions 3 to 7 at halfedge e, from one reading of its numbers.
+pub fn all_at(h: &[i32], n: usize, p: usize, e: usize) -> bool
+    requires { ⌜ (length (now h) ≡ n * halfedgeStride) × (n % 3 ≡ 0) × (e < n) ⌝ }
+    ensures { λ r. ⌜ r ≡ allAt (now (h .entry)) n p e ⌝ }
+{
+    let start = field_within(h, e, 0);
+    let end = field_within(h, e, 1);
+    let pair = field_within(h, e, 2);
+    if pair >= n {
+        return false;
+    }
+    let mutual = field_within(h, pair, 2) == e;
+    let opposite = both(
+        both(start != end, field_within(h, pair, 0) == end),
+        field_within(h, pair, 1) == start,
+    );
+    let joined = field_within(h, next_halfedge(e), 0) == end;
+    both(
+        both(both(both(start < p, end < p), mutual), opposite),
+        joined,
+    )
 }
 
 pub fn names_halfedge(halfedges: &[usize], n: usize, k: usize) -> bool
