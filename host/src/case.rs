@@ -1,6 +1,6 @@
 //! The oracle's text format: cases, answers, and the unit's answer to a case, written as the oracle writes it.
 
-use crate::{distribute_tangents, linearize_flat_tangents, sharpen_edges, valid_tangents, Refused};
+use crate::{create_tangents, distribute_tangents, linearize_flat_tangents, sharpen_edges, valid_tangents, CreateScratch, Refused};
 use std::collections::BTreeMap;
 use std::fmt::Write as _;
 
@@ -87,6 +87,11 @@ fn decimal(name: &str, xs: &[usize]) -> String {
     s
 }
 
+/// Whether a making has old tangents, and the list that it writes: the old ones, or something else of their length.
+fn old_tangents(c: &Block, n: usize, t: Vec<f64>) -> (bool, Vec<f64>) {
+    if c.has("tan") { (true, t) } else { (false, vec![-1.0; 4 * n.min(1 << 20)]) }
+}
+
 /// The unit's answer to a case, line by line as the oracle writes it, or `None` for an operation that the unit has no call for.
 pub fn answer(c: &Block) -> Option<Result<Vec<String>, Refused>> {
     let (n, p) = c.counts();
@@ -111,6 +116,17 @@ pub fn answer(c: &Block) -> Option<Result<Vec<String>, Refused>> {
             distribute_tangents(n, p, &h, &pos, &c.floats("vn"), &c.bytes("fl"), &mut t, &mut current, &mut desired).map(|k| {
                 assert!(current.iter().chain(&desired).all(|x| x.to_bits() == 0), "scratch is left");
                 vec![hex("tan", &t), format!("looked {} turned {}", k.looked, k.turned)]
+            })
+        }
+        "sharp" => {
+            let (old, mut t) = old_tangents(c, n, t);
+            let mut scratch = CreateScratch::new(n.min(1 << 20), p.min(1 << 20), 7);
+            create_tangents(
+                n, p, &h, &pos, &c.floats("vn"), &c.floats("fn"), &c.signed("ref"), &c.numbers("sh"), &c.floats("ss"), old, &mut t, &mut scratch,
+            )
+            .map(|()| {
+                assert!(scratch.is_zero(), "scratch is left");
+                vec![hex("tan", &t)]
             })
         }
         _ => return None,

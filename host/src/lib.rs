@@ -24,6 +24,14 @@ mod raw {
             flags: *const u8, flags_len: usize, t: *mut f64, t_len: usize, current: *mut f64, current_len: usize,
             desired: *mut f64, desired_len: usize, answer: *mut usize, answer_len: usize,
         );
+        pub fn tangents_create_tangents(
+            n: usize, p: usize, h: *const i32, h_len: usize, pos: *const f64, pos_len: usize, normals: *const f64, normals_len: usize,
+            face_normals: *const f64, face_normals_len: usize, refs: *const i32, refs_len: usize,
+            entries: *const usize, entries_len: usize, values: *const f64, values_len: usize, old: usize, t: *mut f64, t_len: usize,
+            fixed: *mut u8, fixed_len: usize, flat: *mut u8, flat_len: usize, smooth: *mut f64, smooth_len: usize,
+            desired: *mut f64, desired_len: usize, at: *mut usize, at_len: usize, link: *mut usize, link_len: usize,
+            answer: *mut usize, answer_len: usize,
+        );
     }
 }
 
@@ -104,4 +112,48 @@ pub fn distribute_tangents(
         );
     }
     outcome(answer).map(|[looked, turned]| Counts { looked, turned })
+}
+
+/// The scratch lists of `create_tangents`: one place per point in `at`, one per halfedge in each other. They hold zeros afterwards.
+#[derive(Clone, Debug)]
+pub struct CreateScratch {
+    pub fixed: Vec<u8>,
+    pub flat: Vec<u8>,
+    pub smooth: Vec<f64>,
+    pub desired: Vec<f64>,
+    pub at: Vec<usize>,
+    pub link: Vec<usize>,
+}
+
+impl CreateScratch {
+    /// For n halfedges and p points, with `x` in every place.
+    pub fn new(n: usize, p: usize, x: u8) -> Self {
+        let (f, u) = (f64::from(x), usize::from(x));
+        CreateScratch { fixed: vec![x; n], flat: vec![x; n], smooth: vec![f; n], desired: vec![f; n], at: vec![u; p], link: vec![u; n] }
+    }
+
+    pub fn is_zero(&self) -> bool {
+        self.fixed.iter().chain(&self.flat).all(|&x| x == 0)
+            && self.smooth.iter().chain(&self.desired).all(|x| x.to_bits() == 0)
+            && self.at.iter().chain(&self.link).all(|&x| x == 0)
+    }
+}
+
+/// Making from sharp edges: the Rust's `create_tangents`. With `old` the tangents t hold the old ones.
+#[allow(clippy::too_many_arguments)]
+pub fn create_tangents(
+    n: usize, p: usize, h: &[i32], pos: &[f64], normals: &[f64], face_normals: &[f64], refs: &[i32], entries: &[usize], values: &[f64],
+    old: bool, t: &mut [f64], scratch: &mut CreateScratch,
+) -> Result<(), Refused> {
+    let mut answer = [0; 4];
+    let s = scratch;
+    unsafe {
+        raw::tangents_create_tangents(
+            n, p, h.as_ptr(), h.len(), pos.as_ptr(), pos.len(), normals.as_ptr(), normals.len(), face_normals.as_ptr(), face_normals.len(),
+            refs.as_ptr(), refs.len(), entries.as_ptr(), entries.len(), values.as_ptr(), values.len(), usize::from(old), t.as_mut_ptr(), t.len(),
+            s.fixed.as_mut_ptr(), s.fixed.len(), s.flat.as_mut_ptr(), s.flat.len(), s.smooth.as_mut_ptr(), s.smooth.len(),
+            s.desired.as_mut_ptr(), s.desired.len(), s.at.as_mut_ptr(), s.at.len(), s.link.as_mut_ptr(), s.link.len(), answer.as_mut_ptr(), 4,
+        );
+    }
+    outcome(answer).map(|_| ())
 }

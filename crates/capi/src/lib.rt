@@ -2,12 +2,17 @@
 // of the refusal or 0, its place, and the two numbers of an accepted call). A slice is a pointer and a length.
 // include/tangents.h declares them.
 ghost use mathlib.Core.Path.{_≡_};
-ghost use lib.ListN.{set};
+ghost use mathlib.Core.Bool.{not};
+ghost use lib.ListN.{set, replicate};
+ghost use lib.Dec.{eqb};
+ghost use Rattle.float.specs.Ops.{zero};
 ghost use Rattle.linearize.specs.Linearize.{linearizeAnswer, tangentsAfter};
 ghost use Rattle.validate.specs.Validate.{validAnswer};
 ghost use Rattle.sharpen.specs.Sharpen.{sharpenEdges, entriesAfter};
 ghost use Rattle.distribute.specs.Distribute.{distributeTangents, scratchAfter, checkLists};
 ghost use Rattle.distribute.specs.Distribute.{tangentsAfter as spreadAfter};
+ghost use Rattle.create.specs.Create.{whenAccepted};
+ghost use Rattle.create.specs.Create.{checkLists as checkCreate, tangentsAfter as createdTangents};
 ghost use Rattle.capi.specs.Answers.{put, putChecked, putValidity, putListing, putSpreading};
 
 fn put_at(answer: &mut [usize], k: usize, x: usize)
@@ -135,5 +140,64 @@ pub extern "C" fn tangents_distribute_tangents(
         distribute::place_of(spreading),
         distribute::looked_of(spreading),
         distribute::turned_of(spreading),
+    );
+}
+
+// Making from sharp edges. `old` says whether the tangents lent are old ones: 0 for no.
+#[no_mangle]
+pub extern "C" fn tangents_create_tangents(
+    n: usize,
+    p: usize,
+    h: &[i32],
+    pos: &[f64],
+    normals: &[f64],
+    face_normals: &[f64],
+    refs: &[i32],
+    entries: &[usize],
+    values: &[f64],
+    old: usize,
+    t: &mut [f64],
+    fixed: &mut [u8],
+    flat: &mut [u8],
+    smooth: &mut [f64],
+    desired: &mut [f64],
+    at: &mut [usize],
+    link: &mut [usize],
+    answer: &mut [usize],
+)
+    ensures { λ _. ⌜ now (t .exit) ≡ createdTangents (checkCreate (now (h .entry)) (now (pos .entry)) (now (normals .entry)) (now («face_normals» .entry)) (now (refs .entry)) (now (entries .entry)) (now (values .entry)) (now (t .entry)) (now (fixed .entry)) (now (flat .entry)) (now (smooth .entry)) (now (desired .entry)) (now (at .entry)) (now (link .entry)) n p) (now (h .entry)) (now (pos .entry)) (now (normals .entry)) (now («face_normals» .entry)) (now (refs .entry)) (now (entries .entry)) (now (values .entry)) (now (t .entry)) (not (eqb old 0)) n p ⌝ }
+    ensures { λ _. ⌜ now (fixed .exit) ≡ whenAccepted (checkCreate (now (h .entry)) (now (pos .entry)) (now (normals .entry)) (now («face_normals» .entry)) (now (refs .entry)) (now (entries .entry)) (now (values .entry)) (now (t .entry)) (now (fixed .entry)) (now (flat .entry)) (now (smooth .entry)) (now (desired .entry)) (now (at .entry)) (now (link .entry)) n p) (replicate n 0) (now (fixed .entry)) ⌝ }
+    ensures { λ _. ⌜ now (flat .exit) ≡ whenAccepted (checkCreate (now (h .entry)) (now (pos .entry)) (now (normals .entry)) (now («face_normals» .entry)) (now (refs .entry)) (now (entries .entry)) (now (values .entry)) (now (t .entry)) (now (fixed .entry)) (now (flat .entry)) (now (smooth .entry)) (now (desired .entry)) (now (at .entry)) (now (link .entry)) n p) (replicate n 0) (now (flat .entry)) ⌝ }
+    ensures { λ _. ⌜ now (smooth .exit) ≡ whenAccepted (checkCreate (now (h .entry)) (now (pos .entry)) (now (normals .entry)) (now («face_normals» .entry)) (now (refs .entry)) (now (entries .entry)) (now (values .entry)) (now (t .entry)) (now (fixed .entry)) (now (flat .entry)) (now (smooth .entry)) (now (desired .entry)) (now (at .entry)) (now (link .entry)) n p) (replicate n zero) (now (smooth .entry)) ⌝ }
+    ensures { λ _. ⌜ now (desired .exit) ≡ whenAccepted (checkCreate (now (h .entry)) (now (pos .entry)) (now (normals .entry)) (now («face_normals» .entry)) (now (refs .entry)) (now (entries .entry)) (now (values .entry)) (now (t .entry)) (now (fixed .entry)) (now (flat .entry)) (now (smooth .entry)) (now (desired .entry)) (now (at .entry)) (now (link .entry)) n p) (replicate n zero) (now (desired .entry)) ⌝ }
+    ensures { λ _. ⌜ now (at .exit) ≡ whenAccepted (checkCreate (now (h .entry)) (now (pos .entry)) (now (normals .entry)) (now («face_normals» .entry)) (now (refs .entry)) (now (entries .entry)) (now (values .entry)) (now (t .entry)) (now (fixed .entry)) (now (flat .entry)) (now (smooth .entry)) (now (desired .entry)) (now (at .entry)) (now (link .entry)) n p) (replicate p 0) (now (at .entry)) ⌝ }
+    ensures { λ _. ⌜ now (link .exit) ≡ whenAccepted (checkCreate (now (h .entry)) (now (pos .entry)) (now (normals .entry)) (now («face_normals» .entry)) (now (refs .entry)) (now (entries .entry)) (now (values .entry)) (now (t .entry)) (now (fixed .entry)) (now (flat .entry)) (now (smooth .entry)) (now (desired .entry)) (now (at .entry)) (now (link .entry)) n p) (replicate n 0) (now (link .entry)) ⌝ }
+    ensures { λ _. ⌜ now (answer .exit) ≡ putChecked (now (answer .entry)) (checkCreate (now (h .entry)) (now (pos .entry)) (now (normals .entry)) (now («face_normals» .entry)) (now (refs .entry)) (now (entries .entry)) (now (values .entry)) (now (t .entry)) (now (fixed .entry)) (now (flat .entry)) (now (smooth .entry)) (now (desired .entry)) (now (at .entry)) (now (link .entry)) n p) ⌝ }
+{
+    let checked = create::create_tangents(
+        n,
+        p,
+        h,
+        pos,
+        normals,
+        face_normals,
+        refs,
+        entries,
+        values,
+        old != 0,
+        t,
+        fixed,
+        flat,
+        smooth,
+        desired,
+        at,
+        link,
+    );
+    put_answer(
+        answer,
+        mesh::number_of(checked),
+        mesh::place_of(checked),
+        0,
+        0,
     );
 }

@@ -1,4 +1,2 @@
--- The laws of `create`: those that the crates above cite are public.
-pub mod Lent
-mod Create
-mod Pillow
+-- The laws of `create`, for the crates above.
+pub mod Accepted

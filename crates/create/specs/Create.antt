@@ -1,32 +1,49 @@
--- `create_tangents` up to straightening and spreading. H are the halfedges, R the face references, P the positions, N the point normals, A the face normals, O the tangents as lent, `old` whether these are old tangents, I and Q the halfedges and the smoothness of the entries.
-use Prim.Native.Nat.{ℕ, _*_}
-use mathlib.Core.Path.{_≡_}
+-- Making from sharp edges as a public call: `create_tangents` of src/smoothing_tangents.rs, with its questions. H are the halfedges, P the positions, N the point normals, A the face normals, R the face references, I and Q the halfedges and the smoothness of the sharp entries, T the tangents, `old` whether these are old tangents, X, F, S, D, C and L the scratch lists `fixed`, `flat`, `smooth`, `desired`, `at` and `link`, n and p the counts of halfedges and points.
+use Prim.Native.Nat.{ℕ, _/_}
 use mathlib.Core.List.{List}
-use mathlib.Core.Bool.{Bool}
-use lib.ListN.{length, replicate}
+use mathlib.Core.Bool.{Bool, _&&_}
+use lib.ListN.{length}
 use lib.IntN.{ℤ}
 use lib.Ieee.{Float}
-use Rattle.mesh.specs.Sound.{Sound}
-use Rattle.faces.specs.Faces.{flatFaces}
-use Rattle.edges.specs.Smoothness.{EntriesIn, smoothness}
-use Rattle.first.specs.First.{firstTangents}
-use Rattle.shapes.specs.Shapes.{Tangents, tangentsOf, shapeVerts}
+use Rattle.mesh.specs.Mesh.{halfedgeStride, refStride}
+use Rattle.mesh.specs.Questions.{hasLength}
+use Rattle.mesh.specs.Check.{checkMesh, checkRefs, checkEntries}
+use Rattle.mesh.specs.declared.Checked.{Checked}
+use Rattle.mesh.specs.declared.Checked.the-variants.{Accepted, Refused}
+use Rattle.create_core.specs.Core.{createTangents}
 
--- What the lists must be for a call: T the tangents, X the fixed flags, F, S, C and L scratch. C has a place for each point, the other three one for each of the n halfedges.
-pub record CreateLists (H : List ℤ) (P N A : List Float) (I : List ℕ) (Q T : List Float) (X F : List ℕ) (S : List Float) (C L : List ℕ) (n : ℕ) : Type 0 where
-  pub sound : Sound H n (length C)
-  pub positions : length P ≡ length C * 3
-  pub normals : length N ≡ length C * 3
-  pub face-normals : length A ≡ n
-  pub entries : EntriesIn I Q n
-  pub tangents : length T ≡ n * 4
-  pub fixed : length X ≡ n
-  pub flat : length F ≡ n
-  pub smooth : length S ≡ n
-  pub links : length L ≡ n
+-- ---- the questions
 
--- the tangents and the fixed flags of n halfedges and p points; no halfedge is fixed to begin with
-unfoldable pub shapedTangents : List ℤ → List ℤ → List Float → List Float → List Float → List ℕ → List Float → List Float → Bool → ℕ → ℕ → Tangents
-shapedTangents H R P N A I Q O old n p =
-    let F = flatFaces H R n in
-    shapeVerts H P F (smoothness H R F I Q n) n p (tangentsOf (firstTangents H R P N A O old n) (replicate n 0))
+-- question 2 of the lists that the call reads, and of the tangents: what their lengths must be
+abbrev pub listsFit : ℕ → ℕ → ℕ → ℕ → ℕ → ℕ → ℕ → ℕ → ℕ → ℕ → Bool
+listsFit halfedges positions normals faceNormals refs entries values tangents n p =
+    hasLength halfedges n halfedgeStride && hasLength positions p 3 && hasLength normals p 3
+    && hasLength faceNormals (n / 3) 3 && hasLength refs (n / 3) refStride
+    && hasLength values entries 1 && hasLength tangents n 4
+
+-- question 2 of scratch: `at` has a place for each point, each other list one for each halfedge
+abbrev pub scratchFits : ℕ → ℕ → ℕ → ℕ → ℕ → ℕ → ℕ → ℕ → Bool
+scratchFits fixed flat smooth desired at link n p =
+    hasLength fixed n 1 && hasLength flat n 1 && hasLength smooth n 1 && hasLength desired n 1 && hasLength at p 1 && hasLength link n 1
+
+-- questions 1 to 10; `lengths` is the answer to question 2
+unfoldable pub checkCreate : List ℤ → List ℤ → List ℕ → List Float → ℕ → ℕ → Bool → Checked
+checkCreate H R I Q n p lengths = checkEntries (checkRefs (checkMesh H n p lengths) R n) I Q n
+
+-- the answer, for every input
+abbrev pub checkLists : List ℤ → List Float → List Float → List Float → List ℤ → List ℕ → List Float → List Float → List ℕ → List ℕ → List Float → List Float → List ℕ → List ℕ → ℕ → ℕ → Checked
+checkLists H P N A R I Q T X F S D C L n p =
+    let lists = listsFit (length H) (length P) (length N) (length A) (length R) (length I) (length Q) (length T) n p in
+    let scratch = scratchFits (length X) (length F) (length S) (length D) (length C) (length L) n p in
+    checkCreate H R I Q n p (lists && scratch)
+
+-- ---- the call
+
+-- what a call with this answer leaves in a list: when it is accepted `after`, when it is refused the list as lent
+abbrev pub whenAccepted : {A : Type 0} → Checked → List A → List A → List A
+whenAccepted Accepted after lent = after
+whenAccepted (Refused number place) after lent = lent
+
+-- the tangents after a call with this answer
+abbrev pub tangentsAfter : Checked → List ℤ → List Float → List Float → List Float → List ℤ → List ℕ → List Float → List Float → Bool → ℕ → ℕ → List Float
+tangentsAfter answer H P N A R I Q T old n p = whenAccepted answer (createTangents H P N A R I Q T old n p) T

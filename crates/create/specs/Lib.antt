@@ -1,2 +1,2 @@
--- The specs of `create`, in the order of reading.
+-- The specs of `create`.
 pub mod Create

@@ -1,29 +1,95 @@
-// `create_tangents` up to straightening and spreading: the first tangents, the creases, and what they do at each point.
+// `create_tangents` of src/smoothing_tangents.rs (document 01's making from sharp edges) as a public call: its
+// questions, and then `create_core`.
 ghost use mathlib.Core.Path.{_≡_};
-ghost use lib.ListN.{length, replicate};
-ghost use Rattle.shapes.specs.Shapes.{tangentsOf};
-ghost use Rattle.create.specs.Create.{CreateLists, shapedTangents};
+ghost use lib.ListN.{replicate};
+ghost use Rattle.float.specs.Ops.{zero};
+ghost use Rattle.create.specs.Create.{listsFit, scratchFits, checkCreate, checkLists, whenAccepted, tangentsAfter};
+use mesh::Checked;
 
-// No halfedge is fixed to begin with.
-fn clear_flags(fixed: &mut [u8])
-    ensures { λ _. ⌜ now (fixed .exit) ≡ replicate (length (now (fixed .entry))) 0 ⌝ }
+// Question 2 of the lists that the call reads, and of the tangents, from the length of each.
+fn lists_fit(
+    n: usize,
+    p: usize,
+    halfedges: usize,
+    positions: usize,
+    normals: usize,
+    face_normals: usize,
+    refs: usize,
+    entries: usize,
+    values: usize,
+    tangents: usize,
+) -> bool
+    ensures { λ r. ⌜ r ≡ listsFit halfedges positions normals «face_normals» refs entries values tangents n p ⌝ }
 {
-    let mut e = 0;
-    while e < fixed.len() {
-        fixed[e] = 0;
-        e += 1;
-    }
+    let points = mesh::both(
+        mesh::both(
+            mesh::has_length(halfedges, n, mesh::HALFEDGE_STRIDE),
+            mesh::has_length(positions, p, 3),
+        ),
+        mesh::has_length(normals, p, 3),
+    );
+    let faces = mesh::both(
+        mesh::both(points, mesh::has_length(face_normals, n / 3, 3)),
+        mesh::has_length(refs, n / 3, mesh::REF_STRIDE),
+    );
+    mesh::both(
+        mesh::both(faces, mesh::has_length(values, entries, 1)),
+        mesh::has_length(tangents, n, 4),
+    )
 }
 
-// The tangents and the fixed flags, whatever the flags and the scratch lists held: `flat`, `smooth` and `link` with a place for
-// each halfedge, `at` with one for each point.
-pub fn shape_tangents(
+// Question 2 of the scratch lists, from the length of each.
+fn scratch_fits(
     n: usize,
+    p: usize,
+    fixed: usize,
+    flat: usize,
+    smooth: usize,
+    desired: usize,
+    at: usize,
+    link: usize,
+) -> bool
+    ensures { λ r. ⌜ r ≡ scratchFits fixed flat smooth desired at link n p ⌝ }
+{
+    let flags = mesh::both(mesh::has_length(fixed, n, 1), mesh::has_length(flat, n, 1));
+    let angles = mesh::both(
+        mesh::both(flags, mesh::has_length(smooth, n, 1)),
+        mesh::has_length(desired, n, 1),
+    );
+    mesh::both(
+        mesh::both(angles, mesh::has_length(at, p, 1)),
+        mesh::has_length(link, n, 1),
+    )
+}
+
+// The questions 1 to 10; `lengths` is the answer to question 2.
+fn check_create(
+    n: usize,
+    p: usize,
     h: &[i32],
     refs: &[i32],
+    entries: &[usize],
+    values: &[f64],
+    lengths: bool,
+) -> Checked
+    ensures { λ r. ⌜ r ≡ checkCreate (now (h .entry)) (now (refs .entry)) (now (entries .entry)) (now (values .entry)) n p lengths ⌝ }
+{
+    let checked = mesh::check_mesh(h, n, p, lengths);
+    mesh::check_entries(mesh::check_refs(checked, refs, n), entries, values, n)
+}
+
+// Making from sharp edges, for lists of any length and content. `pos` and `normals` have three numbers for each point,
+// `face_normals` and `refs` three for each triangle; `entries` and `values` are the halfedges and the smoothness of the
+// sharp entries. With `old` the tangents t hold the old ones. Of the scratch lists `at` has a place for each point, each
+// other one for each halfedge.
+pub fn create_tangents(
+    n: usize,
+    p: usize,
+    h: &[i32],
     pos: &[f64],
     normals: &[f64],
     face_normals: &[f64],
+    refs: &[i32],
     entries: &[usize],
     values: &[f64],
     old: bool,
@@ -31,14 +97,65 @@ pub fn shape_tangents(
     fixed: &mut [u8],
     flat: &mut [u8],
     smooth: &mut [f64],
+    desired: &mut [f64],
     at: &mut [usize],
     link: &mut [usize],
-)
-    requires { ⌜ CreateLists (now h) (now pos) (now normals) (now «face_normals») (now entries) (now values) (now t) (now fixed) (now flat) (now smooth) (now at) (now link) n ⌝ }
-    ensures { λ _. ⌜ tangentsOf (now (t .exit)) (now (fixed .exit)) ≡ shapedTangents (now (h .entry)) (now (refs .entry)) (now (pos .entry)) (now (normals .entry)) (now («face_normals» .entry)) (now (entries .entry)) (now (values .entry)) (now (t .entry)) old n (length (now (at .entry))) ⌝ }
+) -> Checked
+    ensures answer { λ r. ⌜ r ≡ checkLists (now (h .entry)) (now (pos .entry)) (now (normals .entry)) (now («face_normals» .entry)) (now (refs .entry)) (now (entries .entry)) (now (values .entry)) (now (t .entry)) (now (fixed .entry)) (now (flat .entry)) (now (smooth .entry)) (now (desired .entry)) (now (at .entry)) (now (link .entry)) n p ⌝ }
+    ensures tangents { λ r. ⌜ now (t .exit) ≡ tangentsAfter r (now (h .entry)) (now (pos .entry)) (now (normals .entry)) (now («face_normals» .entry)) (now (refs .entry)) (now (entries .entry)) (now (values .entry)) (now (t .entry)) old n p ⌝ }
+    ensures fixed { λ r. ⌜ now (fixed .exit) ≡ whenAccepted r (replicate n 0) (now (fixed .entry)) ⌝ }
+    ensures flat { λ r. ⌜ now (flat .exit) ≡ whenAccepted r (replicate n 0) (now (flat .entry)) ⌝ }
+    ensures smooth { λ r. ⌜ now (smooth .exit) ≡ whenAccepted r (replicate n zero) (now (smooth .entry)) ⌝ }
+    ensures desired { λ r. ⌜ now (desired .exit) ≡ whenAccepted r (replicate n zero) (now (desired .entry)) ⌝ }
+    ensures at { λ r. ⌜ now (at .exit) ≡ whenAccepted r (replicate p 0) (now (at .entry)) ⌝ }
+    ensures link { λ r. ⌜ now (link .exit) ≡ whenAccepted r (replicate n 0) (now (link .entry)) ⌝ }
 {
-    first::first_tangents(n, h, refs, pos, normals, face_normals, old, t, flat, at);
-    creases::find_creases(n, h, refs, flat, entries, values, smooth, at, link);
-    clear_flags(fixed);
-    shapes::shape_verts(n, h, pos, flat, smooth, at, link, t, fixed);
+    let lengths = mesh::both(
+        lists_fit(
+            n,
+            p,
+            h.len(),
+            pos.len(),
+            normals.len(),
+            face_normals.len(),
+            refs.len(),
+            entries.len(),
+            values.len(),
+            t.len(),
+        ),
+        scratch_fits(
+            n,
+            p,
+            fixed.len(),
+            flat.len(),
+            smooth.len(),
+            desired.len(),
+            at.len(),
+            link.len(),
+        ),
+    );
+    let checked = check_create(n, p, h, refs, entries, values, lengths);
+    let Checked::Accepted = checked else {
+        return checked;
+    };
+    create_core::make_tangents(
+        n,
+        p,
+        h,
+        pos,
+        normals,
+        face_normals,
+        refs,
+        entries,
+        values,
+        old,
+        t,
+        fixed,
+        flat,
+        smooth,
+        desired,
+        at,
+        link,
+    );
+    checked
 }

@@ -15,7 +15,7 @@ use Rattle.mesh.proofs.Accepted.{accepted, flags-accepted}
 use Rattle.distribute_walks.specs.Walks.{Lists}
 use Rattle.distribute.specs.Distribute.{lengthsFit, checkLists}
 
-and-true : (a b : Bool) → a && b ≡ true → (a ≡ true) × (b ≡ true)
+pub and-true : (a b : Bool) → a && b ≡ true → (a ≡ true) × (b ≡ true)
 and-true true b e = (refl, e)
 and-true false b e = absurd (true≢false (sym e))
 

@@ -64,7 +64,7 @@ pub fn turned_of(spreading: Spreading) -> usize
 }
 
 // The loop over the halfedges of an accepted mesh.
-fn spread_all(
+pub fn spread_all(
     n: usize,
     p: usize,
     h: &[i32],
@@ -101,7 +101,7 @@ fn spread_all(
 }
 
 // Zeros for the whole list.
-fn clear(list: &mut [f64])
+pub fn clear(list: &mut [f64])
     ensures { λ _. ⌜ now (list .exit) ≡ replicate (length (now (list .entry))) zero ⌝ }
 {
     let n = list.len();

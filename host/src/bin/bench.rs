@@ -17,15 +17,21 @@ fn unit(c: &Block, repeats: usize) -> (f64, f64) {
     let lent = c.floats("tan");
     let (mut current, mut desired) = (vec![0.0; n], vec![0.0; n]);
     let (mut list, mut smooth) = (vec![0usize; n], vec![0.0; n]);
+    let (refs, entries, values) = (c.signed("ref"), c.numbers("sh"), c.floats("ss"));
+    let mut scratch = CreateScratch::new(n, p, 0);
     let mut ns: Vec<f64> = Vec::new();
     for _ in 0..repeats {
         let mut t = lent.clone();
+        t.resize(4 * n, 0.0);
         let start = Instant::now();
         match c.op.as_str() {
             "straighten" => linearize_flat_tangents(n, p, &h, &pos, &mut t).expect("accepted"),
             "check" => drop(std::hint::black_box(valid_tangents(n, p, &h, &pos, &t).expect("accepted"))),
             "crease" => drop(sharpen_edges(n, p, &h, &fnm, 60.0, 0.0, &mut list, &mut smooth).expect("accepted")),
             "spread" => drop(distribute_tangents(n, p, &h, &pos, &vn, &flags, &mut t, &mut current, &mut desired).expect("accepted")),
+            "sharp" => {
+                create_tangents(n, p, &h, &pos, &vn, &fnm, &refs, &entries, &values, c.has("tan"), &mut t, &mut scratch).expect("accepted")
+            }
             op => panic!("no timing of {op}"),
         }
         ns.push(start.elapsed().as_nanos() as f64 / n as f64);
@@ -51,7 +57,7 @@ fn rust(line: &str) -> (f64, f64) {
 fn main() {
     let args: Vec<String> = std::env::args().skip(1).collect();
     assert!(args.len() >= 3, "bench ORACLE HALFEDGES REPEATS [KIND..]");
-    let all = ["straighten", "check", "crease", "spread"].map(String::from);
+    let all = ["straighten", "check", "crease", "spread", "sharp"].map(String::from);
     let kinds = if args.len() > 3 { &args[3..] } else { &all[..] };
     let file = std::env::temp_dir().join(format!("tangents-bench-{}.txt", std::process::id()));
     println!("| call | halfedges | unit least | unit median | Rust least | Rust median | ratio of least |");

@@ -1,10 +1,11 @@
 //! Compares the unit with the Rust it was ported from, bit for bit.
 //!
-//!     compare ORACLE KIND SEED COUNT      random accepted cases of a kind: straighten, spread, check, crease
+//!     compare ORACLE KIND SEED COUNT      random accepted cases of a kind: straighten, spread, check, crease, sharp
 //!     compare ORACLE refuse SEED COUNT    damaged cases, with the refusal that questions 1 to 11 call for
 //!
 //! ORACLE is the program that runs the unchanged Rust behind a text format: `./build.sh` in the oracle's folder builds it and prints its path.
 
+use std::collections::BTreeMap;
 use std::process::{exit, Command, Stdio};
 use tangents_host::case::{answer, blocks, Block};
 
@@ -48,6 +49,7 @@ fn main() {
     let text = if refuse { oracle(path, &["refuse", seed, count], None) } else { oracle(path, &["gen", kind, seed, count], None) };
     let answers = if refuse { Vec::new() } else { blocks(&oracle(path, &["run"], Some(&text))) };
     let (mut compared, mut differ, mut passed) = (0, 0, 0);
+    let mut refusals: BTreeMap<(String, usize), usize> = BTreeMap::new();
     for (i, case) in blocks(&text).iter().enumerate() {
         let expect = case.line("expect").map(str::to_string);
         let of_answer = |word: &str| answers[i].line(word).map(str::to_string);
@@ -64,12 +66,18 @@ fn main() {
             None => passed += 1,
             Some(same) => {
                 compared += 1;
+                if let Some(Err(r)) = answer(case) {
+                    *refusals.entry((case.op.clone(), r.number)).or_default() += 1;
+                }
                 if !same {
                     differ += 1;
                     println!("differs: {} {}", case.op, case.id);
                 }
             }
         }
+    }
+    for ((op, number), count) in &refusals {
+        println!("{op} refused {number}: {count}");
     }
     println!("{kind}: {compared} compared, {differ} differ, {passed} of other calls passed over");
     exit((differ > 0) as i32);

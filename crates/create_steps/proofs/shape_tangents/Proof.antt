@@ -1,12 +1,12 @@
--- `create::shape_tangents` meets its contract: four calls in a row. Assumes nothing.
-use Rattle.create.proofs.Create.{shaped-is}
+-- `create_steps::shape_tangents` meets its contract: four calls in a row. Assumes nothing.
+use Rattle.create_steps.proofs.Shape.{shaped-is}
 use Rattle.shapes.proofs.Lent.{vert-in}
 use Rattle.creases.proofs.Lent.{lists-in}
 use Rattle.edges.proofs.Lent.{smoothness-in}
 use mathlib.Core.Path.{_∙_}
 use borrow.Author.Needs.{needs}
-use Rattle.create.proofs.shape_tangents.Statement.{statement}
-use Rattle.create.proofs.shape_tangents.Tie as tie
+use Rattle.create_steps.proofs.shape_tangents.Statement.{statement}
+use Rattle.create_steps.proofs.shape_tangents.Tie as tie
 
 first-tangents-requires : tie.Need-first-tangents-requires
 first-tangents-requires c κs = search needs
@@ -17,21 +17,21 @@ find-creases-requires c κs =
     let f = c .before .before .before .before .before .before .before .before .before .before .first-tangents in
     (smoothness-in (w .sound) (f .kept .1 .1 .1 .1 .1 .1 .1 .1 .0 ∙ w .flat) (w .entries) (w .smooth), lists-in (w .sound) (f .kept .1 .1 .1 .1 .1 .1 .1 .1 .1 .0) (w .smooth) (w .links))
 
-clear-flags-requires : tie.Need-clear-flags-requires
-clear-flags-requires c κs = search needs
+fill-bytes-requires : tie.Need-fill-bytes-requires
+fill-bytes-requires c κs = search needs
 
 shape-verts-requires : tie.Need-shape-verts-requires
 shape-verts-requires c κs =
     let w = c .before .before .before .before .before .before .before .before .before .before .before .before .before .before .before .before .before .before .before .before .before .before .before .before .before .before .before .before .before .before .before .before .before .before .before .before .before .before .before .before .before .before .pre in
     let f = c .before .before .before .before .before .before .before .before .before .before .before .before .before .before .before .before .before .before .before .before .before .before .before .before .before .before .before .first-tangents in
     let g = c .before .before .before .before .before .before .before .before .before .before .before .before .before .before .before .before .find-creases in
-    vert-in (w .sound) (w .positions) (f .kept .1 .1 .1 .1 .1 .1 .1 .1 .0 ∙ w .flat) (g .kept .1 .1 .1 .1 .1 .1 .0 ∙ w .smooth) (g .kept .1 .1 .1 .1 .1 .1 .1 .0 ∙ f .kept .1 .1 .1 .1 .1 .1 .1 .1 .1 .0) (g .kept .1 .1 .1 .1 .1 .1 .1 .1 .0 ∙ w .links) (f .kept .1 .1 .1 .1 .1 .1 .1 .0 ∙ w .tangents) (c .before .before .before .before .before .before .before .before .clear-flags .kept .0 ∙ w .fixed) (g .ensures .1)
+    vert-in (w .sound) (w .positions) (f .kept .1 .1 .1 .1 .1 .1 .1 .1 .0 ∙ w .flat) (g .kept .1 .1 .1 .1 .1 .1 .0 ∙ w .smooth) (g .kept .1 .1 .1 .1 .1 .1 .1 .0 ∙ f .kept .1 .1 .1 .1 .1 .1 .1 .1 .1 .0) (g .kept .1 .1 .1 .1 .1 .1 .1 .1 .0 ∙ w .links) (f .kept .1 .1 .1 .1 .1 .1 .1 .0 ∙ w .tangents) (c .before .before .before .before .before .before .before .before .fill-bytes .kept .0 ∙ w .fixed) (g .ensures .1)
 
 same-length : tie.Need-same-length
 same-length c = c .before .before .before .before .shape-verts .kept .1 .1 .1 .1 .1 .1 .1 .0 ∙ c .before .before .before .before .before .before .before .before .before .before .before .before .before .before .before .before .before .before .before .before .before .before .before .before .before .before .before .before .before .before .before .before .first-tangents .kept .1 .1 .1 .1 .1 .1 .1 .0
 
 same-length-2 : tie.Need-same-length-2
-same-length-2 c = c .before .before .before .before .shape-verts .kept .1 .1 .1 .1 .1 .1 .1 .1 .0 ∙ c .before .before .before .before .before .before .before .before .before .before .before .before .before .clear-flags .kept .0
+same-length-2 c = c .before .before .before .before .shape-verts .kept .1 .1 .1 .1 .1 .1 .1 .1 .0 ∙ c .before .before .before .before .before .before .before .before .before .before .before .before .before .fill-bytes .kept .0
 
 same-length-3 : tie.Need-same-length-3
 same-length-3 c = c .before .before .before .before .before .before .before .before .before .before .before .before .before .before .before .before .before .before .before .before .before .before .before .before .before .before .before .before .before .before .before .before .first-tangents .kept .1 .1 .1 .1 .1 .1 .1 .1 .0
@@ -52,7 +52,7 @@ returns c =
     let g = c .before .before .before .before .before .before .before .before .before .before .before .before .before .before .before .before .before .before .before .before .before .find-creases in
     c .before .before .before .before .shape-verts .ensures
     ∙ shaped-is (z .args .h .now) (z .args .refs .now) (z .args .pos .now) (z .args .normals .now) (z .args .«face-normals» .now) (z .args .entries .now) (z .args .values .now) (z .args .t .now) (z .args .old) (z .args .n) _ _ _ _ _ _ _
-    (f .ensures .0) (g .ensures .0) (f .ensures .1) (c .before .before .before .before .before .before .before .before .before .before .before .before .before .clear-flags .ensures) (z .pre .fixed) (g .kept .1 .1 .1 .1 .1 .1 .1 .0 ∙ f .kept .1 .1 .1 .1 .1 .1 .1 .1 .1 .0)
+    (f .ensures .0) (g .ensures .0) (f .ensures .1) (c .before .before .before .before .before .before .before .before .before .before .before .before .before .fill-bytes .ensures) (z .pre .fixed) (g .kept .1 .1 .1 .1 .1 .1 .1 .0 ∙ f .kept .1 .1 .1 .1 .1 .1 .1 .1 .1 .0)
 
 pub shape-tangents-spec : {M : Type 1} → statement M
 shape-tangents-spec =
@@ -60,7 +60,7 @@ shape-tangents-spec =
     (tie.spec
     first-tangents-requires
     find-creases-requires
-    clear-flags-requires
+    fill-bytes-requires
     shape-verts-requires
     same-length
     same-length-2

@@ -10,7 +10,7 @@ use Rattle.faces.specs.Faces.{flatFaces}
 use Rattle.edges.specs.Smoothness.{smoothness}
 use Rattle.first.specs.First.{firstTangents}
 use Rattle.shapes.specs.Shapes.{tangentsOf, shapeVerts}
-use Rattle.create.specs.Create.{shapedTangents}
+use Rattle.create_steps.specs.Shape.{shapedTangents}
 
 pub shaped-is : (H R : List ℤ) (P N A : List Float) (I : List ℕ) (Q O : List Float) (old : Bool) (n p : ℕ) (F : List ℕ) (S T : List Float) (X : List ℕ) (m k : ℕ)
     → F ≡ flatFaces H R n → S ≡ smoothness H R F I Q n → T ≡ firstTangents H R P N A O old n → X ≡ replicate m 0 → m ≡ n → k ≡ p

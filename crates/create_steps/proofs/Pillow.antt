@@ -20,7 +20,7 @@ use Rattle.creases.specs.Creases.{addHalfedge, addCrease, creasesFrom, creasesA
 use Rattle.first.specs.First.{firstTangent, putFirstTangent, firstTangents}
 use Rattle.shapes.specs.Sharpen.{sharpened, sharpenTangent, meetingSmoothness, sharpenMeetingAt, sharpenMeeting}
 use Rattle.shapes.specs.Shapes.{tangentsOf, fixHalfedge, shapeCrease, shapeVert, shapeVerts}
-use Rattle.create.specs.Create.{shapedTangents}
+use Rattle.create_steps.specs.Shape.{shapedTangents}
 
 -- start, end and pair of the halfedges 0 to 5
 abbrev pillow : List ℤ

@@ -1,4 +1,4 @@
--- On an accepted mesh the lent lists hold what `create` reads and writes. Assumes nothing.
+-- On an accepted mesh the lent lists hold what `create_steps` reads and writes. Assumes nothing.
 use Prim.Native.Nat.{ℕ, _*_}
 use native.Mathlib.Omega.{arith}
 use mathlib.Core.Path.{_≡_, sym, subst}
@@ -8,7 +8,7 @@ use lib.IntN.{ℤ}
 use lib.Ieee.{Float}
 use Rattle.mesh.specs.Sound.{Sound}
 use Rattle.edges.specs.Smoothness.{EntriesIn}
-use Rattle.create.specs.Create.{CreateLists}
+use Rattle.create_steps.specs.Shape.{CreateLists}
 
 pub create-lists-in : {H : List ℤ} {n p : ℕ} → Sound H n p → {P N A : List Float} {I : List ℕ} {Q T : List Float} {X F : List ℕ} {S : List Float} {C L : List ℕ}
     → length P ≡ p * 3 → length N ≡ p * 3 → length A ≡ n → EntriesIn I Q n → length T ≡ n * 4 → length X ≡ n → length F ≡ n → length S ≡ n → length C ≡ p → length L ≡ n

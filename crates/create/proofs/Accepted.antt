@@ -1,0 +1,99 @@
+-- What an accepted call establishes of its lists. Assumes nothing.
+use Prim.Native.Nat.{ℕ, _*_, _/_, _%_}
+use native.Mathlib.Omega.{arith}
+use mathlib.Core.Path.{_≡_}
+use mathlib.Core.Bool.{true, _&&_}
+use mathlib.Core.List.{List}
+use borrow.Author.Tests.{eqb-true}
+use lib.ListN.{length}
+use lib.IntN.{ℤ}
+use lib.Ieee.{Float}
+use Rattle.mesh.specs.Mesh.{halfedgeStride, refStride}
+use Rattle.mesh.specs.Questions.{hasLength}
+use Rattle.mesh.specs.Check.{checkMesh, checkRefs}
+use Rattle.mesh.specs.declared.Checked.the-variants.{Accepted}
+use Rattle.mesh.proofs.Accepted.{accepted, refs-accepted, entries-accepted}
+use Rattle.edges.proofs.Lent.{entries-in}
+use Rattle.create_steps.proofs.Lent.{create-lists-in}
+use Rattle.create_core.specs.Core.{Lists}
+use Rattle.distribute.proofs.Accepted.{and-true}
+use Rattle.create.specs.Create.{listsFit, scratchFits, checkCreate, checkLists}
+
+-- the length that question 2 finds of a list with so many numbers for each of `count`
+has : (len count per : ℕ) → hasLength len count per ≡ true → len ≡ count * per
+has len count per e = eqb-true _ _ e
+
+-- with one place for each
+has-one : (len count : ℕ) → hasLength len count 1 ≡ true → len ≡ count
+has-one len count e = let q = has len count 1 e in omega arith
+
+-- question 2 of the lists read and of the tangents
+pub record ListsFit (h l m a r i q t n p : ℕ) : Type 0 where
+  pub positions : l ≡ p * 3
+  pub normals : m ≡ p * 3
+  pub face-normals : a ≡ n / 3 * 3
+  pub values : q ≡ i
+  pub tangents : t ≡ n * 4
+
+lists-fit : (h l m a r i q t n p : ℕ) → listsFit h l m a r i q t n p ≡ true → ListsFit h l m a r i q t n p
+lists-fit h l m a r i q t n p e =
+    let e₇ = and-true _ (hasLength t n 4) e in
+    let e₆ = and-true _ (hasLength q i 1) (e₇ .0) in
+    let e₅ = and-true _ (hasLength r (n / 3) refStride) (e₆ .0) in
+    let e₄ = and-true _ (hasLength a (n / 3) 3) (e₅ .0) in
+    let e₃ = and-true _ (hasLength m p 3) (e₄ .0) in
+    let e₂ = and-true (hasLength h n halfedgeStride) (hasLength l p 3) (e₃ .0) in
+    record {
+      positions = has l p 3 (e₂ .1);
+      normals = has m p 3 (e₃ .1);
+      face-normals = has a (n / 3) 3 (e₄ .1);
+      values = has-one q i (e₆ .1);
+      tangents = has t n 4 (e₇ .1);
+    }
+
+-- and of scratch
+pub record ScratchFits (x f s d c l n p : ℕ) : Type 0 where
+  pub fixed : x ≡ n
+  pub flat : f ≡ n
+  pub smooth : s ≡ n
+  pub desired : d ≡ n
+  pub points : c ≡ p
+  pub links : l ≡ n
+
+scratch-fits : (x f s d c l n p : ℕ) → scratchFits x f s d c l n p ≡ true → ScratchFits x f s d c l n p
+scratch-fits x f s d c l n p e =
+    let e₆ = and-true _ (hasLength l n 1) e in
+    let e₅ = and-true _ (hasLength c p 1) (e₆ .0) in
+    let e₄ = and-true _ (hasLength d n 1) (e₅ .0) in
+    let e₃ = and-true _ (hasLength s n 1) (e₄ .0) in
+    let e₂ = and-true (hasLength x n 1) (hasLength f n 1) (e₃ .0) in
+    record {
+      fixed = has-one x n (e₂ .0);
+      flat = has-one f n (e₂ .1);
+      smooth = has-one s n (e₃ .1);
+      desired = has-one d n (e₄ .1);
+      points = has-one c p (e₅ .1);
+      links = has-one l n (e₆ .1);
+    }
+
+-- three numbers for each triangle are one for each halfedge
+three-each : (a n : ℕ) → n % 3 ≡ 0 → a ≡ n / 3 * 3 → a ≡ n
+three-each a n d e = omega arith
+
+-- the lists of an accepted call
+pub lists-of : (H : List ℤ) (P N A : List Float) (R : List ℤ) (I : List ℕ) (Q T : List Float) (X F : List ℕ) (S D : List Float) (C L : List ℕ) (n p : ℕ)
+    → checkLists H P N A R I Q T X F S D C L n p ≡ Accepted → Lists H P N A I Q T X F S D C L n p
+unfolding checkCreate
+lists-of H P N A R I Q T X F S D C L n p e =
+    let lengths = listsFit (length H) (length P) (length N) (length A) (length R) (length I) (length Q) (length T) n p && scratchFits (length X) (length F) (length S) (length D) (length C) (length L) n p in
+    let a = entries-accepted (checkRefs (checkMesh H n p lengths) R n) n I Q e in
+    let b = accepted H n p lengths (refs-accepted (checkMesh H n p lengths) n R (a .0) .0) in
+    let q = and-true _ _ (b .0) in
+    let l = lists-fit _ _ _ _ _ _ _ _ n p (q .0) in
+    let s = scratch-fits _ _ _ _ _ _ n p (q .1) in
+    let whole = three-each (length A) n (b .1 .triangles) (l .face-normals) in
+    record {
+      lists = create-lists-in (b .1) (l .positions) (l .normals) whole (entries-in I Q n (l .values) (a .1)) (l .tangents) (s .fixed) (s .flat) (s .smooth) (s .points) (s .links);
+      desired = s .desired;
+      points = s .points;
+    }

@@ -1,0 +1,3 @@
+-- The laws of `create_core`.
+mod Core
+mod Lent

@@ -1,0 +1,95 @@
+// `create_tangents` of src/smoothing_tangents.rs on an accepted mesh: what `create_steps` makes, straightened and spread.
+ghost use mathlib.Core.Path.{_≡_};
+ghost use lib.ListN.{length, replicate};
+ghost use Rattle.float.specs.Ops.{zero};
+ghost use Rattle.linearize.specs.Linearize.{linearizeFlatTangents};
+ghost use Rattle.distribute_walks.specs.Walks.{Lists as SpreadLists};
+ghost use Rattle.distribute.specs.Distribute.{spreadTangents};
+ghost use Rattle.create_core.specs.Core.{createTangents, Lists};
+
+// Straightening, then spreading by the point normals and the halfedges that are fixed, with `smooth` and `desired` as its
+// scratch lists.
+fn finish_tangents(
+    n: usize,
+    p: usize,
+    h: &[i32],
+    pos: &[f64],
+    normals: &[f64],
+    fixed: &[u8],
+    t: &mut [f64],
+    smooth: &mut [f64],
+    desired: &mut [f64],
+)
+    requires { ⌜ SpreadLists (now h) (now pos) (now normals) (now fixed) (now t) (now smooth) (now desired) n p ⌝ }
+    ensures tangents { λ _. ⌜ now (t .exit) ≡ spreadTangents (now (h .entry)) (now (pos .entry)) (now (normals .entry)) (now (fixed .entry)) (linearizeFlatTangents (now (h .entry)) (now (pos .entry)) (now (t .entry)) n) n .tangents ⌝ }
+    ensures smooth { λ _. ⌜ now (smooth .exit) ≡ replicate n zero ⌝ }
+    ensures desired { λ _. ⌜ now (desired .exit) ≡ replicate n zero ⌝ }
+{
+    linearize::linearize_all(n, p, h, pos, t);
+    distribute::spread_all(n, p, h, pos, normals, fixed, t, smooth, desired);
+    distribute::clear(smooth);
+    distribute::clear(desired);
+}
+
+// Zeros in the other scratch lists.
+fn clear_scratch(fixed: &mut [u8], flat: &mut [u8], at: &mut [usize], link: &mut [usize])
+    ensures fixed { λ _. ⌜ now (fixed .exit) ≡ replicate (length (now (fixed .entry))) 0 ⌝ }
+    ensures flat { λ _. ⌜ now (flat .exit) ≡ replicate (length (now (flat .entry))) 0 ⌝ }
+    ensures at { λ _. ⌜ now (at .exit) ≡ replicate (length (now (at .entry))) 0 ⌝ }
+    ensures link { λ _. ⌜ now (link .exit) ≡ replicate (length (now (link .entry))) 0 ⌝ }
+{
+    faces::fill_bytes(fixed, 0);
+    faces::fill_bytes(flat, 0);
+    faces::fill(at, 0);
+    faces::fill(link, 0);
+}
+
+// The tangents of an accepted call, and zeros in all scratch lists.
+pub fn make_tangents(
+    n: usize,
+    p: usize,
+    h: &[i32],
+    pos: &[f64],
+    normals: &[f64],
+    face_normals: &[f64],
+    refs: &[i32],
+    entries: &[usize],
+    values: &[f64],
+    old: bool,
+    t: &mut [f64],
+    fixed: &mut [u8],
+    flat: &mut [u8],
+    smooth: &mut [f64],
+    desired: &mut [f64],
+    at: &mut [usize],
+    link: &mut [usize],
+)
+    requires { ⌜ Lists (now h) (now pos) (now normals) (now «face_normals») (now entries) (now values) (now t) (now fixed) (now flat) (now smooth) (now desired) (now at) (now link) n p ⌝ }
+    ensures tangents { λ _. ⌜ now (t .exit) ≡ createTangents (now (h .entry)) (now (pos .entry)) (now (normals .entry)) (now («face_normals» .entry)) (now (refs .entry)) (now (entries .entry)) (now (values .entry)) (now (t .entry)) old n p ⌝ }
+    ensures fixed { λ _. ⌜ now (fixed .exit) ≡ replicate n 0 ⌝ }
+    ensures flat { λ _. ⌜ now (flat .exit) ≡ replicate n 0 ⌝ }
+    ensures smooth { λ _. ⌜ now (smooth .exit) ≡ replicate n zero ⌝ }
+    ensures desired { λ _. ⌜ now (desired .exit) ≡ replicate n zero ⌝ }
+    ensures at { λ _. ⌜ now (at .exit) ≡ replicate p 0 ⌝ }
+    ensures link { λ _. ⌜ now (link .exit) ≡ replicate n 0 ⌝ }
+{
+    create_steps::shape_tangents(
+        n,
+        h,
+        refs,
+        pos,
+        normals,
+        face_normals,
+        entries,
+        values,
+        old,
+        t,
+        fixed,
+        flat,
+        smooth,
+        at,
+        link,
+    );
+    finish_tangents(n, p, h, pos, normals, fixed, t, smooth, desired);
+    clear_scratch(fixed, flat, at, link);
+}

@@ -1,0 +1,4 @@
+-- The laws of `create_steps`: those that the crates above cite are public.
+pub mod Lent
+mod Shape
+mod Pillow

@@ -1,0 +1,2 @@
+-- The specs of `create_steps`, in the order of reading.
+pub mod Shape

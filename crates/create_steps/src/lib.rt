@@ -1,0 +1,33 @@
+// `create_tangents` up to straightening and spreading: the first tangents, the creases, and what they do at each point.
+ghost use mathlib.Core.Path.{_≡_};
+ghost use lib.ListN.{length};
+ghost use Rattle.shapes.specs.Shapes.{tangentsOf};
+ghost use Rattle.create_steps.specs.Shape.{CreateLists, shapedTangents};
+
+// The tangents and the fixed flags, whatever the flags and the scratch lists held: `flat`, `smooth` and `link` with a place for
+// each halfedge, `at` with one for each point.
+pub fn shape_tangents(
+    n: usize,
+    h: &[i32],
+    refs: &[i32],
+    pos: &[f64],
+    normals: &[f64],
+    face_normals: &[f64],
+    entries: &[usize],
+    values: &[f64],
+    old: bool,
+    t: &mut [f64],
+    fixed: &mut [u8],
+    flat: &mut [u8],
+    smooth: &mut [f64],
+    at: &mut [usize],
+    link: &mut [usize],
+)
+    requires { ⌜ CreateLists (now h) (now pos) (now normals) (now «face_normals») (now entries) (now values) (now t) (now fixed) (now flat) (now smooth) (now at) (now link) n ⌝ }
+    ensures { λ _. ⌜ tangentsOf (now (t .exit)) (now (fixed .exit)) ≡ shapedTangents (now (h .entry)) (now (refs .entry)) (now (pos .entry)) (now (normals .entry)) (now («face_normals» .entry)) (now (entries .entry)) (now (values .entry)) (now (t .entry)) old n (length (now (at .entry))) ⌝ }
+{
+    first::first_tangents(n, h, refs, pos, normals, face_normals, old, t, flat, at);
+    creases::find_creases(n, h, refs, flat, entries, values, smooth, at, link);
+    faces::fill_bytes(fixed, 0);
+    shapes::shape_verts(n, h, pos, flat, smooth, at, link, t, fixed);
+}
