@@ -1,0 +1,2 @@
+-- The specs of `operations`.
+pub mod Operations

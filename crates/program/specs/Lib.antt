@@ -1,0 +1,2 @@
+-- The specs of `program`.
+pub mod Program

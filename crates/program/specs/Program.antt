@@ -1,0 +1,65 @@
+-- The program `tangents` of document 01, from the bytes s that it reads to the bytes that it writes. p and n are the counts of points and halfedges.
+use Prim.Native.Nat.{ℕ, _*_, _≤_}
+use mathlib.Core.List.{List, []}
+use mathlib.Core.Bool.{Bool, cond, _&&_}
+use lib.Dec.{leb}
+use lib.IntN.{ℤ}
+use lib.Ieee.{Float}
+use Rattle.little_endian.specs.Numbers.{f64Item, i32Item, byteItem}
+use Rattle.little_endian.specs.Filled.{items}
+use Rattle.records.specs.Records.{bodyAt, parseInput}
+use Rattle.records.specs.declared.Parsed.{Parsed}
+use Rattle.records.specs.declared.Parsed.the-variants.{Input, Refused as InputRefused}
+use Rattle.lines.specs.Lines.{linesOf}
+use Rattle.lines.specs.declared.Output.the-variants.{Refused}
+use Rattle.operations.specs.Operations.{operationLines}
+
+-- ---- the lists of an accepted input
+
+abbrev pub positionsOf : List ℕ → ℕ → ℕ → List Float
+positionsOf s p n = items (f64Item s (bodyAt p n 3)) (3 * p)
+
+abbrev pub halfedgesOf : List ℕ → ℕ → ℕ → List ℤ
+halfedgesOf s p n = items (i32Item s (bodyAt p n 4)) (3 * n)
+
+abbrev pub tangentsOf : List ℕ → ℕ → ℕ → List Float
+tangentsOf s p n = items (f64Item s (bodyAt p n 5)) (4 * n)
+
+abbrev pub normalsOf : List ℕ → ℕ → ℕ → List Float
+normalsOf s p n = items (f64Item s (bodyAt p n 6)) (3 * p)
+
+abbrev pub flagsOf : List ℕ → ℕ → ℕ → List ℕ
+flagsOf s p n = items (byteItem s (bodyAt p n 7)) n
+
+-- ---- the program
+
+abbrev pub linesFor : List ℕ → Parsed → List ℕ
+linesFor s (InputRefused number place) = linesOf (Refused number place) []
+linesFor s (Input operation p n) =
+    operationLines operation (halfedgesOf s p n) (positionsOf s p n) (normalsOf s p n) (flagsOf s p n) (tangentsOf s p n) n p
+
+-- the bytes that the program writes, for every input
+unfoldable pub outputOf : List ℕ → List ℕ
+outputOf s = linesFor s (parseInput s)
+
+-- ---- the lent lists
+
+-- Has each list the room that the longest input can call for: 2,729 points, 1,488 halfedges, and a line of each halfedge and two more?
+unfoldable pub hasRoom : ℕ → ℕ → ℕ → ℕ → ℕ → ℕ → ℕ → ℕ → Bool
+hasRoom positions halfedges tangents normals flags current desired out =
+    leb 8187 positions && leb 4464 halfedges && leb 5952 tangents && leb 8187 normals && leb 1488 flags
+    && leb 1488 current && leb 1488 desired && leb 143040 out
+
+-- all of the output, or nothing
+abbrev pub whenRoom : Bool → List ℕ → List ℕ
+whenRoom room s = cond room (outputOf s) []
+
+-- lists of at least these lengths
+pub record Room (positions halfedges tangents normals flags current desired : ℕ) : Type 0 where
+  pub position-room : 8187 ≤ positions
+  pub halfedge-room : 4464 ≤ halfedges
+  pub tangent-room : 5952 ≤ tangents
+  pub normal-room : 8187 ≤ normals
+  pub flag-room : 1488 ≤ flags
+  pub current-room : 1488 ≤ current
+  pub desired-room : 1488 ≤ desired
