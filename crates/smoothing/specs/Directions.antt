@@ -23,6 +23,10 @@ safeNormalize v =
     let len2 = dotOf v v in
     cond (isDegenerate len2) (record { x = zero; y = zero; z = zero }) (div3 v (sqrtOf len2))
 
+-- the direction of v by its squared length and its length: `safeNormalize v` where these are `dotOf v v` and the root of that
+unfoldable pub directionBy : Vec3 → Float → Float → Vec3
+directionBy v len2 len = cond (isDegenerate len2) (record { x = zero; y = zero; z = zero }) (div3 v len)
+
 -- `wrap`
 unfoldable pub wrapOf : Float → Float
 wrapOf radians = cond (lt radians (neg pi)) (radians ⊕ two-pi) (cond (lt pi radians) (radians ⊖ two-pi) radians)

@@ -3,7 +3,7 @@
 ghost use mathlib.Core.Path.{_≡_};
 ghost use Prim.Native.Nat.{_+_, _*_, _≤_, _<_, _^_};
 ghost use lib.ListN.{length};
-ghost use Rattle.smoothing.specs.Directions.{vec3FromVec4, isDegenerate, safeNormalize, wrapOf, angleBetween, equalNormals, circularTangent};
+ghost use Rattle.smoothing.specs.Directions.{vec3FromVec4, isDegenerate, directionBy, safeNormalize, wrapOf, angleBetween, equalNormals, circularTangent};
 ghost use Rattle.smoothing.specs.Lists.{pointAt, tangentAt, putTangent, weightAt, isMarkedInsideQuad};
 ghost use Rattle.smoothing.specs.Edges.{EdgeIn, FacesIn, QuadIn, edgeVec, biTangent, tangentFromNormal, sameFaceAcross, noOtherNeighbor, isInsideQuad};
 use linalg::Vec3;
@@ -47,6 +47,20 @@ pub fn safe_normalize(v: Vec3) -> Vec3
     linalg::divide(v, sqrt::sqrt(len2))
 }
 
+// The direction of v, as `safe_normalize` gives it, where its squared length and its length are known.
+fn direction_by(v: Vec3, len2: f64, len: f64) -> Vec3
+    ensures { λ r. ⌜ r ≡ directionBy v len2 len ⌝ }
+{
+    if is_degenerate(len2) {
+        return Vec3 {
+            x: 0.0,
+            y: 0.0,
+            z: 0.0,
+        };
+    }
+    linalg::divide(v, len)
+}
+
 pub fn wrap(radians: f64) -> f64
     ensures { λ r. ⌜ r ≡ wrapOf radians ⌝ }
 {
@@ -79,12 +93,14 @@ pub fn equal_normals(a: Vec3, b: Vec3) -> bool
     linalg::dot(safe_normalize(a), safe_normalize(b)) > 0.9999
 }
 
+// The length of the edge is worked out once, for its direction and for itself.
 pub fn circular_tangent(tangent: Vec3, edge_vec: Vec3) -> Vec4
     ensures { λ r. ⌜ r ≡ circularTangent tangent «edge_vec» ⌝ }
 {
     let dir = safe_normalize(tangent);
-    let weight = float::max(0.5, linalg::dot(dir, safe_normalize(edge_vec)));
-    let len = linalg::length(edge_vec);
+    let len2 = linalg::dot(edge_vec, edge_vec);
+    let len = sqrt::sqrt(len2);
+    let weight = float::max(0.5, linalg::dot(dir, direction_by(edge_vec, len2, len)));
     let bz2 = Vec4 {
         x: dir.x * 0.5 * len,
         y: dir.y * 0.5 * len,

@@ -1,16 +1,33 @@
--- `smoothing::circular_tangent` meets its contract: the code is the definition. Assumes nothing.
-use Rattle.smoothing.specs.Directions.{circularTangent}
+-- `smoothing::circular_tangent` meets its contract: the code is the definition, with the edge's length worked out once. Assumes nothing.
+use mathlib.Core.Path.{_≡_, refl}
+use Rattle.linalg.specs.declared.Vec3.{Vec3}
+use Rattle.linalg.specs.Vec.{dotOf, length2Of, lengthOf}
+use Rattle.sqrt.specs.Sqrt.{sqrtOf}
+use Rattle.smoothing.specs.Directions.{circularTangent, safeNormalize, directionBy}
 use Rattle.smoothing.proofs.circular_tangent.Statement.{statement}
 use Rattle.smoothing.proofs.circular_tangent.Tie as tie
 
+length-is : (v : Vec3) → lengthOf v ≡ sqrtOf (dotOf v v)
+unfolding lengthOf length2Of
+length-is v = refl
+
+direction-is : (v : Vec3) → safeNormalize v ≡ directionBy v (dotOf v v) (sqrtOf (dotOf v v))
+unfolding safeNormalize directionBy
+direction-is v = refl
+
 returns : tie.Need-returns
 unfolding circularTangent
-returns c = cc
+returns c =
+    let s = c .before .before .before .before .before .before .before .before .before .before .before .before .before .before .before .before in
+    let l = length-is (s .args .edge-vec) in
+    let d = direction-is (s .args .edge-vec) in
+    cc
 
 pub circular-tangent-spec : {M : Type 1} → statement M
 circular-tangent-spec =
     tie.close
     (tie.spec
+    (λ c κs. tt)
     (λ c κs. tt)
     (λ c κs. tt)
     (λ c κs. tt)
