@@ -11,7 +11,7 @@ ghost use Rattle.validate.specs.Validate.{validAnswer};
 ghost use Rattle.sharpen.specs.Sharpen.{sharpenEdges, entriesAfter};
 ghost use Rattle.distribute.specs.Distribute.{distributeTangents, scratchAfter, checkLists};
 ghost use Rattle.distribute.specs.Distribute.{tangentsAfter as spreadAfter};
-ghost use Rattle.create.specs.Create.{whenAccepted};
+ghost use Rattle.mesh.specs.Check.{whenAccepted};
 ghost use Rattle.create.specs.Create.{checkLists as checkCreate, tangentsAfter as createdTangents};
 ghost use Rattle.capi.specs.Answers.{put, putChecked, putValidity, putListing, putSpreading};
 

@@ -1,2 +1,3 @@
--- The laws of `create`, for the crates above.
+-- The laws of `create`: those that the crates above cite are public.
 pub mod Accepted
+mod Pillow

@@ -7,9 +7,8 @@ use lib.IntN.{ℤ}
 use lib.Ieee.{Float}
 use Rattle.mesh.specs.Mesh.{halfedgeStride, refStride}
 use Rattle.mesh.specs.Questions.{hasLength}
-use Rattle.mesh.specs.Check.{checkMesh, checkRefs, checkEntries}
+use Rattle.mesh.specs.Check.{checkMesh, checkRefs, checkEntries, whenAccepted}
 use Rattle.mesh.specs.declared.Checked.{Checked}
-use Rattle.mesh.specs.declared.Checked.the-variants.{Accepted, Refused}
 use Rattle.create_core.specs.Core.{createTangents}
 
 -- ---- the questions
@@ -38,11 +37,6 @@ checkLists H P N A R I Q T X F S D C L n p =
     checkCreate H R I Q n p (lists && scratch)
 
 -- ---- the call
-
--- what a call with this answer leaves in a list: when it is accepted `after`, when it is refused the list as lent
-abbrev pub whenAccepted : {A : Type 0} → Checked → List A → List A → List A
-whenAccepted Accepted after lent = after
-whenAccepted (Refused number place) after lent = lent
 
 -- the tangents after a call with this answer
 abbrev pub tangentsAfter : Checked → List ℤ → List Float → List Float → List Float → List ℤ → List ℕ → List Float → List Float → Bool → ℕ → ℕ → List Float

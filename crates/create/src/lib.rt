@@ -3,7 +3,8 @@
 ghost use mathlib.Core.Path.{_≡_};
 ghost use lib.ListN.{replicate};
 ghost use Rattle.float.specs.Ops.{zero};
-ghost use Rattle.create.specs.Create.{listsFit, scratchFits, checkCreate, checkLists, whenAccepted, tangentsAfter};
+ghost use Rattle.mesh.specs.Check.{whenAccepted};
+ghost use Rattle.create.specs.Create.{listsFit, scratchFits, checkCreate, checkLists, tangentsAfter};
 use mesh::Checked;
 
 // Question 2 of the lists that the call reads, and of the tangents, from the length of each.

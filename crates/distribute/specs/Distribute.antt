@@ -9,7 +9,7 @@ use lib.Ieee.{Float}
 use Rattle.float.specs.Ops.{zero}
 use Rattle.mesh.specs.Mesh.{halfedgeStride}
 use Rattle.mesh.specs.Questions.{hasLength}
-use Rattle.mesh.specs.Check.{checkMesh, checkFlags}
+use Rattle.mesh.specs.Check.{checkMesh, checkFlags, whenAccepted}
 use Rattle.mesh.specs.declared.Checked.{Checked}
 use Rattle.mesh.specs.declared.Checked.the-variants.{Accepted, Refused}
 use Rattle.spread.specs.Steps.{Steps}
@@ -67,10 +67,6 @@ pub record Reports (S : Steps) (st : State S) (ts : S .Tangents) (k : Counts) : 
 abbrev pub answerOf : Checked → ℕ → ℕ → Spreading
 answerOf Accepted looked turned = Spread looked turned
 answerOf (Refused number place) looked turned = RefusedSpreading number place
-
-abbrev pub whenAccepted : Checked → List Float → List Float → List Float
-whenAccepted Accepted after before = after
-whenAccepted (Refused number place) after before = before
 
 -- the answer, for every input
 abbrev pub distributeTangents : List ℤ → List Float → List Float → List ℕ → List Float → List Float → List Float → ℕ → ℕ → Spreading

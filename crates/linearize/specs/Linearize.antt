@@ -12,11 +12,10 @@ use Rattle.linalg.specs.declared.Vec4.{Vec4}
 use Rattle.linalg.specs.Vec.{add3, neg3, div3}
 use Rattle.mesh.specs.Mesh.{halfedgeStride, pairedHalfedge, isForward}
 use Rattle.mesh.specs.Questions.{hasLength}
-use Rattle.mesh.specs.Check.{checkMesh}
+use Rattle.mesh.specs.Check.{checkMesh, whenAccepted}
 use Rattle.mesh.specs.Fold.{foldTo}
 use Rattle.mesh.specs.Sound.{Sound}
 use Rattle.mesh.specs.declared.Checked.{Checked}
-use Rattle.mesh.specs.declared.Checked.the-variants.{Accepted, Refused}
 use Rattle.smoothing.specs.Directions.{vec3FromVec4}
 use Rattle.smoothing.specs.Lists.{tangentAt, putTangent}
 use Rattle.smoothing.specs.Edges.{EdgeIn, QuadIn, edgeVec}
@@ -65,11 +64,6 @@ lengthsFit H P T n p = hasLength (length H) n halfedgeStride && hasLength (lengt
 -- the answer, for every input
 abbrev pub linearizeAnswer : List ℤ → List Float → List Float → ℕ → ℕ → Checked
 linearizeAnswer H P T n p = checkMesh H n p (lengthsFit H P T n p)
-
--- what an accepted call leaves, or what was there before
-abbrev pub whenAccepted : Checked → List Float → List Float → List Float
-whenAccepted Accepted after before = after
-whenAccepted (Refused number place) after before = before
 
 -- the tangents after the call, for every input: as lent when it is refused
 abbrev pub tangentsAfter : List ℤ → List Float → List Float → ℕ → ℕ → List Float

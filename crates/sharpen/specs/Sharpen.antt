@@ -9,7 +9,7 @@ use lib.Ieee.{Float}
 use Rattle.mesh.specs.Mesh.{halfedgeStride}
 use Rattle.mesh.specs.Questions.{hasLength}
 use Rattle.mesh.specs.Check as mesh
-use Rattle.mesh.specs.Check.{checkMesh}
+use Rattle.mesh.specs.Check.{checkMesh, whenAccepted}
 use Rattle.mesh.specs.Sound.{Sound}
 use Rattle.mesh.specs.declared.Checked.{Checked}
 use Rattle.mesh.specs.declared.Checked.the-variants.{Accepted, Refused}
@@ -83,10 +83,6 @@ creaseTally H A angle n = countBelow (isCrease H A (minRadians angle)) n
 abbrev pub answerOf : Checked → ℕ → ℕ → Listing
 answerOf Accepted entries tally = Listed entries tally
 answerOf (Refused number place) entries tally = RefusedListing number place
-
-abbrev pub whenAccepted : Checked → Entries → Entries → Entries
-whenAccepted Accepted a b = a
-whenAccepted (Refused number place) a b = b
 
 -- the answer of `sharpen_edges`
 abbrev pub sharpenEdges : List ℤ → List Float → Float → Float → List ℕ → List Float → ℕ → ℕ → Listing
