@@ -8,7 +8,7 @@ ghost use Rattle.create.specs.Create.{listsFit, scratchFits, checkCreate
 use mesh::Checked;
 
 // Question 2 of the lists that the call reads, and of the tangents, from the length of each.
-fn lists_fit(
+pub fn lists_fit(
     n: usize,
     p: usize,
     halfedges: usize,
@@ -40,7 +40,7 @@ fn lists_fit(
 }
 
 // Question 2 of the scratch lists, from the length of each.
-fn scratch_fits(
+pub fn scratch_fits(
     n: usize,
     p: usize,
     fixed: usize,

@@ -14,7 +14,7 @@ ghost use lib.Dec.{leb};
 ghost use Rattle.mesh.specs.Mesh.{halfedgeStride, numberAt, field, startVert, endVert, pairedHalfedge, isForward, nextHalfedge, prevHalfedge, eqZ, refAt, sameFace};
 ghost use Rattle.mesh.specs.Scalar.{radiansOf};
 ghost use Rattle.mesh.specs.Lowest.{lowest};
-ghost use Rattle.mesh.specs.Questions.{hasLength, testAt};
+ghost use Rattle.mesh.specs.Questions.{hasLength, signClear, testAt};
 ghost use Rattle.mesh.specs.All.{allAt, askEach};
 ghost use Rattle.mesh.specs.Check.{numberOf, placeOf, each, _then_, checkMesh, checkRefs, checkEntries, checkFlags};
 
@@ -143,6 +143,16 @@ pub fn same_face(refs: &[i32], a: usize, b: usize) -> bool
         both(same_ref(refs, a, b, 0), same_ref(refs, a, b, 1)),
         same_ref(refs, a, b, 2),
     )
+}
+
+// Question 10 of one smoothness: a number with a clear sign bit.
+pub fn sign_clear(x: f64) -> bool
+    ensures { λ r. ⌜ r ≡ signClear x ⌝ }
+{
+    if x != x {
+        return false;
+    }
+    float::bits(x) < 0x8000_0000_0000_0000
 }
 
 pub fn radians(degrees: f64) -> f64
