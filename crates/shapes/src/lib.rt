@@ -34,7 +34,7 @@ fn sharpen_tangent(t: &mut [f64], e: usize, s: f64)
 }
 
 // The circular tangent of halfedge e that leaves in the direction `dir`.
-fn put_circular_tangent(h: &[i32], pos: &[f64], t: &mut [f64], e: usize, dir: Vec3)
+pub fn put_circular_tangent(h: &[i32], pos: &[f64], t: &mut [f64], e: usize, dir: Vec3)
     requires { ⌜ (e * 4 + 4 ≤ length (now t)) × EdgeIn (now h) (now pos) e ⌝ }
     ensures { λ _. ⌜ now (t .exit) ≡ putCircularTangent (now (h .entry)) (now (pos .entry)) (now (t .entry)) e dir ⌝ }
 {

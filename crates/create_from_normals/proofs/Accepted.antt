@@ -1,0 +1,103 @@
+-- What an accepted call establishes of its lists. Assumes nothing.
+use Prim.Native.Nat.{ℕ, _*_, _/_, _%_}
+use native.Mathlib.Omega.{arith}
+use mathlib.Core.Path.{_≡_, sym, subst}
+use mathlib.Core.Bool.{true, _&&_}
+use mathlib.Core.List.{List}
+use borrow.Author.Tests.{eqb-true}
+use lib.ListN.{length}
+use lib.IntN.{ℤ}
+use lib.Ieee.{Float}
+use Rattle.mesh.specs.Mesh.{halfedgeStride, refStride}
+use Rattle.mesh.specs.Questions.{hasLength}
+use Rattle.mesh.specs.Check.{checkMesh}
+use Rattle.mesh.specs.Sound.{Sound}
+use Rattle.mesh.specs.declared.Checked.the-variants.{Accepted}
+use Rattle.mesh.proofs.Accepted.{accepted, refs-accepted}
+use Rattle.normals_core.specs.Core.{Lists}
+use Rattle.distribute.proofs.Accepted.{and-true}
+use Rattle.create_from_normals.specs.FromNormals.{listsFit, scratchFits, checkNormals, checkLists}
+
+-- the length that question 2 finds of a list with so many numbers for each of `count`
+has : (len count per : ℕ) → hasLength len count per ≡ true → len ≡ count * per
+has len count per e = eqb-true _ _ e
+
+-- with one place for each
+has-one : (len count : ℕ) → hasLength len count 1 ≡ true → len ≡ count
+has-one len count e = let q = has len count 1 e in omega arith
+
+-- question 2 of the lists read and of the tangents
+record ListsFit (l m a g t n p : ℕ) : Type 0 where
+  positions : l ≡ p * 3
+  normals : m ≡ p * 3
+  face-normals : a ≡ n / 3 * 3
+  halfedge-normals : g ≡ n * 3
+  tangents : t ≡ n * 4
+
+lists-fit : (h l m a r g t n p : ℕ) → listsFit h l m a r g t n p ≡ true → ListsFit l m a g t n p
+lists-fit h l m a r g t n p e =
+    let e₇ = and-true _ (hasLength t n 4) e in
+    let e₆ = and-true _ (hasLength g n 3) (e₇ .0) in
+    let e₅ = and-true _ (hasLength r (n / 3) refStride) (e₆ .0) in
+    let e₄ = and-true _ (hasLength a (n / 3) 3) (e₅ .0) in
+    let e₃ = and-true _ (hasLength m p 3) (e₄ .0) in
+    let e₂ = and-true (hasLength h n halfedgeStride) (hasLength l p 3) (e₃ .0) in
+    record {
+      positions = has l p 3 (e₂ .1);
+      normals = has m p 3 (e₃ .1);
+      face-normals = has a (n / 3) 3 (e₄ .1);
+      halfedge-normals = has g n 3 (e₆ .1);
+      tangents = has t n 4 (e₇ .1);
+    }
+
+-- and of scratch
+record ScratchFits (x q c d f n p : ℕ) : Type 0 where
+  fixed : x ≡ n
+  inside : q ≡ n
+  current : c ≡ n
+  desired : d ≡ n
+  points : f ≡ p
+
+scratch-fits : (x q c d f n p : ℕ) → scratchFits x q c d f n p ≡ true → ScratchFits x q c d f n p
+scratch-fits x q c d f n p e =
+    let e₅ = and-true _ (hasLength f p 1) e in
+    let e₄ = and-true _ (hasLength d n 1) (e₅ .0) in
+    let e₃ = and-true _ (hasLength c n 1) (e₄ .0) in
+    let e₂ = and-true (hasLength x n 1) (hasLength q n 1) (e₃ .0) in
+    record {
+      fixed = has-one x n (e₂ .0);
+      inside = has-one q n (e₂ .1);
+      current = has-one c n (e₃ .1);
+      desired = has-one d n (e₄ .1);
+      points = has-one f p (e₅ .1);
+    }
+
+-- three numbers for each triangle are one for each halfedge
+three-each : (a n : ℕ) → n % 3 ≡ 0 → a ≡ n / 3 * 3 → a ≡ n
+three-each a n d e = omega arith
+
+-- the lists of an accepted call
+pub lists-of : (H : List ℤ) (P N A : List Float) (R : List ℤ) (G T : List Float) (X Q : List ℕ) (C D : List Float) (F : List ℕ) (n p : ℕ)
+    → checkLists H P N A R G T X Q C D F n p ≡ Accepted → Lists H P N A G T X Q C D F n p
+unfolding checkNormals
+lists-of H P N A R G T X Q C D F n p e =
+    let lengths = listsFit (length H) (length P) (length N) (length A) (length R) (length G) (length T) n p && scratchFits (length X) (length Q) (length C) (length D) (length F) n p in
+    let b = accepted H n p lengths (refs-accepted (checkMesh H n p lengths) n R e .0) in
+    let q = and-true _ _ (b .0) in
+    let l = lists-fit _ _ _ _ _ _ _ n p (q .0) in
+    let s = scratch-fits _ _ _ _ _ n p (q .1) in
+    record {
+      lists = record {
+        sound = subst (Sound H n) (sym (s .points)) (b .1);
+        positions = omega (arith, l .positions, s .points);
+        normals = omega (arith, l .normals, s .points);
+        face-normals = three-each (length A) n (b .1 .triangles) (l .face-normals);
+        halfedge-normals = l .halfedge-normals;
+        tangents = l .tangents;
+        fixed = s .fixed;
+        inside = s .inside;
+      };
+      points = s .points;
+      current = s .current;
+      desired = s .desired;
+    }

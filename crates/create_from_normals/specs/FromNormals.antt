@@ -1,0 +1,43 @@
+-- Making from normals as a public call: `create_tangents_from_normals` of src/smoothing_tangents.rs, with its questions. H are the halfedges, P the positions, N the point normals, A the face normals, R the face references, G the lent normals, T the tangents, `old` whether these are old tangents, X, Q, C, D and F the scratch lists `fixed`, `inside`, `current`, `desired` and `first`, n and p the counts of halfedges and points.
+use Prim.Native.Nat.{ℕ, _/_}
+use mathlib.Core.List.{List}
+use mathlib.Core.Bool.{Bool, _&&_}
+use lib.ListN.{length}
+use lib.IntN.{ℤ}
+use lib.Ieee.{Float}
+use Rattle.mesh.specs.Mesh.{halfedgeStride, refStride}
+use Rattle.mesh.specs.Questions.{hasLength}
+use Rattle.mesh.specs.Check.{checkMesh, checkRefs, whenAccepted}
+use Rattle.mesh.specs.declared.Checked.{Checked}
+use Rattle.normals_core.specs.Core.{createTangentsFromNormals}
+
+-- ---- the questions
+
+-- question 2 of the lists that the call reads, and of the tangents: what their lengths must be
+abbrev pub listsFit : ℕ → ℕ → ℕ → ℕ → ℕ → ℕ → ℕ → ℕ → ℕ → Bool
+listsFit halfedges positions normals faceNormals refs halfedgeNormals tangents n p =
+    hasLength halfedges n halfedgeStride && hasLength positions p 3 && hasLength normals p 3
+    && hasLength faceNormals (n / 3) 3 && hasLength refs (n / 3) refStride
+    && hasLength halfedgeNormals n 3 && hasLength tangents n 4
+
+-- question 2 of scratch: `first` has a place for each point, each other list one for each halfedge
+abbrev pub scratchFits : ℕ → ℕ → ℕ → ℕ → ℕ → ℕ → ℕ → Bool
+scratchFits fixed inside current desired first n p =
+    hasLength fixed n 1 && hasLength inside n 1 && hasLength current n 1 && hasLength desired n 1 && hasLength first p 1
+
+-- questions 1 to 8; `lengths` is the answer to question 2
+unfoldable pub checkNormals : List ℤ → List ℤ → ℕ → ℕ → Bool → Checked
+checkNormals H R n p lengths = checkRefs (checkMesh H n p lengths) R n
+
+-- the answer, for every input
+abbrev pub checkLists : List ℤ → List Float → List Float → List Float → List ℤ → List Float → List Float → List ℕ → List ℕ → List Float → List Float → List ℕ → ℕ → ℕ → Checked
+checkLists H P N A R G T X Q C D F n p =
+    let lists = listsFit (length H) (length P) (length N) (length A) (length R) (length G) (length T) n p in
+    let scratch = scratchFits (length X) (length Q) (length C) (length D) (length F) n p in
+    checkNormals H R n p (lists && scratch)
+
+-- ---- the call
+
+-- the tangents after a call with this answer
+abbrev pub tangentsAfter : Checked → List ℤ → List Float → List Float → List Float → List ℤ → List Float → List Float → Bool → ℕ → ℕ → List Float
+tangentsAfter answer H P N A R G T old n p = whenAccepted answer (createTangentsFromNormals H R P N A G T old n p) T

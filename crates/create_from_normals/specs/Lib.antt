@@ -1,0 +1,2 @@
+-- The specs of `create_from_normals`.
+pub mod FromNormals

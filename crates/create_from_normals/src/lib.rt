@@ -1,0 +1,144 @@
+// `create_tangents_from_normals` of src/smoothing_tangents.rs (document 01's making from normals) as a public call: its
+// questions, and then `normals_core`.
+ghost use mathlib.Core.Path.{_≡_};
+ghost use lib.ListN.{replicate};
+ghost use Rattle.float.specs.Ops.{zero};
+ghost use Rattle.mesh.specs.Check.{whenAccepted};
+ghost use Rattle.create_from_normals.specs.FromNormals.{listsFit, scratchFits, checkNormals, checkLists, tangentsAfter};
+use mesh::Checked;
+
+// Question 2 of the lists that the call reads, and of the tangents, from the length of each.
+fn lists_fit(
+    n: usize,
+    p: usize,
+    halfedges: usize,
+    positions: usize,
+    normals: usize,
+    face_normals: usize,
+    refs: usize,
+    halfedge_normals: usize,
+    tangents: usize,
+) -> bool
+    ensures { λ r. ⌜ r ≡ listsFit halfedges positions normals «face_normals» refs «halfedge_normals» tangents n p ⌝ }
+{
+    let points = mesh::both(
+        mesh::both(
+            mesh::has_length(halfedges, n, mesh::HALFEDGE_STRIDE),
+            mesh::has_length(positions, p, 3),
+        ),
+        mesh::has_length(normals, p, 3),
+    );
+    let faces = mesh::both(
+        mesh::both(points, mesh::has_length(face_normals, n / 3, 3)),
+        mesh::has_length(refs, n / 3, mesh::REF_STRIDE),
+    );
+    mesh::both(
+        mesh::both(faces, mesh::has_length(halfedge_normals, n, 3)),
+        mesh::has_length(tangents, n, 4),
+    )
+}
+
+// Question 2 of the scratch lists, from the length of each.
+fn scratch_fits(
+    n: usize,
+    p: usize,
+    fixed: usize,
+    inside: usize,
+    current: usize,
+    desired: usize,
+    first: usize,
+) -> bool
+    ensures { λ r. ⌜ r ≡ scratchFits fixed inside current desired first n p ⌝ }
+{
+    let flags = mesh::both(
+        mesh::has_length(fixed, n, 1),
+        mesh::has_length(inside, n, 1),
+    );
+    let angles = mesh::both(
+        mesh::both(flags, mesh::has_length(current, n, 1)),
+        mesh::has_length(desired, n, 1),
+    );
+    mesh::both(angles, mesh::has_length(first, p, 1))
+}
+
+// The questions 1 to 8; `lengths` is the answer to question 2.
+fn check_normals(n: usize, p: usize, h: &[i32], refs: &[i32], lengths: bool) -> Checked
+    ensures { λ r. ⌜ r ≡ checkNormals (now (h .entry)) (now (refs .entry)) n p lengths ⌝ }
+{
+    mesh::check_refs(mesh::check_mesh(h, n, p, lengths), refs, n)
+}
+
+// Making from normals, for lists of any length and content. `pos` and `normals` have three numbers for each point,
+// `face_normals` and `refs` three for each triangle, `halfedge_normals` three for each halfedge: the normal of its corner, 0
+// where it is missing. With `old` the tangents t hold the old ones. Of the scratch lists `first` has a place for each point,
+// each other one for each halfedge.
+pub fn create_tangents_from_normals(
+    n: usize,
+    p: usize,
+    h: &[i32],
+    pos: &[f64],
+    normals: &[f64],
+    face_normals: &[f64],
+    refs: &[i32],
+    halfedge_normals: &[f64],
+    old: bool,
+    t: &mut [f64],
+    fixed: &mut [u8],
+    inside: &mut [u8],
+    current: &mut [f64],
+    desired: &mut [f64],
+    first: &mut [usize],
+) -> Checked
+    ensures answer { λ r. ⌜ r ≡ checkLists (now (h .entry)) (now (pos .entry)) (now (normals .entry)) (now («face_normals» .entry)) (now (refs .entry)) (now («halfedge_normals» .entry)) (now (t .entry)) (now (fixed .entry)) (now (inside .entry)) (now (current .entry)) (now (desired .entry)) (now (first .entry)) n p ⌝ }
+    ensures tangents { λ r. ⌜ now (t .exit) ≡ tangentsAfter r (now (h .entry)) (now (pos .entry)) (now (normals .entry)) (now («face_normals» .entry)) (now (refs .entry)) (now («halfedge_normals» .entry)) (now (t .entry)) old n p ⌝ }
+    ensures fixed { λ r. ⌜ now (fixed .exit) ≡ whenAccepted r (replicate n 0) (now (fixed .entry)) ⌝ }
+    ensures inside { λ r. ⌜ now (inside .exit) ≡ whenAccepted r (replicate n 0) (now (inside .entry)) ⌝ }
+    ensures current { λ r. ⌜ now (current .exit) ≡ whenAccepted r (replicate n zero) (now (current .entry)) ⌝ }
+    ensures desired { λ r. ⌜ now (desired .exit) ≡ whenAccepted r (replicate n zero) (now (desired .entry)) ⌝ }
+    ensures first { λ r. ⌜ now (first .exit) ≡ whenAccepted r (replicate p 0) (now (first .entry)) ⌝ }
+{
+    let lengths = mesh::both(
+        lists_fit(
+            n,
+            p,
+            h.len(),
+            pos.len(),
+            normals.len(),
+            face_normals.len(),
+            refs.len(),
+            halfedge_normals.len(),
+            t.len(),
+        ),
+        scratch_fits(
+            n,
+            p,
+            fixed.len(),
+            inside.len(),
+            current.len(),
+            desired.len(),
+            first.len(),
+        ),
+    );
+    let checked = check_normals(n, p, h, refs, lengths);
+    let Checked::Accepted = checked else {
+        return checked;
+    };
+    normals_core::make_tangents(
+        n,
+        p,
+        h,
+        pos,
+        normals,
+        face_normals,
+        refs,
+        halfedge_normals,
+        old,
+        t,
+        fixed,
+        inside,
+        current,
+        desired,
+        first,
+    );
+    checked
+}

@@ -1,0 +1,3 @@
+-- The laws of `normals_core`.
+mod Core
+mod Lent

@@ -1,0 +1,53 @@
+-- `normals_core::normal_tangents` meets its contract: five calls in a row. Assumes nothing.
+use mathlib.Core.Path.{_∙_}
+use Rattle.float.specs.Ops.{zero}
+use Rattle.faces.proofs.Lent.{verts-in}
+use Rattle.normals_core.proofs.Core.{cleared, made}
+use Rattle.normals_core.proofs.Lent.{inside-in, verts-lists}
+use Rattle.normals_core.proofs.normal_tangents.Statement.{statement}
+use Rattle.normals_core.proofs.normal_tangents.Tie as tie
+
+inside-quads-requires : tie.Need-inside-quads-requires
+inside-quads-requires c κs = inside-in (c .before .before .before .before .before .before .before .before .before .before .pre)
+
+clear-requires : tie.Need-clear-requires
+clear-requires c κs = tt
+
+fill-bytes-requires : tie.Need-fill-bytes-requires
+fill-bytes-requires c κs = tt
+
+vert-halfedge-requires : tie.Need-vert-halfedge-requires
+vert-halfedge-requires c κs = verts-in _ _ _ (c .before .before .before .before .before .before .before .before .before .before .before .before .before .before .before .before .before .before .before .before .before .before .pre .sound)
+
+normals-verts-requires : tie.Need-normals-verts-requires
+normals-verts-requires c κs = verts-lists (c .before .before .before .before .before .before .before .before .before .before .before .before .before .before .before .before .before .before .before .before .before .before .before .before .before .before .before .before .before .pre) (c .before .before .before .before .before .before .before .before .before .before .before .before .before .before .clear .kept .0) (c .before .before .before .before .before .before .before .before .before .before .fill-bytes .kept .0) (c .before .before .before .before .before .before .before .before .before .before .before .before .before .before .before .before .before .before .inside-quads .kept .1 .1 .1 .1 .1 .0) (c .before .before .before .before .before .before .vert-halfedge .kept .1 .0) (c .before .before .before .before .before .before .vert-halfedge .ensures)
+
+same-length : tie.Need-same-length
+same-length c = c .before .before .before .before .normals-verts .kept .1 .1 .1 .1 .1 .1 .1 .1 .0 ∙ c .before .before .before .before .before .before .before .before .before .before .before .before .before .before .before .before .before .before .before .clear .kept .0
+
+same-length-2 : tie.Need-same-length-2
+same-length-2 c = c .before .before .before .before .normals-verts .kept .1 .1 .1 .1 .1 .1 .1 .1 .1 .0 ∙ c .before .before .before .before .before .before .before .before .before .before .before .before .before .before .before .fill-bytes .kept .0
+
+same-length-3 : tie.Need-same-length-3
+same-length-3 c = c .before .before .before .before .before .before .before .before .before .before .before .before .before .before .before .before .before .before .before .before .before .before .before .inside-quads .kept .1 .1 .1 .1 .1 .0
+
+same-length-4 : tie.Need-same-length-4
+same-length-4 c = c .before .before .before .before .before .before .before .before .before .before .before .vert-halfedge .kept .1 .0
+
+returns : tie.Need-returns
+returns c = let a = c .before .before .before .before .before .before .before .before .before .before .before .before .before .before .before .before .before .before .before .before .before .before .before .before .before .before .before .before .before .before .before .before .before .before .args in let w = c .before .before .before .before .before .before .before .before .before .before .before .before .before .before .before .before .before .before .before .before .before .before .before .before .before .before .before .before .before .before .before .before .before .before .pre in made (a .h .now) (a .refs .now) (a .pos .now) (a .normals .now) (a .«face-normals» .now) (a .«halfedge-normals» .now) (a .t .now) (a .old) (a .n) _ _ _ _ _ _ _ (c .before .before .before .before .normals-verts .ensures) (c .before .before .before .before .before .before .before .before .before .before .before .before .before .before .before .before .before .before .before .before .before .before .before .inside-quads .ensures) (cleared _ zero _ _ (c .before .before .before .before .before .before .before .before .before .before .before .before .before .before .before .before .before .before .before .clear .ensures) (w .tangents)) (cleared _ 0 _ _ (c .before .before .before .before .before .before .before .before .before .before .before .before .before .before .before .fill-bytes .ensures) (w .fixed)) (c .before .before .before .before .before .before .before .before .before .before .before .vert-halfedge .kept .1 .0)
+
+pub normal-tangents-spec : {M : Type 1} → statement M
+normal-tangents-spec =
+    tie.close
+    (tie.spec
+    inside-quads-requires
+    clear-requires
+    fill-bytes-requires
+    vert-halfedge-requires
+    normals-verts-requires
+    same-length
+    same-length-2
+    same-length-3
+    same-length-4
+    returns)

@@ -1,0 +1,2 @@
+-- The specs of `normals_core`.
+pub mod Core

@@ -1,0 +1,146 @@
+// `create_tangents_from_normals` of src/smoothing_tangents.rs on an accepted mesh.
+ghost use mathlib.Core.Path.{_≡_};
+ghost use Prim.Native.Nat.{_<_};
+ghost use lib.ListN.{length, replicate};
+ghost use Rattle.float.specs.Ops.{zero};
+ghost use Rattle.smoothing.specs.Edges.{QuadIn};
+ghost use Rattle.shapes.specs.Shapes.{tangentsOf};
+ghost use Rattle.distribute_walks.specs.Walks.{Lists as SpreadLists};
+ghost use Rattle.distribute.specs.Distribute.{spreadTangents};
+ghost use Rattle.normals_core.specs.Core.{InsideIn, TangentLists, Lists, insideQuadAt, insideQuads, normalTangents, createTangentsFromNormals};
+
+// Flags halfedge e if it is inside a quad.
+fn inside_quad_at(h: &[i32], refs: &[i32], t: &[f64], old: bool, inside: &mut [u8], e: usize)
+    requires { ⌜ (e < length (now inside)) × QuadIn (now h) (now t) e ⌝ }
+    ensures { λ _. ⌜ now (inside .exit) ≡ insideQuadAt (now (h .entry)) (now (refs .entry)) (now (t .entry)) old (now (inside .entry)) e ⌝ }
+{
+    if smoothing::is_inside_quad(h, refs, t, old, e) {
+        inside[e] = 1;
+    }
+}
+
+// A 1 for each halfedge inside a quad, whatever the list held.
+fn inside_quads(n: usize, h: &[i32], refs: &[i32], t: &[f64], old: bool, inside: &mut [u8])
+    requires { ⌜ InsideIn (now h) (now t) (now inside) n ⌝ }
+    ensures { λ _. ⌜ now (inside .exit) ≡ insideQuads (now (h .entry)) (now (refs .entry)) (now (t .entry)) old n ⌝ }
+{
+    faces::fill_bytes(inside, 0);
+    let mut e = 0;
+    while e < n {
+        inside_quad_at(h, refs, t, old, inside, e);
+        e += 1;
+    }
+}
+
+// The tangents and the fixed flags before spreading. The old weights are read before the tangents become 0.
+fn normal_tangents(
+    n: usize,
+    h: &[i32],
+    pos: &[f64],
+    normals: &[f64],
+    face_normals: &[f64],
+    refs: &[i32],
+    halfedge_normals: &[f64],
+    old: bool,
+    t: &mut [f64],
+    fixed: &mut [u8],
+    inside: &mut [u8],
+    first: &mut [usize],
+)
+    requires { ⌜ TangentLists (now h) (now pos) (now normals) (now «face_normals») (now «halfedge_normals») (now t) (now fixed) (now inside) (now first) n ⌝ }
+    ensures { λ _. ⌜ tangentsOf (now (t .exit)) (now (fixed .exit)) ≡ normalTangents (now (h .entry)) (now (refs .entry)) (now (pos .entry)) (now (normals .entry)) (now («face_normals» .entry)) (now («halfedge_normals» .entry)) (now (t .entry)) old n (length (now (first .entry))) ⌝ }
+{
+    inside_quads(n, h, refs, t, old, inside);
+    distribute::clear(t);
+    faces::fill_bytes(fixed, 0);
+    faces::vert_halfedge(h, first, n);
+    normals_walks::normals_verts(
+        n,
+        h,
+        pos,
+        normals,
+        face_normals,
+        halfedge_normals,
+        inside,
+        first,
+        t,
+        fixed,
+    );
+}
+
+// Spreading, and zeros in the lists of angles.
+fn finish_tangents(
+    n: usize,
+    p: usize,
+    h: &[i32],
+    pos: &[f64],
+    normals: &[f64],
+    fixed: &[u8],
+    t: &mut [f64],
+    current: &mut [f64],
+    desired: &mut [f64],
+)
+    requires { ⌜ SpreadLists (now h) (now pos) (now normals) (now fixed) (now t) (now current) (now desired) n p ⌝ }
+    ensures tangents { λ _. ⌜ now (t .exit) ≡ spreadTangents (now (h .entry)) (now (pos .entry)) (now (normals .entry)) (now (fixed .entry)) (now (t .entry)) n .tangents ⌝ }
+    ensures current { λ _. ⌜ now (current .exit) ≡ replicate n zero ⌝ }
+    ensures desired { λ _. ⌜ now (desired .exit) ≡ replicate n zero ⌝ }
+{
+    distribute::spread_all(n, p, h, pos, normals, fixed, t, current, desired);
+    distribute::clear(current);
+    distribute::clear(desired);
+}
+
+// Zeros in the other scratch lists.
+fn clear_scratch(fixed: &mut [u8], inside: &mut [u8], first: &mut [usize])
+    ensures fixed { λ _. ⌜ now (fixed .exit) ≡ replicate (length (now (fixed .entry))) 0 ⌝ }
+    ensures inside { λ _. ⌜ now (inside .exit) ≡ replicate (length (now (inside .entry))) 0 ⌝ }
+    ensures first { λ _. ⌜ now (first .exit) ≡ replicate (length (now (first .entry))) 0 ⌝ }
+{
+    faces::fill_bytes(fixed, 0);
+    faces::fill_bytes(inside, 0);
+    faces::fill(first, 0);
+}
+
+// The tangents of an accepted call, and zeros in all scratch lists.
+pub fn make_tangents(
+    n: usize,
+    p: usize,
+    h: &[i32],
+    pos: &[f64],
+    normals: &[f64],
+    face_normals: &[f64],
+    refs: &[i32],
+    halfedge_normals: &[f64],
+    old: bool,
+    t: &mut [f64],
+    fixed: &mut [u8],
+    inside: &mut [u8],
+    current: &mut [f64],
+    desired: &mut [f64],
+    first: &mut [usize],
+)
+    requires { ⌜ Lists (now h) (now pos) (now normals) (now «face_normals») (now «halfedge_normals») (now t) (now fixed) (now inside) (now current) (now desired) (now first) n p ⌝ }
+    ensures tangents { λ _. ⌜ now (t .exit) ≡ createTangentsFromNormals (now (h .entry)) (now (refs .entry)) (now (pos .entry)) (now (normals .entry)) (now («face_normals» .entry)) (now («halfedge_normals» .entry)) (now (t .entry)) old n p ⌝ }
+    ensures fixed { λ _. ⌜ now (fixed .exit) ≡ replicate n 0 ⌝ }
+    ensures inside { λ _. ⌜ now (inside .exit) ≡ replicate n 0 ⌝ }
+    ensures current { λ _. ⌜ now (current .exit) ≡ replicate n zero ⌝ }
+    ensures desired { λ _. ⌜ now (desired .exit) ≡ replicate n zero ⌝ }
+    ensures first { λ _. ⌜ now (first .exit) ≡ replicate p 0 ⌝ }
+{
+    normal_tangents(
+        n,
+        h,
+        pos,
+        normals,
+        face_normals,
+        refs,
+        halfedge_normals,
+        old,
+        t,
+        fixed,
+        inside,
+        first,
+    );
+    finish_tangents(n, p, h, pos, normals, fixed, t, current, desired);
+    clear_scratch(fixed, inside, first);
+}

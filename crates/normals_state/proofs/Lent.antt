@@ -1,0 +1,27 @@
+-- On an accepted mesh the lent lists hold what `normals_state` reads. Assumes nothing.
+use Prim.Native.Nat.{ℕ, _*_, _+_, _/_, _<_, _≤_}
+use native.Mathlib.Omega.{arith}
+use mathlib.Core.Path.{_≡_}
+use mathlib.Core.List.{List}
+use lib.ListN.{length}
+use lib.IntN.{ℤ}
+use lib.Ieee.{Float}
+use Rattle.cycles.specs.Cycles.{nextAround}
+use Rattle.cycles.proofs.Around.{next-below}
+use Rattle.normals_state.specs.State.{MissingIn, StateLists}
+
+-- the normals of halfedge e and of the next one round its point, x
+module _ {H : List ℤ} {G : List Float} {n : ℕ} (w : MissingIn H G n) {e : ℕ} (h : e < n) where
+  pub here-in : e * 3 + 3 ≤ length G
+  here-in = omega (arith, w .normals)
+
+  pub next-in : {x : ℕ} → x ≡ nextAround H e → x * 3 + 3 ≤ length G
+  next-in q = omega (arith, w .normals, next-below (w .sound) e h)
+
+-- and those of their triangles
+module _ {H : List ℤ} {A G : List Float} {n : ℕ} (w : StateLists H A G n) {e : ℕ} (h : e < n) where
+  pub here-face-in : e / 3 * 3 + 3 ≤ length A
+  here-face-in = omega (arith, w .face-normals, w .missing .sound .triangles)
+
+  pub next-face-in : {x : ℕ} → x ≡ nextAround H e → x / 3 * 3 + 3 ≤ length A
+  next-face-in q = omega (arith, w .face-normals, w .missing .sound .triangles, next-below (w .missing .sound) e h)

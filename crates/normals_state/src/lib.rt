@@ -1,0 +1,219 @@
+// What `create_tangents_from_normals` reads of the normals, and what it carries on its way round a vertex cycle.
+ghost use mathlib.Core.Path.{_≡_};
+ghost use mathlib.Core.Bool.{xor};
+ghost use Prim.Native.Nat.{_+_, _*_, _/_, _≤_, _<_};
+ghost use lib.ListN.{length};
+ghost use Rattle.normals_state.specs.State.{MissingIn, StateLists, getNormal, isZero, normalOr, hasFaceNormal, isMissing, addFaceEdge, nextFaceEdges, setStart, missingStart, nextStart, someMissing, nextLast, startState, nextState, spoilFaceEdges};
+use linalg::Vec3;
+
+// The Rust's `face_edges`, the halfedges round a point at which a flat face begins or ends: none yet; one; two; or a third, or
+// more than one normal at the point (its -2), so that there is no single flat face.
+pub enum FaceEdges {
+    NoEdge,
+    OneEdge(usize),
+    TwoEdges { first: usize, second: usize },
+    Spoiled,
+}
+
+// The Rust's `start_halfedge`: no normal is missing (its -1); some are, and none follows them yet (its -2); or the first halfedge
+// whose normal is missing and the next one's is not.
+pub enum StartHalfedge {
+    NoneMissing,
+    SomeMissing,
+    StartAt(usize),
+}
+
+// What the loop round a vertex cycle carries besides the lists. `last_normal` is the last one before a missing one.
+pub struct CycleState {
+    pub face_edges: FaceEdges,
+    pub start_halfedge: StartHalfedge,
+    pub last_normal: Vec3,
+}
+
+// ---- normals
+
+// The normal of halfedge e. The one place where it is read.
+pub fn get_normal(halfedge_normals: &[f64], e: usize) -> Vec3
+    requires { ⌜ e * 3 + 3 ≤ length (now «halfedge_normals») ⌝ }
+    ensures { λ r. ⌜ r ≡ getNormal (now («halfedge_normals» .entry)) e ⌝ }
+{
+    smoothing::point_at(halfedge_normals, e)
+}
+
+// Is each number 0? That of a missing normal is.
+pub fn is_zero(v: Vec3) -> bool
+    ensures { λ r. ⌜ r ≡ isZero v ⌝ }
+{
+    mesh::both(mesh::both(v.x == 0.0, v.y == 0.0), v.z == 0.0)
+}
+
+// A normal, or another where it is missing.
+pub fn normal_or(v: Vec3, other: Vec3) -> Vec3
+    ensures { λ r. ⌜ r ≡ normalOr v other ⌝ }
+{
+    if is_zero(v) {
+        return other;
+    }
+    v
+}
+
+// Is the normal of halfedge e that of its triangle?
+fn has_face_normal(face_normals: &[f64], halfedge_normals: &[f64], e: usize) -> bool
+    requires { ⌜ (e / 3 * 3 + 3 ≤ length (now «face_normals»)) × (e * 3 + 3 ≤ length (now «halfedge_normals»)) ⌝ }
+    ensures { λ r. ⌜ r ≡ hasFaceNormal (now («face_normals» .entry)) (now («halfedge_normals» .entry)) e ⌝ }
+{
+    let normal = get_normal(halfedge_normals, e);
+    smoothing::equal_normals(normal, smoothing::point_at(face_normals, e / 3))
+}
+
+// Is the normal of halfedge e or that of the next one round its point missing?
+pub fn is_missing(n: usize, h: &[i32], halfedge_normals: &[f64], e: usize) -> bool
+    requires { ⌜ (e < n) × MissingIn (now h) (now «halfedge_normals») n ⌝ }
+    ensures { λ r. ⌜ r ≡ isMissing (now (h .entry)) (now («halfedge_normals» .entry)) e ⌝ }
+{
+    let here_zero = is_zero(get_normal(halfedge_normals, e));
+    let next = cycles::next_around(h, e);
+    cycles::either(here_zero, is_zero(get_normal(halfedge_normals, next)))
+}
+
+// ---- what the loop carries
+
+fn add_face_edge(face_edges: FaceEdges, e: usize) -> FaceEdges
+    ensures { λ r. ⌜ r ≡ addFaceEdge «face_edges» e ⌝ }
+{
+    match face_edges {
+        FaceEdges::NoEdge => FaceEdges::OneEdge(e),
+        FaceEdges::OneEdge(a) => FaceEdges::TwoEdges {
+            first: a,
+            second: e,
+        },
+        FaceEdges::TwoEdges {
+            first: _,
+            second: _,
+        } => FaceEdges::Spoiled,
+        FaceEdges::Spoiled => FaceEdges::Spoiled,
+    }
+}
+
+// Does one of the two hold, and the other not?
+fn differ(a: bool, b: bool) -> bool
+    ensures { λ r. ⌜ r ≡ xor a b ⌝ }
+{
+    if a { !b } else { b }
+}
+
+fn next_face_edges(here: bool, next: bool, face_edges: FaceEdges, e: usize) -> FaceEdges
+    ensures { λ r. ⌜ r ≡ nextFaceEdges here next «face_edges» e ⌝ }
+{
+    if differ(here, next) {
+        return add_face_edge(face_edges, e);
+    }
+    face_edges
+}
+
+// Another start, where there is none yet.
+fn set_start(start: StartHalfedge, to: StartHalfedge) -> StartHalfedge
+    ensures { λ r. ⌜ r ≡ setStart start to ⌝ }
+{
+    match start {
+        StartHalfedge::NoneMissing => to,
+        StartHalfedge::SomeMissing => to,
+        StartHalfedge::StartAt(e) => StartHalfedge::StartAt(e),
+    }
+}
+
+// What a missing normal at halfedge e sets, by whether the next one is missing too.
+fn missing_start(next: bool, e: usize) -> StartHalfedge
+    ensures { λ r. ⌜ r ≡ missingStart next e ⌝ }
+{
+    if next {
+        return StartHalfedge::SomeMissing;
+    }
+    StartHalfedge::StartAt(e)
+}
+
+fn next_start(here: bool, next: bool, start: StartHalfedge, e: usize) -> StartHalfedge
+    ensures { λ r. ⌜ r ≡ nextStart here next start e ⌝ }
+{
+    if here {
+        return set_start(start, missing_start(next, e));
+    }
+    start
+}
+
+// Is any normal of the vertex cycle missing?
+pub fn some_missing(start: StartHalfedge) -> bool
+    ensures { λ r. ⌜ r ≡ someMissing start ⌝ }
+{
+    match start {
+        StartHalfedge::NoneMissing => false,
+        StartHalfedge::SomeMissing => true,
+        StartHalfedge::StartAt(_) => true,
+    }
+}
+
+fn next_last(here: bool, next: bool, normal: Vec3, last: Vec3) -> Vec3
+    ensures { λ r. ⌜ r ≡ nextLast here next normal last ⌝ }
+{
+    if mesh::both(!here, next) {
+        normal
+    } else {
+        last
+    }
+}
+
+// What is carried before the first halfedge.
+pub fn start_state() -> CycleState
+    ensures { λ r. ⌜ r ≡ startState ⌝ }
+{
+    CycleState {
+        face_edges: FaceEdges::NoEdge,
+        start_halfedge: StartHalfedge::NoneMissing,
+        last_normal: Vec3 {
+            x: 0.0,
+            y: 0.0,
+            z: 0.0,
+        },
+    }
+}
+
+// What is carried after halfedge e.
+pub fn next_state(
+    n: usize,
+    h: &[i32],
+    face_normals: &[f64],
+    halfedge_normals: &[f64],
+    state: CycleState,
+    e: usize,
+) -> CycleState
+    requires { ⌜ (e < n) × StateLists (now h) (now «face_normals») (now «halfedge_normals») n ⌝ }
+    ensures { λ r. ⌜ r ≡ nextState (now (h .entry)) (now («face_normals» .entry)) (now («halfedge_normals» .entry)) state e ⌝ }
+{
+    let next = cycles::next_around(h, e);
+    let normal = get_normal(halfedge_normals, e);
+    let here_zero = is_zero(normal);
+    let next_zero = is_zero(get_normal(halfedge_normals, next));
+    let here_is_flat = has_face_normal(face_normals, halfedge_normals, e);
+    let next_is_flat = has_face_normal(face_normals, halfedge_normals, next);
+    let edges = state.face_edges;
+    let start = state.start_halfedge;
+    let last = state.last_normal;
+    CycleState {
+        face_edges: next_face_edges(here_is_flat, next_is_flat, edges, e),
+        start_halfedge: next_start(here_zero, next_zero, start, e),
+        last_normal: next_last(here_zero, next_zero, normal, last),
+    }
+}
+
+// There is no single flat face.
+pub fn spoil_face_edges(state: CycleState) -> CycleState
+    ensures { λ r. ⌜ r ≡ spoilFaceEdges state ⌝ }
+{
+    let start_halfedge = state.start_halfedge;
+    let last_normal = state.last_normal;
+    CycleState {
+        face_edges: FaceEdges::Spoiled,
+        start_halfedge,
+        last_normal,
+    }
+}

@@ -1,0 +1,2 @@
+-- The laws of `normals_steps`, which the crates above cite.
+pub mod Lent

@@ -1,0 +1,2 @@
+-- The specs of `normals_steps`.
+pub mod Steps

@@ -1,0 +1,272 @@
+// One halfedge, or one point, in `create_tangents_from_normals`: the bodies of its loops, and the edges of a single flat face.
+ghost use mathlib.Core.Path.{_≡_};
+ghost use Prim.Native.Nat.{_+_, _*_, _≤_, _<_};
+ghost use lib.ListN.{length};
+ghost use Rattle.smoothing.specs.Edges.{EdgeIn, FacesIn};
+ghost use Rattle.shapes.specs.Sharpen.{AlignIn};
+ghost use Rattle.shapes.specs.Shapes.{ShapeIn, tangentsOf};
+ghost use Rattle.normals_steps.specs.Steps.{NormalsIn, StepIn, FaceEdgesIn, signedDir, tangentBetween, withWeight, flagTangent, walkOf, tangentStep, normalStep, vertNormalStep, fillOf, fillTangent, putFillTangent, fillStep, faceTangent, alignEdges, fixFaceEdges, alignFaceEdges};
+use linalg::Vec3;
+use linalg::Vec4;
+use normals_state::CycleState;
+use normals_state::FaceEdges;
+
+// ---- the loop round the vertex cycle
+
+// The direction of a halfedge between two normals: along their cross product, or against it, as the edge runs.
+fn signed_dir(a: Vec3, b: Vec3, edge_vec: Vec3) -> Vec3
+    ensures { λ r. ⌜ r ≡ signedDir a b «edge_vec» ⌝ }
+{
+    let dir = linalg::cross(a, b);
+    if linalg::dot(dir, edge_vec) < 0.0 {
+        return linalg::neg(dir);
+    }
+    dir
+}
+
+// The tangent of halfedge e between two normals; `equal` says whether they are equal.
+fn tangent_between(
+    h: &[i32],
+    pos: &[f64],
+    face_normals: &[f64],
+    a: Vec3,
+    b: Vec3,
+    equal: bool,
+    e: usize,
+) -> Vec4
+    requires { ⌜ FacesIn (now h) (now pos) (now «face_normals») e ⌝ }
+    ensures { λ r. ⌜ r ≡ tangentBetween (now (h .entry)) (now (pos .entry)) (now («face_normals» .entry)) a b equal e ⌝ }
+{
+    if equal {
+        return smoothing::tangent_from_normal(h, pos, face_normals, a, e);
+    }
+    let edge = smoothing::edge_vec(h, pos, e);
+    smoothing::circular_tangent(signed_dir(a, b, edge), edge)
+}
+
+fn with_weight(v: Vec3, w: f64) -> Vec4
+    ensures { λ r. ⌜ r ≡ withWeight v w ⌝ }
+{
+    Vec4 {
+        x: v.x,
+        y: v.y,
+        z: v.z,
+        w,
+    }
+}
+
+// The tangent of a halfedge first, where it was t.
+fn flag_tangent(missing: bool, inside: bool, last: Vec3, t: Vec4) -> Vec4
+    ensures { λ r. ⌜ r ≡ flagTangent missing inside last t ⌝ }
+{
+    if inside {
+        return with_weight(last, -1.0);
+    }
+    if missing {
+        return with_weight(last, -3.0);
+    }
+    with_weight(smoothing::vec3_from_vec4(t), 1.0)
+}
+
+// A halfedge e without a flag: fixed where its normal and the next one differ.
+fn tangent_step(
+    n: usize,
+    h: &[i32],
+    pos: &[f64],
+    face_normals: &[f64],
+    halfedge_normals: &[f64],
+    t: &mut [f64],
+    fixed: &mut [u8],
+    state: CycleState,
+    e: usize,
+) -> CycleState
+    requires { ⌜ (e < n) × NormalsIn (now h) (now pos) (now «face_normals») (now «halfedge_normals») (now t) n × (length (now fixed) ≡ n) ⌝ }
+    ensures { λ r. ⌜ walkOf (now (t .exit)) (now (fixed .exit)) r ≡ tangentStep (now (h .entry)) (now (pos .entry)) (now («face_normals» .entry)) (now («halfedge_normals» .entry)) (walkOf (now (t .entry)) (now (fixed .entry)) state) e ⌝ }
+{
+    let here = normals_state::get_normal(halfedge_normals, e);
+    let next = normals_state::get_normal(halfedge_normals, cycles::next_around(h, e));
+    let equal = smoothing::equal_normals(next, here);
+    let tangent = tangent_between(h, pos, face_normals, here, next, equal, e);
+    smoothing::put_tangent(t, e, tangent);
+    if equal {
+        return state;
+    }
+    fixed[e] = 1;
+    normals_state::spoil_face_edges(state)
+}
+
+// The body of the loop, at halfedge e: what is carried after it.
+pub fn normal_step(
+    n: usize,
+    h: &[i32],
+    pos: &[f64],
+    face_normals: &[f64],
+    halfedge_normals: &[f64],
+    inside: &[u8],
+    t: &mut [f64],
+    fixed: &mut [u8],
+    state: CycleState,
+    e: usize,
+) -> CycleState
+    requires { ⌜ (e < n) × StepIn (now h) (now pos) (now «face_normals») (now «halfedge_normals») (now inside) (now t) (now fixed) n ⌝ }
+    ensures { λ r. ⌜ walkOf (now (t .exit)) (now (fixed .exit)) r ≡ normalStep (now (h .entry)) (now (pos .entry)) (now («face_normals» .entry)) (now («halfedge_normals» .entry)) (now (inside .entry)) (walkOf (now (t .entry)) (now (fixed .entry)) state) e ⌝ }
+{
+    let after = normals_state::next_state(n, h, face_normals, halfedge_normals, state, e);
+    let missing = normals_state::is_missing(n, h, halfedge_normals, e);
+    let before = smoothing::tangent_at(t, e);
+    let last = after.last_normal;
+    let flagged = flag_tangent(missing, inside[e] == 1, last, before);
+    smoothing::put_tangent(t, e, flagged);
+    if smoothing::weight_at(t, e) < 0.0 {
+        return after;
+    }
+    tangent_step(
+        n,
+        h,
+        pos,
+        face_normals,
+        halfedge_normals,
+        t,
+        fixed,
+        after,
+        e,
+    )
+}
+
+// ---- missing normals
+
+// All normals are missing, at halfedge e: the tangent from the point's normal, unless e is inside a quad.
+pub fn vert_normal_step(
+    h: &[i32],
+    pos: &[f64],
+    face_normals: &[f64],
+    normal: Vec3,
+    t: &mut [f64],
+    e: usize,
+)
+    requires { ⌜ (e * 4 + 4 ≤ length (now t)) × FacesIn (now h) (now pos) (now «face_normals») e ⌝ }
+    ensures { λ _. ⌜ now (t .exit) ≡ vertNormalStep (now (h .entry)) (now (pos .entry)) (now («face_normals» .entry)) normal (now (t .entry)) e ⌝ }
+{
+    if smoothing::is_marked_inside_quad(t, e) {
+        return;
+    }
+    let tangent = smoothing::tangent_from_normal(h, pos, face_normals, normal, e);
+    smoothing::put_tangent(t, e, tangent);
+}
+
+// The tangent of halfedge e, where it was t and its normal is missing.
+fn fill_tangent(
+    h: &[i32],
+    pos: &[f64],
+    face_normals: &[f64],
+    last: Vec3,
+    prev: Vec3,
+    t: Vec4,
+    e: usize,
+) -> Vec4
+    requires { ⌜ FacesIn (now h) (now pos) (now «face_normals») e ⌝ }
+    ensures { λ r. ⌜ r ≡ fillTangent (now (h .entry)) (now (pos .entry)) (now («face_normals» .entry)) last prev t e ⌝ }
+{
+    let next = normals_state::normal_or(smoothing::vec3_from_vec4(t), last);
+    let equal = smoothing::equal_normals(prev, next);
+    tangent_between(h, pos, face_normals, prev, next, equal, e)
+}
+
+// The same, written.
+fn put_fill_tangent(
+    h: &[i32],
+    pos: &[f64],
+    face_normals: &[f64],
+    last: Vec3,
+    prev: Vec3,
+    t: &mut [f64],
+    e: usize,
+)
+    requires { ⌜ (e * 4 + 4 ≤ length (now t)) × FacesIn (now h) (now pos) (now «face_normals») e ⌝ }
+    ensures { λ _. ⌜ now (t .exit) ≡ putFillTangent (now (h .entry)) (now (pos .entry)) (now («face_normals» .entry)) last prev (now (t .entry)) e ⌝ }
+{
+    if smoothing::weight_at(t, e) == -3.0 {
+        let old = smoothing::tangent_at(t, e);
+        let tangent = fill_tangent(h, pos, face_normals, last, prev, old, e);
+        smoothing::put_tangent(t, e, tangent);
+    }
+}
+
+// The body of the loop backwards, at halfedge e: the last normal that it has come by, after it.
+pub fn fill_step(
+    h: &[i32],
+    pos: &[f64],
+    face_normals: &[f64],
+    halfedge_normals: &[f64],
+    last: Vec3,
+    t: &mut [f64],
+    prev: Vec3,
+    e: usize,
+) -> Vec3
+    requires { ⌜ (e * 4 + 4 ≤ length (now t)) × (e * 3 + 3 ≤ length (now «halfedge_normals»)) × FacesIn (now h) (now pos) (now «face_normals») e ⌝ }
+    ensures { λ r. ⌜ fillOf (now (t .exit)) r ≡ fillStep (now (h .entry)) (now (pos .entry)) (now («face_normals» .entry)) (now («halfedge_normals» .entry)) last (fillOf (now (t .entry)) prev) e ⌝ }
+{
+    put_fill_tangent(h, pos, face_normals, last, prev, t, e);
+    normals_state::normal_or(normals_state::get_normal(halfedge_normals, e), prev)
+}
+
+// ---- the edges of a single flat face
+
+fn face_tangent(h: &[i32], pos: &[f64], a: usize, b: usize) -> Vec3
+    requires { ⌜ EdgeIn (now h) (now pos) a × EdgeIn (now h) (now pos) b ⌝ }
+    ensures { λ r. ⌜ r ≡ faceTangent (now (h .entry)) (now (pos .entry)) a b ⌝ }
+{
+    let first = linalg::normalize(smoothing::edge_vec(h, pos, a));
+    let second = linalg::normalize(smoothing::edge_vec(h, pos, b));
+    linalg::sub(first, second)
+}
+
+// Both edges along one line.
+fn align_edges(h: &[i32], pos: &[f64], t: &mut [f64], a: usize, b: usize)
+    requires { ⌜ AlignIn (now h) (now pos) (now t) a b ⌝ }
+    ensures { λ _. ⌜ now (t .exit) ≡ alignEdges (now (h .entry)) (now (pos .entry)) (now (t .entry)) a b ⌝ }
+{
+    let dir = face_tangent(h, pos, a, b);
+    shapes::put_circular_tangent(h, pos, t, a, dir);
+    shapes::put_circular_tangent(h, pos, t, b, linalg::neg(dir));
+}
+
+// The same, and both are fixed.
+fn fix_face_edges(
+    n: usize,
+    h: &[i32],
+    pos: &[f64],
+    t: &mut [f64],
+    fixed: &mut [u8],
+    a: usize,
+    b: usize,
+)
+    requires { ⌜ (a < n) × (b < n) × ShapeIn (now h) (now pos) (now t) (now fixed) n ⌝ }
+    ensures { λ _. ⌜ tangentsOf (now (t .exit)) (now (fixed .exit)) ≡ fixFaceEdges (now (h .entry)) (now (pos .entry)) (tangentsOf (now (t .entry)) (now (fixed .entry))) a b ⌝ }
+{
+    align_edges(h, pos, t, a, b);
+    fixed[a] = 1;
+    fixed[b] = 1;
+}
+
+// The same where there are two.
+pub fn align_face_edges(
+    n: usize,
+    h: &[i32],
+    pos: &[f64],
+    t: &mut [f64],
+    fixed: &mut [u8],
+    face_edges: FaceEdges,
+)
+    requires { ⌜ FaceEdgesIn n «face_edges» × ShapeIn (now h) (now pos) (now t) (now fixed) n ⌝ }
+    ensures { λ _. ⌜ tangentsOf (now (t .exit)) (now (fixed .exit)) ≡ alignFaceEdges (now (h .entry)) (now (pos .entry)) (tangentsOf (now (t .entry)) (now (fixed .entry))) «face_edges» ⌝ }
+{
+    match face_edges {
+        FaceEdges::NoEdge => {}
+        FaceEdges::OneEdge(_) => {}
+        FaceEdges::TwoEdges { first, second } => {
+            fix_face_edges(n, h, pos, t, fixed, first, second)
+        }
+        FaceEdges::Spoiled => {}
+    }
+}

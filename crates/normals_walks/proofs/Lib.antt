@@ -1,0 +1,2 @@
+-- The laws of `normals_walks`, which the crates above cite.
+pub mod Lent

@@ -1,0 +1,94 @@
+-- `normals_walks::normal_walk` meets its contract: a walk once round a vertex cycle. The invariant: what is left of the fold gives the whole. Assumes nothing.
+use Rattle.normals_walks.specs.Walks.{normalWalk}
+use Rattle.normals_steps.specs.Steps.{StateIn, walkOf, normalStep}
+use Rattle.normals_steps.proofs.Lent.{step-still, state-start, state-after}
+use Rattle.normals_state.specs.State.{startState}
+use Rattle.normals_state.specs.declared.CycleState.{CycleState}
+use Rattle.cycles.proofs.Around.{next-permutes, next-fits}
+use Rattle.cycles.proofs.Loops.{Walking, around-start, around-step, around-less, around-fold-step, around-fold-stop}
+use Rattle.cycles.proofs.Paths.{isAt, stepsLeft}
+use Rattle.cycles.specs.Cycles.{nextAround, vertexCycle}
+use Rattle.cycles.specs.Walk.{cycleFrom}
+use lib.ListN.{length}
+use native.Mathlib.Nat.{le-refl}
+use mathlib.Core.List.{foldl}
+use mathlib.Core.Path.{_≡_, refl, sym, ap, subst, _∙_}
+use Rattle.normals_walks.proofs.normal_walk.Statement.{statement}
+use Rattle.normals_walks.proofs.normal_walk.Tie as tie
+
+abbrev Inv-loop : tie.InvT-loop
+Inv-loop n h pos face-normals halfedge-normals inside t₀ fixed₀ e state₀ current₀ t fixed state current =
+    Walking (nextAround h) n (isAt e) n e current × (length t ≡ length t₀) × (length fixed ≡ length fixed₀) × StateIn n state
+    × (foldl (normalStep h pos face-normals halfedge-normals inside) (walkOf t fixed state) (cycleFrom (nextAround h) n e current) ≡ foldl (normalStep h pos face-normals halfedge-normals inside) (walkOf t₀ fixed₀ startState) (vertexCycle h n e))
+
+abbrev μ-loop : tie.MeasureT-loop
+μ-loop n h pos face-normals halfedge-normals inside t₀ fixed₀ e state₀ current₀ t fixed state current = stepsLeft (nextAround h) (isAt e) n current
+
+start-state-requires : tie.Need-start-state-requires Inv-loop μ-loop
+start-state-requires c κs = tt
+
+loop-holds : tie.Need-loop-holds Inv-loop μ-loop
+loop-holds c =
+    let z = c .before .before .before .before .before .before .before in
+    let q = c .start-state .ensures in (
+      around-start (next-permutes (z .pre .1 .lists .state .missing .sound)) (le-refl _) (z .pre .0),
+      refl,
+      refl,
+      subst (StateIn (z .args .n)) (sym q) state-start,
+      ap (λ (s : CycleState). foldl (normalStep (z .args .h .now) (z .args .pos .now) (z .args .face-normals .now) (z .args .halfedge-normals .now) (z .args .inside .now)) (walkOf (z .args .t .now) (z .args .fixed .now) s) (vertexCycle (z .args .h .now) (z .args .n) (z .args .e))) q,
+    )
+
+normal-step-requires : tie.Need-normal-step-requires Inv-loop μ-loop
+normal-step-requires c κs = let l = c .before .before .loop in (l .inv .0 .below, step-still (l .inv .1) (l .inv .2) (c .before .before .before .before .before .before .before .before .before .before .pre .1))
+
+next-around-requires : tie.Need-next-around-requires Inv-loop μ-loop
+next-around-requires c κs = let l = c .before .before .before .before .before .before .before .loop in next-fits (c .before .before .before .before .before .before .before .before .before .before .before .before .before .before .before .pre .1 .lists .state .missing .sound) (l .current) (l .inv .0 .below)
+
+loop-less : tie.Need-loop-less Inv-loop μ-loop
+loop-less c = around-less (next-permutes (c .before .before .before .before .before .before .before .before .before .before .before .before .before .before .before .before .before .pre .1 .lists .state .missing .sound)) (c .before .before .before .before .before .before .before .before .before .loop .inv .0) (c .before .next-around .ensures) (c .if1 .left)
+
+loop-again : tie.Need-loop-again Inv-loop μ-loop
+loop-again c =
+    let m = c .before .before .before .before .before .before .normal-step in
+    let l = c .before .before .before .before .before .before .before .before .before .loop in
+    let a = c .before .before .before .before .before .before .before .before .before .before .before .before .before .before .before .before .before .args in
+    let Q = next-permutes (c .before .before .before .before .before .before .before .before .before .before .before .before .before .before .before .before .before .pre .1 .lists .state .missing .sound) in (
+      around-step Q (l .inv .0) (c .before .next-around .ensures) (c .if1 .left),
+      m .kept .1 .1 .1 .1 .1 .1 .0 ∙ l .inv .1,
+      m .kept .1 .1 .1 .1 .1 .1 .1 .0 ∙ l .inv .2,
+      state-after (l .inv .0 .below) (a .h .now) (a .pos .now) (a .face-normals .now) (a .halfedge-normals .now) (a .inside .now) (walkOf (l .t) (l .fixed) (l .state)) (m .ensures) (l .inv .3),
+      around-fold-step Q (l .inv .0) (c .before .next-around .ensures) (normalStep (a .h .now) (a .pos .now) (a .face-normals .now) (a .halfedge-normals .now) (a .inside .now)) (walkOf (l .t) (l .fixed) (l .state)) (l .inv .4) (m .ensures) (c .if1 .left),
+    )
+
+same-length : tie.Need-same-length Inv-loop μ-loop
+same-length c = c .before .before .before .before .before .before .normal-step .kept .1 .1 .1 .1 .1 .1 .0 ∙ c .before .before .before .before .before .before .before .before .before .loop .inv .1
+
+same-length-2 : tie.Need-same-length-2 Inv-loop μ-loop
+same-length-2 c = c .before .before .before .before .before .before .normal-step .kept .1 .1 .1 .1 .1 .1 .1 .0 ∙ c .before .before .before .before .before .before .before .before .before .loop .inv .2
+
+returns : tie.Need-returns Inv-loop μ-loop
+unfolding normalWalk
+returns c =
+    let m = c .before .before .before .before .before .before .normal-step in
+    let l = c .before .before .before .before .before .before .before .before .before .loop in
+    let a = c .before .before .before .before .before .before .before .before .before .before .before .before .before .before .before .before .before .args in
+    let Q = next-permutes (c .before .before .before .before .before .before .before .before .before .before .before .before .before .before .before .before .before .pre .1 .lists .state .missing .sound) in (
+      around-fold-stop Q (l .inv .0) (c .before .next-around .ensures) (normalStep (a .h .now) (a .pos .now) (a .face-normals .now) (a .halfedge-normals .now) (a .inside .now)) (walkOf (l .t) (l .fixed) (l .state)) (l .inv .4) (m .ensures) (c .if1 .taken),
+      state-after (l .inv .0 .below) (a .h .now) (a .pos .now) (a .face-normals .now) (a .halfedge-normals .now) (a .inside .now) (walkOf (l .t) (l .fixed) (l .state)) (m .ensures) (l .inv .3),
+    )
+
+pub normal-walk-spec : {M : Type 1} → statement M
+normal-walk-spec =
+    tie.close
+    (tie.spec
+    Inv-loop
+    μ-loop
+    start-state-requires
+    loop-holds
+    normal-step-requires
+    next-around-requires
+    loop-less
+    loop-again
+    same-length
+    same-length-2
+    returns)

@@ -1,0 +1,82 @@
+-- The loops of `create_tangents_from_normals` round a vertex cycle, what it does at a point, and the loop over the points. H are the halfedges, P the positions, N the point normals, A the face normals, G the lent normals, Q the flags of the halfedges inside a quad, n how many halfedges there are, T the tangents.
+use Prim.Native.Nat.{ℕ, _*_, _<_}
+use mathlib.Core.Path.{_≡_}
+use mathlib.Core.List.{List, foldl}
+use mathlib.Core.Bool.{cond, _&&_}
+use lib.ListN.{length, getD}
+use lib.IntN.{ℤ}
+use lib.Dec.{ltb}
+use lib.Ieee.{Float}
+use Rattle.linalg.specs.declared.Vec3.{Vec3}
+use Rattle.mesh.specs.Fold.{foldTo}
+use Rattle.mesh.specs.Sound.{Sound}
+use Rattle.smoothing.specs.Lists.{pointAt}
+use Rattle.cycles.specs.Cycles.{nextAround, vertexCycle, vertexCycleBack}
+use Rattle.faces.specs.Faces.{vertHalfedge}
+use Rattle.shapes.specs.Sharpen.{TangentsIn}
+use Rattle.shapes.specs.Shapes.{Tangents, tangentsOf}
+use Rattle.normals_state.specs.declared.StartHalfedge.{StartHalfedge}
+use Rattle.normals_state.specs.declared.StartHalfedge.the-variants.{NoneMissing, SomeMissing, StartAt}
+use Rattle.normals_state.specs.State.{getNormal, isZero, someMissing, startState}
+use Rattle.normals_steps.specs.Steps.{Walk, walkOf, normalStep, vertNormalStep, fillOf, fillStep, alignFaceEdges}
+
+-- ---- what the lists must be for a call
+
+-- a sound mesh with its face normals, a position for each point, a tangent for each halfedge
+pub record FacesLists (H : List ℤ) (P A T : List Float) (n : ℕ) : Type 0 where
+  pub tangents : TangentsIn H T n
+  pub positions : length P ≡ tangents .points * 3
+  pub face-normals : length A ≡ n
+
+-- all lists of the loop over the points. F has a place for each point, which holds its `vert_halfedge`.
+pub record VertsLists (H : List ℤ) (P N A G : List Float) (Q F : List ℕ) (T : List Float) (X : List ℕ) (n : ℕ) : Type 0 where
+  pub sound : Sound H n (length F)
+  pub positions : length P ≡ length F * 3
+  pub point-normals : length N ≡ length F * 3
+  pub face-normals : length A ≡ n
+  pub normals : length G ≡ n * 3
+  pub inside : length Q ≡ n
+  pub vert-halfedge : (v : ℕ) → v < length F → getD F v 0 ≡ vertHalfedge H n v
+  pub tangents : length T ≡ n * 4
+  pub fixed : length X ≡ n
+
+-- ---- the loops round a vertex cycle
+
+-- the first, from halfedge e
+unfoldable pub normalWalk : List ℤ → List Float → List Float → List Float → List ℕ → ℕ → Tangents → ℕ → Walk
+normalWalk H P A G Q n m e = foldl (normalStep H P A G Q) (walkOf (m .tangents) (m .fixed) startState) (vertexCycle H n e)
+
+-- all normals are missing: `normal` is the point's
+unfoldable pub vertNormalWalk : List ℤ → List Float → List Float → ℕ → Vec3 → List Float → ℕ → List Float
+vertNormalWalk H P A n normal T e = foldl (vertNormalStep H P A normal) T (vertexCycle H n e)
+
+-- some are missing: backwards from `start`; `last` is the last normal of the first loop
+unfoldable pub fillWalk : List ℤ → List Float → List Float → List Float → ℕ → Vec3 → List Float → ℕ → List Float
+fillWalk H P A G n last T start =
+    foldl (fillStep H P A G last) (fillOf T (getNormal G (nextAround H start))) (vertexCycleBack H n start) .tangents
+
+-- `if start_halfedge >= 0`
+unfoldable pub fillMissing : List ℤ → List Float → List Float → List Float → ℕ → Vec3 → List Float → StartHalfedge → List Float
+fillMissing H P A G n last T NoneMissing = T
+fillMissing H P A G n last T SomeMissing = T
+fillMissing H P A G n last T (StartAt start) = fillWalk H P A G n last T start
+
+-- ---- a point
+
+-- what follows the first loop, at point v, with its lowest halfedge e
+unfoldable pub finishVert : List ℤ → List Float → List Float → List Float → List Float → ℕ → Walk → ℕ → ℕ → Tangents
+finishVert H P N A G n m v e =
+    let s = m .state in
+    cond (someMissing (s .«start_halfedge») && isZero (s .«last_normal»))
+    (tangentsOf (vertNormalWalk H P A n (pointAt N v) (m .tangents) e) (m .fixed))
+    (alignFaceEdges H P (tangentsOf (fillMissing H P A G n (s .«last_normal») (m .tangents) (s .«start_halfedge»)) (m .fixed)) (s .«face_edges»))
+
+-- the body of the loop over the points: nothing where no halfedge starts at v
+unfoldable pub normalsVert : List ℤ → List Float → List Float → List Float → List Float → List ℕ → ℕ → Tangents → ℕ → Tangents
+normalsVert H P N A G Q n m v =
+    let e = vertHalfedge H n v in
+    cond (ltb e n) (finishVert H P N A G n (normalWalk H P A G Q n m e) v e) m
+
+-- all p points
+unfoldable pub normalsVerts : List ℤ → List Float → List Float → List Float → List Float → List ℕ → ℕ → ℕ → Tangents → Tangents
+normalsVerts H P N A G Q n p m = foldTo (normalsVert H P N A G Q n) m p
