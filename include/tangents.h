@@ -38,6 +38,29 @@ void tangents_distribute_tangents(size_t n, size_t p, const int32_t *h, size_t h
                                   size_t t_len, double *current, size_t current_len, double *desired, size_t desired_len,
                                   size_t *answer, size_t answer_len);
 
+/* Making from sharp edges: normals has three numbers for each point, face_normals and refs three for each triangle, entries and
+ * values the halfedge and the smoothness of each sharp entry. old is 0 where t holds no old tangents; t has 4 n numbers all the
+ * same. Of the scratch lists at has a place for each point, each other one for each halfedge; they hold zeros afterwards.
+ * Writes t. */
+void tangents_create_tangents(size_t n, size_t p, const int32_t *h, size_t h_len, const double *pos, size_t pos_len,
+                              const double *normals, size_t normals_len, const double *face_normals, size_t face_normals_len,
+                              const int32_t *refs, size_t refs_len, const size_t *entries, size_t entries_len,
+                              const double *values, size_t values_len, size_t old, double *t, size_t t_len, uint8_t *fixed,
+                              size_t fixed_len, uint8_t *flat, size_t flat_len, double *smooth, size_t smooth_len,
+                              double *desired, size_t desired_len, size_t *at, size_t at_len, size_t *link, size_t link_len,
+                              size_t *answer, size_t answer_len);
+
+/* Making from normals: as above, with halfedge_normals, three numbers for each halfedge, for the entries. Of the scratch lists
+ * first has a place for each point, each other one for each halfedge; they hold zeros afterwards. Writes t. */
+void tangents_create_tangents_from_normals(size_t n, size_t p, const int32_t *h, size_t h_len, const double *pos,
+                                           size_t pos_len, const double *normals, size_t normals_len,
+                                           const double *face_normals, size_t face_normals_len, const int32_t *refs,
+                                           size_t refs_len, const double *halfedge_normals, size_t halfedge_normals_len,
+                                           size_t old, double *t, size_t t_len, uint8_t *fixed, size_t fixed_len,
+                                           uint8_t *inside, size_t inside_len, double *current, size_t current_len,
+                                           double *desired, size_t desired_len, size_t *first, size_t first_len,
+                                           size_t *answer, size_t answer_len);
+
 #ifdef __cplusplus
 }
 #endif

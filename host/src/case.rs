@@ -1,6 +1,7 @@
 //! The oracle's text format: cases, answers, and the unit's answer to a case, written as the oracle writes it.
 
-use crate::{create_tangents, distribute_tangents, linearize_flat_tangents, sharpen_edges, valid_tangents, CreateScratch, Refused};
+use crate::{create_tangents, create_tangents_from_normals, distribute_tangents, linearize_flat_tangents, sharpen_edges, valid_tangents};
+use crate::{CreateScratch, NormalsScratch, Refused};
 use std::collections::BTreeMap;
 use std::fmt::Write as _;
 
@@ -123,6 +124,17 @@ pub fn answer(c: &Block) -> Option<Result<Vec<String>, Refused>> {
             let mut scratch = CreateScratch::new(n.min(1 << 20), p.min(1 << 20), 7);
             create_tangents(
                 n, p, &h, &pos, &c.floats("vn"), &c.floats("fn"), &c.signed("ref"), &c.numbers("sh"), &c.floats("ss"), old, &mut t, &mut scratch,
+            )
+            .map(|()| {
+                assert!(scratch.is_zero(), "scratch is left");
+                vec![hex("tan", &t)]
+            })
+        }
+        "normals" => {
+            let (old, mut t) = old_tangents(c, n, t);
+            let mut scratch = NormalsScratch::new(n.min(1 << 20), p.min(1 << 20), 7);
+            create_tangents_from_normals(
+                n, p, &h, &pos, &c.floats("vn"), &c.floats("fn"), &c.signed("ref"), &c.floats("nrm"), old, &mut t, &mut scratch,
             )
             .map(|()| {
                 assert!(scratch.is_zero(), "scratch is left");

@@ -32,6 +32,13 @@ mod raw {
             desired: *mut f64, desired_len: usize, at: *mut usize, at_len: usize, link: *mut usize, link_len: usize,
             answer: *mut usize, answer_len: usize,
         );
+        pub fn tangents_create_tangents_from_normals(
+            n: usize, p: usize, h: *const i32, h_len: usize, pos: *const f64, pos_len: usize, normals: *const f64, normals_len: usize,
+            face_normals: *const f64, face_normals_len: usize, refs: *const i32, refs_len: usize,
+            halfedge_normals: *const f64, halfedge_normals_len: usize, old: usize, t: *mut f64, t_len: usize,
+            fixed: *mut u8, fixed_len: usize, inside: *mut u8, inside_len: usize, current: *mut f64, current_len: usize,
+            desired: *mut f64, desired_len: usize, first: *mut usize, first_len: usize, answer: *mut usize, answer_len: usize,
+        );
     }
 }
 
@@ -153,6 +160,50 @@ pub fn create_tangents(
             refs.as_ptr(), refs.len(), entries.as_ptr(), entries.len(), values.as_ptr(), values.len(), usize::from(old), t.as_mut_ptr(), t.len(),
             s.fixed.as_mut_ptr(), s.fixed.len(), s.flat.as_mut_ptr(), s.flat.len(), s.smooth.as_mut_ptr(), s.smooth.len(),
             s.desired.as_mut_ptr(), s.desired.len(), s.at.as_mut_ptr(), s.at.len(), s.link.as_mut_ptr(), s.link.len(), answer.as_mut_ptr(), 4,
+        );
+    }
+    outcome(answer).map(|_| ())
+}
+
+/// The scratch lists of `create_tangents_from_normals`: one place per point in `first`, one per halfedge in each other. They hold zeros
+/// afterwards.
+#[derive(Clone, Debug)]
+pub struct NormalsScratch {
+    pub fixed: Vec<u8>,
+    pub inside: Vec<u8>,
+    pub current: Vec<f64>,
+    pub desired: Vec<f64>,
+    pub first: Vec<usize>,
+}
+
+impl NormalsScratch {
+    /// For n halfedges and p points, with `x` in every place.
+    pub fn new(n: usize, p: usize, x: u8) -> Self {
+        let (f, u) = (f64::from(x), usize::from(x));
+        NormalsScratch { fixed: vec![x; n], inside: vec![x; n], current: vec![f; n], desired: vec![f; n], first: vec![u; p] }
+    }
+
+    pub fn is_zero(&self) -> bool {
+        self.fixed.iter().chain(&self.inside).all(|&x| x == 0)
+            && self.current.iter().chain(&self.desired).all(|x| x.to_bits() == 0)
+            && self.first.iter().all(|&x| x == 0)
+    }
+}
+
+/// Making from normals, three numbers per halfedge: the Rust's `create_tangents_from_normals`. With `old` the tangents t hold the old ones.
+#[allow(clippy::too_many_arguments)]
+pub fn create_tangents_from_normals(
+    n: usize, p: usize, h: &[i32], pos: &[f64], normals: &[f64], face_normals: &[f64], refs: &[i32], halfedge_normals: &[f64], old: bool,
+    t: &mut [f64], scratch: &mut NormalsScratch,
+) -> Result<(), Refused> {
+    let mut answer = [0; 4];
+    let s = scratch;
+    unsafe {
+        raw::tangents_create_tangents_from_normals(
+            n, p, h.as_ptr(), h.len(), pos.as_ptr(), pos.len(), normals.as_ptr(), normals.len(), face_normals.as_ptr(), face_normals.len(),
+            refs.as_ptr(), refs.len(), halfedge_normals.as_ptr(), halfedge_normals.len(), usize::from(old), t.as_mut_ptr(), t.len(),
+            s.fixed.as_mut_ptr(), s.fixed.len(), s.inside.as_mut_ptr(), s.inside.len(), s.current.as_mut_ptr(), s.current.len(),
+            s.desired.as_mut_ptr(), s.desired.len(), s.first.as_mut_ptr(), s.first.len(), answer.as_mut_ptr(), 4,
         );
     }
     outcome(answer).map(|_| ())

@@ -13,6 +13,7 @@ ghost use Rattle.distribute.specs.Distribute.{distributeTangents, scratchAfter,
 ghost use Rattle.distribute.specs.Distribute.{tangentsAfter as spreadAfter};
 ghost use Rattle.mesh.specs.Check.{whenAccepted};
 ghost use Rattle.create.specs.Create.{checkLists as checkCreate, tangentsAfter as createdTangents};
+ghost use Rattle.create_from_normals.specs.FromNormals.{checkLists as checkFromNormals, tangentsAfter as tangentsFromNormals};
 ghost use Rattle.capi.specs.Answers.{put, putChecked, putValidity, putListing, putSpreading};
 
 fn put_at(answer: &mut [usize], k: usize, x: usize)
@@ -192,6 +193,60 @@ pub extern "C" fn tangents_create_tangents(
         desired,
         at,
         link,
+    );
+    put_answer(
+        answer,
+        mesh::number_of(checked),
+        mesh::place_of(checked),
+        0,
+        0,
+    );
+}
+
+// Making from normals, three numbers for each halfedge. `old` says whether the tangents lent are old ones: 0 for no.
+#[no_mangle]
+pub extern "C" fn tangents_create_tangents_from_normals(
+    n: usize,
+    p: usize,
+    h: &[i32],
+    pos: &[f64],
+    normals: &[f64],
+    face_normals: &[f64],
+    refs: &[i32],
+    halfedge_normals: &[f64],
+    old: usize,
+    t: &mut [f64],
+    fixed: &mut [u8],
+    inside: &mut [u8],
+    current: &mut [f64],
+    desired: &mut [f64],
+    first: &mut [usize],
+    answer: &mut [usize],
+)
+    ensures { λ _. ⌜ now (t .exit) ≡ tangentsFromNormals (checkFromNormals (now (h .entry)) (now (pos .entry)) (now (normals .entry)) (now («face_normals» .entry)) (now (refs .entry)) (now («halfedge_normals» .entry)) (now (t .entry)) (now (fixed .entry)) (now (inside .entry)) (now (current .entry)) (now (desired .entry)) (now (first .entry)) n p) (now (h .entry)) (now (pos .entry)) (now (normals .entry)) (now («face_normals» .entry)) (now (refs .entry)) (now («halfedge_normals» .entry)) (now (t .entry)) (not (eqb old 0)) n p ⌝ }
+    ensures { λ _. ⌜ now (fixed .exit) ≡ whenAccepted (checkFromNormals (now (h .entry)) (now (pos .entry)) (now (normals .entry)) (now («face_normals» .entry)) (now (refs .entry)) (now («halfedge_normals» .entry)) (now (t .entry)) (now (fixed .entry)) (now (inside .entry)) (now (current .entry)) (now (desired .entry)) (now (first .entry)) n p) (replicate n 0) (now (fixed .entry)) ⌝ }
+    ensures { λ _. ⌜ now (inside .exit) ≡ whenAccepted (checkFromNormals (now (h .entry)) (now (pos .entry)) (now (normals .entry)) (now («face_normals» .entry)) (now (refs .entry)) (now («halfedge_normals» .entry)) (now (t .entry)) (now (fixed .entry)) (now (inside .entry)) (now (current .entry)) (now (desired .entry)) (now (first .entry)) n p) (replicate n 0) (now (inside .entry)) ⌝ }
+    ensures { λ _. ⌜ now (current .exit) ≡ whenAccepted (checkFromNormals (now (h .entry)) (now (pos .entry)) (now (normals .entry)) (now («face_normals» .entry)) (now (refs .entry)) (now («halfedge_normals» .entry)) (now (t .entry)) (now (fixed .entry)) (now (inside .entry)) (now (current .entry)) (now (desired .entry)) (now (first .entry)) n p) (replicate n zero) (now (current .entry)) ⌝ }
+    ensures { λ _. ⌜ now (desired .exit) ≡ whenAccepted (checkFromNormals (now (h .entry)) (now (pos .entry)) (now (normals .entry)) (now («face_normals» .entry)) (now (refs .entry)) (now («halfedge_normals» .entry)) (now (t .entry)) (now (fixed .entry)) (now (inside .entry)) (now (current .entry)) (now (desired .entry)) (now (first .entry)) n p) (replicate n zero) (now (desired .entry)) ⌝ }
+    ensures { λ _. ⌜ now (first .exit) ≡ whenAccepted (checkFromNormals (now (h .entry)) (now (pos .entry)) (now (normals .entry)) (now («face_normals» .entry)) (now (refs .entry)) (now («halfedge_normals» .entry)) (now (t .entry)) (now (fixed .entry)) (now (inside .entry)) (now (current .entry)) (now (desired .entry)) (now (first .entry)) n p) (replicate p 0) (now (first .entry)) ⌝ }
+    ensures { λ _. ⌜ now (answer .exit) ≡ putChecked (now (answer .entry)) (checkFromNormals (now (h .entry)) (now (pos .entry)) (now (normals .entry)) (now («face_normals» .entry)) (now (refs .entry)) (now («halfedge_normals» .entry)) (now (t .entry)) (now (fixed .entry)) (now (inside .entry)) (now (current .entry)) (now (desired .entry)) (now (first .entry)) n p) ⌝ }
+{
+    let checked = create_from_normals::create_tangents_from_normals(
+        n,
+        p,
+        h,
+        pos,
+        normals,
+        face_normals,
+        refs,
+        halfedge_normals,
+        old != 0,
+        t,
+        fixed,
+        inside,
+        current,
+        desired,
+        first,
     );
     put_answer(
         answer,

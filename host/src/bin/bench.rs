@@ -18,7 +18,8 @@ fn unit(c: &Block, repeats: usize) -> (f64, f64) {
     let (mut current, mut desired) = (vec![0.0; n], vec![0.0; n]);
     let (mut list, mut smooth) = (vec![0usize; n], vec![0.0; n]);
     let (refs, entries, values) = (c.signed("ref"), c.numbers("sh"), c.floats("ss"));
-    let mut scratch = CreateScratch::new(n, p, 0);
+    let own = c.floats("nrm");
+    let (mut scratch, mut scratch2) = (CreateScratch::new(n, p, 0), NormalsScratch::new(n, p, 0));
     let mut ns: Vec<f64> = Vec::new();
     for _ in 0..repeats {
         let mut t = lent.clone();
@@ -31,6 +32,9 @@ fn unit(c: &Block, repeats: usize) -> (f64, f64) {
             "spread" => drop(distribute_tangents(n, p, &h, &pos, &vn, &flags, &mut t, &mut current, &mut desired).expect("accepted")),
             "sharp" => {
                 create_tangents(n, p, &h, &pos, &vn, &fnm, &refs, &entries, &values, c.has("tan"), &mut t, &mut scratch).expect("accepted")
+            }
+            "normals" => {
+                create_tangents_from_normals(n, p, &h, &pos, &vn, &fnm, &refs, &own, c.has("tan"), &mut t, &mut scratch2).expect("accepted")
             }
             op => panic!("no timing of {op}"),
         }
@@ -57,7 +61,7 @@ fn rust(line: &str) -> (f64, f64) {
 fn main() {
     let args: Vec<String> = std::env::args().skip(1).collect();
     assert!(args.len() >= 3, "bench ORACLE HALFEDGES REPEATS [KIND..]");
-    let all = ["straighten", "check", "crease", "spread", "sharp"].map(String::from);
+    let all = ["straighten", "check", "crease", "spread", "sharp", "normals"].map(String::from);
     let kinds = if args.len() > 3 { &args[3..] } else { &all[..] };
     let file = std::env::temp_dir().join(format!("tangents-bench-{}.txt", std::process::id()));
     println!("| call | halfedges | unit least | unit median | Rust least | Rust median | ratio of least |");

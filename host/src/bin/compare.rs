@@ -1,6 +1,6 @@
 //! Compares the unit with the Rust it was ported from, bit for bit.
 //!
-//!     compare ORACLE KIND SEED COUNT      random accepted cases of a kind: straighten, spread, check, crease, sharp
+//!     compare ORACLE KIND SEED COUNT      random accepted cases of a kind: straighten, spread, check, crease, sharp, normals
 //!     compare ORACLE refuse SEED COUNT    damaged cases, with the refusal that questions 1 to 11 call for
 //!
 //! ORACLE is the program that runs the unchanged Rust behind a text format: `./build.sh` in the oracle's folder builds it and prints its path.
