@@ -1,2 +1,2 @@
--- The laws of `normals_walks`, which the crates above cite.
-pub mod Lent
+-- The laws that the proofs of `normals_walks` share.
+mod Lent

@@ -31,6 +31,11 @@ both true b e = (refl, e)
 both false true e = (e, refl)
 both false false e = (e, e)
 
+-- the program's own lists have it
+pub has-it : hasRoom 8187 4464 5952 8187 1488 1488 1488 143040 ≡ true
+unfolding hasRoom
+has-it = refl
+
 module _ (positions halfedges tangents normals flags current desired out : ℕ) (room : Bool) (h : room ≡ hasRoom positions halfedges tangents normals flags current desired out) (f : room ≡ true) where
   pub all-room : Room positions halfedges tangents normals flags current desired × (143040 ≤ out)
   unfolding hasRoom
