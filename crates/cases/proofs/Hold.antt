@@ -25,19 +25,19 @@ use Rattle.distribute.specs.Distribute.{checkLists}
 use Rattle.cases.specs.Lines.{lines, computedOf, statedOf}
 
 -- what the lines compute with
-unfoldable floats : Unit {0}
+unfoldable pub floats : Unit {0}
 unfolding add sub mul div neg lt le eq ne round ofBits toBits maxOf isFinite squareRoot absHighWord signBit sinOf cosOf acosOf acosBeyond acosSmall
 floats = tt
 
-unfoldable meshes : Unit {0}
+unfoldable pub meshes : Unit {0}
 unfolding numberAt indexOf field nextHalfedge prevHalfedge lowestFrom lowest foldTo checkMesh
 meshes = tt
 
-unfoldable calls : Unit {0}
+unfoldable pub calls : Unit {0}
 unfolding add3 sub3 neg3 div3 dotOf length2Of lengthOf vec3FromVec4 isDegenerate safeNormalize circularTangent pointAt tangentAt putTangent weightAt edgeVec withUnitWeight linearized linearizeEnd linearizeEdge linearizeAt linearizeFlatTangents noMarkedNeighbor validAt validTangents
 calls = tt
 
-unfoldable spreads : Unit {0}
+unfoldable pub spreads : Unit {0}
 unfolding checkFlags checkLists firstWalk fixedFrom pass secondWalk spread spreadFrom spreadOn walksFrom begin gatherEdge turnsNone tangentDirection crossOf nextAround
 spreads = tt
 

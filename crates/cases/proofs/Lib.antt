@@ -1,2 +1,3 @@
--- The proof of `cases`.
+-- The proofs of `cases`.
 pub mod Hold
+pub mod Listing

@@ -1,23 +1,24 @@
 -- `normals_steps::align_edges` meets its contract: the code is the definition. Assumes nothing.
+use mathlib.Core.Path.{_∙_}
+use native.Mathlib.Omega.{arith}
 use Rattle.normals_steps.specs.Steps.{alignEdges}
-use borrow.Author.Needs.{needs}
 use Rattle.normals_steps.proofs.align_edges.Statement.{statement}
 use Rattle.normals_steps.proofs.align_edges.Tie as tie
 
 face-tangent-requires : tie.Need-face-tangent-requires
-face-tangent-requires c κs = search needs
+face-tangent-requires c κs = let p = c .before .before .pre in (p .first-edge, p .second-edge)
 
 put-circular-tangent-requires : tie.Need-put-circular-tangent-requires
-put-circular-tangent-requires c κs = search needs
+put-circular-tangent-requires c κs = let p = c .before .before .before .before .pre in (p .first-in, p .first-edge)
 
 neg-requires : tie.Need-neg-requires
-neg-requires c κs = search needs
+neg-requires c κs = tt
 
 put-circular-tangent-requires-2 : tie.Need-put-circular-tangent-requires-2
-put-circular-tangent-requires-2 c κs = search needs
+put-circular-tangent-requires-2 c κs = let p = c .before .before .before .before .before .before .before .before .before .pre in (omega (arith, p .second-in, c .before .before .before .before .put-circular-tangent .kept .1 .1 .0), p .second-edge)
 
 same-length : tie.Need-same-length
-same-length c = search needs
+same-length c = c .before .before .put-circular-tangent2 .kept .1 .1 .0 ∙ c .before .before .before .before .before .before .before .put-circular-tangent .kept .1 .1 .0
 
 returns : tie.Need-returns
 unfolding alignEdges

@@ -29,10 +29,10 @@ unfolding alignFaceEdges
 returns-2 c = rw (c .enum-told2 .given .1) refl
 
 same-length : tie.Need-same-length
-same-length c = search needs
+same-length c = c .before .before .before .before .fix-face-edges .kept .1 .1 .1 .0
 
 same-length-2 : tie.Need-same-length-2
-same-length-2 c = search needs
+same-length-2 c = c .before .before .before .before .fix-face-edges .kept .1 .1 .1 .1 .0
 
 returns-3 : tie.Need-returns-3
 unfolding alignFaceEdges

@@ -1,23 +1,22 @@
 -- `normals_steps::face_tangent` meets its contract: the code is the definition. Assumes nothing.
 use Rattle.normals_steps.specs.Steps.{faceTangent}
-use borrow.Author.Needs.{needs}
 use Rattle.normals_steps.proofs.face_tangent.Statement.{statement}
 use Rattle.normals_steps.proofs.face_tangent.Tie as tie
 
 edge-vec-requires : tie.Need-edge-vec-requires
-edge-vec-requires c κs = search needs
+edge-vec-requires c κs = c .before .pre .0
 
 normalize-requires : tie.Need-normalize-requires
-normalize-requires c κs = search needs
+normalize-requires c κs = tt
 
 edge-vec-requires-2 : tie.Need-edge-vec-requires-2
-edge-vec-requires-2 c κs = search needs
+edge-vec-requires-2 c κs = c .before .before .before .pre .1
 
 normalize-requires-2 : tie.Need-normalize-requires-2
-normalize-requires-2 c κs = search needs
+normalize-requires-2 c κs = tt
 
 sub-requires : tie.Need-sub-requires
-sub-requires c κs = search needs
+sub-requires c κs = tt
 
 returns : tie.Need-returns
 unfolding faceTangent

@@ -1,20 +1,19 @@
 -- `normals_steps::fill_step` meets its contract: the code is the definition. Assumes nothing.
 use Rattle.normals_steps.specs.Steps.{fillStep}
-use borrow.Author.Needs.{needs}
 use Rattle.normals_steps.proofs.fill_step.Statement.{statement}
 use Rattle.normals_steps.proofs.fill_step.Tie as tie
 
 put-fill-tangent-requires : tie.Need-put-fill-tangent-requires
-put-fill-tangent-requires c κs = search needs
+put-fill-tangent-requires c κs = let p = c .before .before .before .before .before .pre in (p .0, p .2)
 
 get-normal-requires : tie.Need-get-normal-requires
-get-normal-requires c κs = search needs
+get-normal-requires c κs = c .before .before .before .before .before .before .before .before .pre .1
 
 normal-or-requires : tie.Need-normal-or-requires
-normal-or-requires c κs = search needs
+normal-or-requires c κs = tt
 
 same-length : tie.Need-same-length
-same-length c = search needs
+same-length c = c .before .before .before .before .put-fill-tangent .kept .1 .1 .1 .1 .1 .0
 
 returns : tie.Need-returns
 unfolding fillStep

@@ -1,20 +1,19 @@
 -- `normals_steps::fill_tangent` meets its contract: the code is the definition. Assumes nothing.
 use Rattle.normals_steps.specs.Steps.{fillTangent}
-use borrow.Author.Needs.{needs}
 use Rattle.normals_steps.proofs.fill_tangent.Statement.{statement}
 use Rattle.normals_steps.proofs.fill_tangent.Tie as tie
 
 vec3-from-vec4-requires : tie.Need-vec3-from-vec4-requires
-vec3-from-vec4-requires c κs = search needs
+vec3-from-vec4-requires c κs = tt
 
 normal-or-requires : tie.Need-normal-or-requires
-normal-or-requires c κs = search needs
+normal-or-requires c κs = tt
 
 equal-normals-requires : tie.Need-equal-normals-requires
-equal-normals-requires c κs = search needs
+equal-normals-requires c κs = tt
 
 tangent-between-requires : tie.Need-tangent-between-requires
-tangent-between-requires c κs = search needs
+tangent-between-requires c κs = c .before .before .before .before .before .pre
 
 returns : tie.Need-returns
 unfolding fillTangent

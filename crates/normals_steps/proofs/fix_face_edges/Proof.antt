@@ -1,4 +1,5 @@
 -- `normals_steps::fix_face_edges` meets its contract: a call and two stores. Assumes nothing.
+use native.Mathlib.Omega.{arith}
 use Rattle.normals_steps.specs.Steps.{fixFaceEdges}
 use Rattle.shapes.proofs.Lent.{align-in}
 use borrow.Author.Needs.{needs}
@@ -9,13 +10,13 @@ align-edges-requires : tie.Need-align-edges-requires
 align-edges-requires c κs = let p = c .before .before .before .before .pre in align-in (p .2) _ _ (p .0) (p .1)
 
 slice-write-fixed : tie.Need-slice-write-fixed
-slice-write-fixed c = search needs
+slice-write-fixed c = let p = c .before .before .before .before .before .before .before .pre in omega (arith, p .0, p .2 .fixed)
 
 slice-write-fixed-2 : tie.Need-slice-write-fixed-2
 slice-write-fixed-2 c = search needs
 
 same-length : tie.Need-same-length
-same-length c = search needs
+same-length c = c .before .before .align-edges .kept .1 .1 .0
 
 same-length-2 : tie.Need-same-length-2
 same-length-2 c = search needs

@@ -1,8 +1,8 @@
 -- `normals_steps::normal_step` meets its contract: each way is what the test picks. Assumes nothing.
+use native.Mathlib.Omega.{arith}
 use Rattle.normals_steps.specs.Steps.{normalStep}
 use Rattle.normals_steps.proofs.Lent.{tangent-in, normals-still}
-use mathlib.Core.Path.{refl}
-use borrow.Author.Needs.{needs}
+use mathlib.Core.Path.{refl, _∙_}
 use Rattle.normals_steps.proofs.normal_step.Statement.{statement}
 use Rattle.normals_steps.proofs.normal_step.Tie as tie
 
@@ -16,10 +16,10 @@ tangent-at-requires : tie.Need-tangent-at-requires
 tangent-at-requires c κs = let p = c .before .before .before .before .before .before .before .before .before .pre in tangent-in (p .1 .lists) (p .0) refl
 
 shared-slice-read-flag-tangent : tie.Need-shared-slice-read-flag-tangent
-shared-slice-read-flag-tangent c = search needs
+shared-slice-read-flag-tangent c = let p = c .before .before .before .before .before .before .before .before .before .before .before .before .pre in omega (arith, p .0, p .1 .inside)
 
 flag-tangent-requires : tie.Need-flag-tangent-requires
-flag-tangent-requires c κs = search needs
+flag-tangent-requires c κs = tt
 
 put-tangent-requires : tie.Need-put-tangent-requires
 put-tangent-requires c κs = let p = c .before .before .before .before .before .before .before .before .before .before .before .before .before .before .pre in tangent-in (p .1 .lists) (p .0) refl
@@ -28,7 +28,7 @@ weight-at-requires : tie.Need-weight-at-requires
 weight-at-requires c κs = let p = c .before .before .before .before .before .before .before .before .before .before .before .before .before .before .before .before .before .before .pre in tangent-in (p .1 .lists) (p .0) (c .before .before .before .put-tangent .kept .0)
 
 same-length : tie.Need-same-length
-same-length c = search needs
+same-length c = c .before .before .before .before .before .put-tangent .kept .0
 
 returns : tie.Need-returns
 unfolding normalStep
@@ -38,10 +38,10 @@ tangent-step-requires : tie.Need-tangent-step-requires
 tangent-step-requires c κs = let p = c .before .before .before .before .before .before .before .before .before .before .before .before .before .before .before .before .before .before .before .before .before .before .pre in (p .0, normals-still (c .before .before .before .before .before .before .before .put-tangent .kept .0) (p .1 .lists), p .1 .fixed)
 
 same-length-2 : tie.Need-same-length-2
-same-length-2 c = search needs
+same-length-2 c = c .before .before .before .before .tangent-step .kept .1 .1 .1 .1 .1 .0 ∙ c .before .before .before .before .before .before .before .before .before .before .before .before .put-tangent .kept .0
 
 same-length-3 : tie.Need-same-length-3
-same-length-3 c = search needs
+same-length-3 c = c .before .before .before .before .tangent-step .kept .1 .1 .1 .1 .1 .1 .0
 
 returns-2 : tie.Need-returns-2
 unfolding normalStep

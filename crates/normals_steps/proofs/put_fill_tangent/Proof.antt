@@ -5,19 +5,19 @@ use Rattle.normals_steps.proofs.put_fill_tangent.Statement.{statement}
 use Rattle.normals_steps.proofs.put_fill_tangent.Tie as tie
 
 weight-at-requires : tie.Need-weight-at-requires
-weight-at-requires c κs = search needs
+weight-at-requires c κs = c .before .before .before .before .pre .0
 
 tangent-at-requires : tie.Need-tangent-at-requires
-tangent-at-requires c κs = search needs
+tangent-at-requires c κs = c .before .before .before .before .before .before .before .pre .0
 
 fill-tangent-requires : tie.Need-fill-tangent-requires
-fill-tangent-requires c κs = search needs
+fill-tangent-requires c κs = c .before .before .before .before .before .before .before .before .pre .1
 
 put-tangent-requires : tie.Need-put-tangent-requires
-put-tangent-requires c κs = search needs
+put-tangent-requires c κs = c .before .before .before .before .before .before .before .before .before .before .pre .0
 
 same-length : tie.Need-same-length
-same-length c = search needs
+same-length c = c .before .before .put-tangent .kept .0
 
 returns : tie.Need-returns
 unfolding putFillTangent

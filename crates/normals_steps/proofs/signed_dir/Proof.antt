@@ -1,17 +1,16 @@
 -- `normals_steps::signed_dir` meets its contract: each way is what the test picks. Assumes nothing.
 use Rattle.normals_steps.specs.Steps.{signedDir}
-use borrow.Author.Needs.{needs}
 use Rattle.normals_steps.proofs.signed_dir.Statement.{statement}
 use Rattle.normals_steps.proofs.signed_dir.Tie as tie
 
 cross-requires : tie.Need-cross-requires
-cross-requires c κs = search needs
+cross-requires c κs = tt
 
 dot-requires : tie.Need-dot-requires
-dot-requires c κs = search needs
+dot-requires c κs = tt
 
 neg-requires : tie.Need-neg-requires
-neg-requires c κs = search needs
+neg-requires c κs = tt
 
 returns : tie.Need-returns
 unfolding signedDir

@@ -1,24 +1,23 @@
 -- `normals_steps::tangent_between` meets its contract: each way is what the test picks. Assumes nothing.
 use Rattle.normals_steps.specs.Steps.{tangentBetween}
-use borrow.Author.Needs.{needs}
 use Rattle.normals_steps.proofs.tangent_between.Statement.{statement}
 use Rattle.normals_steps.proofs.tangent_between.Tie as tie
 
 tangent-from-normal-requires : tie.Need-tangent-from-normal-requires
-tangent-from-normal-requires c κs = search needs
+tangent-from-normal-requires c κs = c .before .before .before .pre
 
 returns : tie.Need-returns
 unfolding tangentBetween
 returns c = simp (c .before .if1 .taken) (c .tangent-from-normal .ensures)
 
 edge-vec-requires : tie.Need-edge-vec-requires
-edge-vec-requires c κs = search needs
+edge-vec-requires c κs = c .before .before .before .pre .edge
 
 signed-dir-requires : tie.Need-signed-dir-requires
-signed-dir-requires c κs = search needs
+signed-dir-requires c κs = tt
 
 circular-tangent-requires : tie.Need-circular-tangent-requires
-circular-tangent-requires c κs = search needs
+circular-tangent-requires c κs = tt
 
 returns-2 : tie.Need-returns-2
 unfolding tangentBetween

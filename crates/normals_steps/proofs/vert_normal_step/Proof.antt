@@ -5,7 +5,7 @@ use Rattle.normals_steps.proofs.vert_normal_step.Statement.{statement}
 use Rattle.normals_steps.proofs.vert_normal_step.Tie as tie
 
 is-marked-inside-quad-requires : tie.Need-is-marked-inside-quad-requires
-is-marked-inside-quad-requires c κs = search needs
+is-marked-inside-quad-requires c κs = c .before .before .before .before .pre .0
 
 same-length : tie.Need-same-length
 same-length c = search needs
@@ -15,13 +15,13 @@ unfolding vertNormalStep
 returns c = simp (← c .before .is-marked-inside-quad .ensures, c .if1 .taken)
 
 tangent-from-normal-requires : tie.Need-tangent-from-normal-requires
-tangent-from-normal-requires c κs = search needs
+tangent-from-normal-requires c κs = c .before .before .before .before .before .before .pre .1
 
 put-tangent-requires : tie.Need-put-tangent-requires
-put-tangent-requires c κs = search needs
+put-tangent-requires c κs = c .before .before .before .before .before .before .before .before .pre .0
 
 same-length-2 : tie.Need-same-length-2
-same-length-2 c = search needs
+same-length-2 c = c .before .before .put-tangent .kept .0
 
 returns-2 : tie.Need-returns-2
 unfolding vertNormalStep
