@@ -11,7 +11,7 @@ A pair is a run of numbers, little-endian: u32 the bytes of the input that are s
 zeros at its end), u32 the bytes of the output; then the stored bytes and the output.
 """
 import collections, random, struct, sys
-from make_replay_mesh import blocks, oracle
+from cases import blocks, oracle
 
 OPERATIONS = {"straighten": 1, "spread": 2, "check": 3}
 LIMIT = 65536

@@ -159,6 +159,34 @@ pub fn same_numbers(s: &[u8], at: usize, xs: &[usize], count: usize) -> bool {
     true
 }
 
+// Are the numbers of a list all this one?
+pub fn all_bytes(xs: &[u8], value: u8) -> bool {
+    for k in 0..xs.len() {
+        if xs[k] != value {
+            return false;
+        }
+    }
+    true
+}
+
+pub fn all_floats(xs: &[f64], value: f64) -> bool {
+    for k in 0..xs.len() {
+        if float::bits(xs[k]) != float::bits(value) {
+            return false;
+        }
+    }
+    true
+}
+
+pub fn all_numbers(xs: &[usize], value: usize) -> bool {
+    for k in 0..xs.len() {
+        if xs[k] != value {
+            return false;
+        }
+    }
+    true
+}
+
 // The tally with one answer more.
 pub fn counted(t: Tally, same: bool) -> Tally {
     let compared = std::num::wrapping_add_u64(t.compared, 1);

@@ -2,7 +2,9 @@
 // than its room reads as empty.
 ghost use Prim.Native.Nat.{_≤_};
 ghost use Rattle.little_endian.specs.Front.{Front};
+use libc::STDOUT_FILENO;
 use mesh::Checked;
+use replay::Tally;
 
 // Where the lists of a case are, its counts, and the refusal that it ends in: number 0 where it is accepted.
 pub struct Case {
@@ -24,6 +26,13 @@ fn length_at(s: &[u8], at: usize, room: usize) -> usize
 {
     let k = replay::half_word(s, at);
     if k <= room { k } else { 0 }
+}
+
+// The length of a list that is not read yet, where it has room.
+pub fn length_in(s: &[u8], at: usize, out: &[f64]) -> usize
+    ensures { λ r. ⌜ Front r (now (out .entry)) ⌝ }
+{
+    length_at(s, at, out.len())
 }
 
 pub fn floats(s: &[u8], at: usize, out: &mut [f64]) -> Read
@@ -56,6 +65,27 @@ pub fn numbers(s: &[u8], at: usize, out: &mut [usize]) -> Read
     let len = length_at(s, at, out.len());
     let next = replay::fill_numbers(s, replay::after(at, 4), out, len);
     Read { len, next }
+}
+
+// The places of a list from one up to another, or none where they are no part of it.
+pub fn float_part(xs: &[f64], from: usize, to: usize) -> &[f64] {
+    if xs.len() < to {
+        return &xs[..0];
+    }
+    if to < from {
+        return &xs[..0];
+    }
+    &xs[from..to]
+}
+
+pub fn signed_part(xs: &[i32], from: usize, to: usize) -> &[i32] {
+    if xs.len() < to {
+        return &xs[..0];
+    }
+    if to < from {
+        return &xs[..0];
+    }
+    &xs[from..to]
 }
 
 // Is this the refusal, or the acceptance, of the case?
@@ -99,4 +129,13 @@ pub fn read_case(buf: &mut [u8]) -> usize {
     }
     io::read_full(0, &mut buf[4..size]);
     size
+}
+
+// Writes how many answers were compared and how many differ.
+pub fn report(t: Tally) {
+    io::write_all(STDOUT_FILENO, b"compared ");
+    io::print_decimal(STDOUT_FILENO, t.compared);
+    io::write_all(STDOUT_FILENO, b" differ ");
+    io::print_decimal(STDOUT_FILENO, t.differ);
+    io::write_all(STDOUT_FILENO, b"\n");
 }
