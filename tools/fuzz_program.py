@@ -8,7 +8,8 @@ record left out or doubled, or other numbers in its mesh, or random bytes. The p
 and write one answer of document 01's form, and nothing else. The refusals are compared with a plain reading of document 01 (the records in
 make_replay_inputs.py, the questions here), and so is the mark check. Of tangents only the form is checked: the halfedge count, the numbers
 in order, 16 digits, one not-a-number, and for spreading the last line. With --valgrind the program runs under valgrind, and any error that
-it reports is a failure. Prints how many answers of each kind there were; ends with status 1 if any answer is wrong.
+it reports is a failure. Prints how many answers of each kind there were. An input whose answer is wrong is written to fuzz-SEED-NUMBER.bin, and the
+script ends with status 1.
 """
 import collections, os, random, re, select, signal, struct, sys
 from make_replay_inputs import record, records_refusal

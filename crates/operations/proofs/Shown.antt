@@ -1,12 +1,12 @@
 -- The lines of an output are read off the front of its tangents, and the lines of each operation are those of its call's answer. Assumes nothing.
 use Prim.Native.Nat.{ℕ, zero, suc, _+_, _*_, _<_, _≤_}
 use native.Mathlib.Omega.{arith}
-use mathlib.Core.Path.{_≡_, refl, sym, ap, _∙_}
+use mathlib.Core.Path.{_≡_, refl, _∙_}
 use mathlib.Core.List.{List, _++_}
-use lib.ListN.{length, getD, replicate, List·getD-append, length-replicate}
+use lib.ListN.{length, replicate, List·getD-append, length-replicate}
 use lib.IntN.{ℤ}
 use lib.Ieee.{Float, nan}
-use Rattle.float.specs.Ops.{zero as nought}
+use Rattle.float.specs.Ops.{zero as 0f}
 use Rattle.lines.specs.Lines.{bitsField, tangentLine, tangentLines, tangentsLines, linesOf, halfedgesIn}
 use Rattle.lines.specs.declared.Output.{Output}
 use Rattle.lines.specs.declared.Output.the-variants.{Tangents, Spread, Valid, Refused}
@@ -68,7 +68,7 @@ spread-few (SpreadRefused number place) n = omega arith
 
 -- of the scratch lists only the lengths are asked about
 scratch-lengths : (H : List ℤ) (P N : List Float) (F : List ℕ) (T C D : List Float) (n p : ℕ) → length C ≡ n → length D ≡ n →
-    checkLists H P N F T C D n p ≡ checkLists H P N F T (replicate n nought) (replicate n nought) n p
+    checkLists H P N F T C D n p ≡ checkLists H P N F T (replicate n 0f) (replicate n 0f) n p
 unfolding checkLists
 scratch-lengths H P N F T C D n p c d = rw (length-replicate, c, d)
 

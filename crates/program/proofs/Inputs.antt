@@ -2,10 +2,10 @@
 use Prim.Native.Nat.{ℕ, _+_, _*_, _≤_}
 use native.Mathlib.Omega.{arith}
 use mathlib.Core.Path.{_≡_, refl, sym, ap, _∙_}
-use mathlib.Core.Bool.{Bool, true, false, cond, _&&_}
-use mathlib.Core.List.{List, []}
+use mathlib.Core.Bool.{Bool, true, false, _&&_}
+use mathlib.Core.List.{List}
 use borrow.Author.Tests.{leb-true}
-use lib.Dec.{leb, eqb}
+use lib.Dec.{eqb}
 use lib.ListN.{length, take}
 use lib.Seq.{take-append-seam}
 use lib.IntN.{ℤ}
@@ -21,7 +21,7 @@ use Rattle.lines.specs.Lines.{linesOf, rendered}
 use Rattle.lines.proofs.Whole.{whole}
 use Rattle.lines.specs.declared.Output.{Output}
 use Rattle.lines.specs.declared.Output.the-variants.{Refused}
-use Rattle.operations.specs.Operations.{operationLines, MeshIn, SpreadIn, Shows}
+use Rattle.operations.specs.Operations.{operationLines, SpreadIn, Shows}
 use Rattle.program.specs.Program.{outputOf, halfedgesOf, positionsOf, tangentsOf, normalsOf, flagsOf, hasRoom, whenRoom, Room}
 
 -- ---- the room
@@ -31,10 +31,10 @@ both true b e = (refl, e)
 both false true e = (e, refl)
 both false false e = (e, e)
 
--- the program's own lists have it
-pub has-it : hasRoom 8187 4464 5952 8187 1488 1488 1488 143040 ≡ true
+-- the lists of the program have the room
+pub lists-have-room : hasRoom 8187 4464 5952 8187 1488 1488 1488 143040 ≡ true
 unfolding hasRoom
-has-it = refl
+lists-have-room = refl
 
 module _ (positions halfedges tangents normals flags current desired out : ℕ) (room : Bool) (h : room ≡ hasRoom positions halfedges tangents normals flags current desired out) (f : room ≡ true) where
   pub all-room : Room positions halfedges tangents normals flags current desired × (143040 ≤ out)

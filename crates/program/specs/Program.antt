@@ -33,6 +33,7 @@ flagsOf s p n = items (byteItem s (bodyAt p n 7)) n
 
 -- ---- the program
 
+-- a refusal of the records, or the lines of the operation on the lists that the records hold
 abbrev pub linesFor : List ℕ → Parsed → List ℕ
 linesFor s (InputRefused number place) = linesOf (Refused number place) []
 linesFor s (Input operation p n) =

@@ -1,7 +1,6 @@
 -- `program::has_room` meets its contract: each test is one of the definition. Assumes nothing.
 use Rattle.program.specs.Program.{hasRoom}
 use borrow.Author.Tests.{le-leb, lt-leb}
-use borrow.Author.Needs.{needs}
 use Rattle.program.proofs.has_room.Statement.{statement}
 use Rattle.program.proofs.has_room.Tie as tie
 

@@ -1,5 +1,4 @@
 -- `tangents::write` meets its contract. Assumes nothing.
-use native.Mathlib.Omega.{arith}
 use Rattle.little_endian.proofs.Fronts.{front}
 use borrow.Author.Needs.{needs}
 use Rattle.tangents.proofs.write.Statement.{statement}
