@@ -2,7 +2,7 @@
 use Prim.Native.Nat.{ℕ, _≤_, _*_}
 use native.Mathlib.Omega.{arith}
 use mathlib.Core.Path.{_≡_, refl, sym, ap, subst, _∙_}
-use mathlib.Core.Bool.{Bool, true, _&&_}
+use mathlib.Core.Bool.{Bool, true, false, _&&_}
 use mathlib.Core.List.{List}
 use borrow.Author.Tests.{eqb-true}
 use lib.ListN.{length, length-map, replicate}
@@ -10,20 +10,24 @@ use lib.IntN.{ℤ}
 use lib.Ieee.{Float}
 use Rattle.float.specs.Ops.{zero}
 use Rattle.mesh.specs.Questions.{hasLength}
-use Rattle.mesh.specs.Check.{checkMesh, checkRefs, checkEntries, refusedBelow, _then_}
+use Rattle.mesh.specs.Check.{checkEntries, whenAccepted}
 use Rattle.mesh.specs.declared.Checked.{Checked}
 use Rattle.mesh.specs.declared.Checked.the-variants.{Accepted, Refused}
 use Rattle.mesh.proofs.Accepted.{accepted, refs-accepted, entries-accepted}
 use Rattle.distribute.proofs.Accepted.{and-true}
 use Rattle.create_core.specs.Core.{Lists}
-use Rattle.mesh.specs.Check.{whenAccepted}
-use Rattle.create.specs.Create.{listsFit, scratchFits, checkCreate, tangentsAfter}
+use Rattle.create.specs.Create.{listsFit, scratchFits, checkCreate, checkLists as checkFlatLists, tangentsAfter}
 use Rattle.create.proofs.Accepted.{lists-of}
+use Rattle.create_accepted.specs.Accepted.{ListsWhen}
 use Rattle.entries.specs.Entries.{halfedgesOf, smoothnessOf, copyFirst, passedOf}
 use Rattle.entries.specs.declared.Smoothness.{Smoothness}
 use Rattle.entries.specs.declared.Passed.{Passed}
 use Rattle.entries.proofs.Copying.{copy-all}
-use Rattle.create_entries.specs.CreateEntries.{entriesFit, checkLists, checkPassed, countOf, ListsWhen}
+use Rattle.create_entries.specs.CreateEntries.{entriesFit, checkLists, checkPassed, countOf}
+
+and-yes : (b : Bool) → b && true ≡ b
+and-yes true = refl
+and-yes false = refl
 
 -- the lists as lent, and the counts
 module _ (H : List ℤ) (P N A : List Float) (R : List ℤ) (E : List Smoothness) (T : List Float) (X F : List ℕ) (S D : List Float) (C L I : List ℕ) (Q : List Float) (n p : ℕ) where
@@ -62,9 +66,16 @@ module _ (H : List ℤ) (P N A : List Float) (R : List ℤ) (E : List Smoothness
   unfolding checkCreate
   fit a = accepted H n p _ (refs-accepted _ n R (entries-accepted _ n Hs Ss a .0) .0) .0
 
+  own-yes : answer ≡ Accepted → own ≡ true
+  own-yes a = and-true (lengths (length Hs) (length Ss)) own (fit a) .1
+
+  -- where the two scratch lists are as long as the entries, the answer is that of `create` at the flat lists
+  pub flat-answer : own ≡ true → answer ≡ checkFlatLists H P N A R Hs Ss T X F S D C L n p
+  flat-answer o = ap (λ (b : Bool). checkCreate H R Hs Ss n p (lengths (length Hs) (length Ss) && b)) o ∙ ap (checkCreate H R Hs Ss n p) (and-yes (lengths (length Hs) (length Ss)))
+
   own-fit : answer ≡ Accepted → (length I ≡ length E) × (length Q ≡ length E)
   own-fit a =
-      let b = and-true (hasLength (length I) (length E) 1) (hasLength (length Q) (length E) 1) (and-true (lengths (length Hs) (length Ss)) own (fit a) .1) in
+      let b = and-true (hasLength (length I) (length E) 1) (hasLength (length Q) (length E) 1) (own-yes a) in
       let i : length I ≡ length E * 1 = eqb-true _ _ (b .0) in
       let q : length Q ≡ length E * 1 = eqb-true _ _ (b .1) in
       (omega arith, omega arith)
@@ -87,11 +98,10 @@ module _ (H : List ℤ) (P N A : List Float) (R : List ℤ) (E : List Smoothness
 
   -- what `create_when` asks
   pub lists-when : (c : Checked) → c ≡ answer → (Is : List ℕ) (Qs : List Float) → Is ≡ whenAccepted c Hs I → Qs ≡ whenAccepted c Ss Q → ListsWhen c H P N A Is Qs T X F S D C L n p
-  unfolding checkCreate
   lists-when Accepted e Is Qs i q a =
       subst (λ (Js : List ℕ). Lists H P N A Js Qs T X F S D C L n p) (sym i)
       (subst (λ (Us : List Float). Lists H P N A Hs Us T X F S D C L n p) (sym q)
-      (lists-of H P N A R Hs Ss T X F S D C L n p (ap (checkCreate H R Hs Ss n p) (and-true (lengths (length Hs) (length Ss)) own (fit (sym e)) .0 ∙ sym (fit (sym e))) ∙ sym e)))
+      (lists-of H P N A R Hs Ss T X F S D C L n p (sym (flat-answer (own-yes (sym e))) ∙ sym e)))
   lists-when (Refused j k) e Is Qs i q a = let z : _≡_ {A = ℕ} 0 1 = cc in absurd (omega arith)
 
   -- what the call leaves, at the answer c and the flat lists Is and Qs

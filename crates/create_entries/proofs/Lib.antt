@@ -1,4 +1,4 @@
 -- The laws of `create_entries`.
 mod Answer
 mod Again
-mod Freeing
+mod Steps

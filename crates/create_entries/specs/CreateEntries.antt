@@ -1,6 +1,5 @@
 -- Making from sharp edges as a public call, with the sharp entries E as a list of structs: it is `create`'s call at two flat lists, the halfedges and the smoothness of the entries. The letters are those of `create`; I and Q are here the two scratch lists that the flat lists are made in.
 use Prim.Native.Nat.{ℕ}
-use mathlib.Core.Path.{_≡_}
 use mathlib.Core.Bool.{Bool, _&&_}
 use mathlib.Core.List.{List}
 use lib.ListN.{length}
@@ -10,7 +9,6 @@ use Rattle.mesh.specs.Questions.{hasLength}
 use Rattle.mesh.specs.Check.{checkMesh, checkRefs, refusedBelow, _then_}
 use Rattle.mesh.specs.declared.Checked.{Checked}
 use Rattle.mesh.specs.declared.Checked.the-variants.{Accepted, Refused}
-use Rattle.create_core.specs.Core.{Lists}
 use Rattle.create.specs.Create.{listsFit, scratchFits, checkCreate}
 use Rattle.entries.specs.Entries.{halfedgesOf, smoothnessOf}
 use Rattle.entries.specs.declared.Smoothness.{Smoothness}
@@ -44,7 +42,3 @@ checkPassed H R passed sharp n p lengths =
 abbrev pub countOf : Checked → ℕ → ℕ
 countOf Accepted len = len
 countOf (Refused number place) len = 0
-
--- the lists of a call with this answer, where it is accepted
-abbrev pub ListsWhen : Checked → List ℤ → List Float → List Float → List Float → List ℕ → List Float → List Float → List ℕ → List ℕ → List Float → List Float → List ℕ → List ℕ → ℕ → ℕ → Type 0
-ListsWhen answer H P N A I Q T X F S D C L n p = answer ≡ Accepted → Lists H P N A I Q T X F S D C L n p

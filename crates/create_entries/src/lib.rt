@@ -5,13 +5,12 @@ ghost use mathlib.Core.Bool.{_&&_};
 ghost use lib.ListN.{length, replicate};
 ghost use Rattle.float.specs.Ops.{zero};
 ghost use Rattle.mesh.specs.Check.{refusedBelow, _then_, whenAccepted};
-ghost use Rattle.create_core.specs.Core.{createTangents};
 ghost use Rattle.create.specs.Create.{listsFit, scratchFits, tangentsAfter};
 ghost use Rattle.entries.specs.Entries.{halfedgesOf, smoothnessOf};
-ghost use Rattle.create_entries.specs.CreateEntries.{entriesFit, checkPassed, checkLists, countOf, ListsWhen};
-use mesh::Checked;
-use entries::Smoothness;
+ghost use Rattle.create_entries.specs.CreateEntries.{entriesFit, checkPassed, checkLists, countOf};
 use entries::Passed;
+use entries::Smoothness;
+use mesh::Checked;
 
 // The answers so far, and then that of the question `number`, which place k is the lowest to break, or none of so many.
 fn refused_below(sofar: Checked, number: usize, k: usize, places: usize) -> Checked
@@ -62,10 +61,18 @@ fn check_lists(
         t,
     );
     let scratch = create::scratch_fits(n, p, fixed, flat, smooth, desired, at, link);
-    let own = mesh::both(mesh::has_length(entries, sharp, 1), mesh::has_length(values, sharp, 1));
+    let own = mesh::both(
+        mesh::has_length(entries, sharp, 1),
+        mesh::has_length(values, sharp, 1),
+    );
     let lengths = mesh::both(mesh::both(lists, scratch), own);
     let checked = mesh::check_refs(mesh::check_mesh(h, n, p, lengths), refs, n);
-    refused_below(refused_below(checked, 9, passed.entry, sharp), 10, passed.sign, sharp)
+    refused_below(
+        refused_below(checked, 9, passed.entry, sharp),
+        10,
+        passed.sign,
+        sharp,
+    )
 }
 
 // How many entries a call with this answer reads.
@@ -74,68 +81,11 @@ fn count_of(checked: Checked, len: usize) -> usize
 {
     match checked {
         Checked::Accepted => len,
-        Checked::Refused { number: _, place: _ } => 0,
+        Checked::Refused {
+            number: _,
+            place: _,
+        } => 0,
     }
-}
-
-// The making, where the answer is that the call is accepted, and zeros in all scratch lists.
-fn create_when(
-    checked: Checked,
-    n: usize,
-    p: usize,
-    h: &[i32],
-    pos: &[f64],
-    normals: &[f64],
-    face_normals: &[f64],
-    refs: &[i32],
-    old: bool,
-    t: &mut [f64],
-    fixed: &mut [u8],
-    flat: &mut [u8],
-    smooth: &mut [f64],
-    desired: &mut [f64],
-    at: &mut [usize],
-    link: &mut [usize],
-    entries: &mut [usize],
-    values: &mut [f64],
-) -> Checked
-    requires { ⌜ ListsWhen checked (now h) (now pos) (now normals) (now «face_normals») (now entries) (now values) (now t) (now fixed) (now flat) (now smooth) (now desired) (now at) (now link) n p ⌝ }
-    ensures answer { λ r. ⌜ r ≡ checked ⌝ }
-    ensures tangents { λ _. ⌜ now (t .exit) ≡ tangentsAfter checked (now (h .entry)) (now (pos .entry)) (now (normals .entry)) (now («face_normals» .entry)) (now (refs .entry)) (now (entries .entry)) (now (values .entry)) (now (t .entry)) old n p ⌝ }
-    ensures fixed { λ _. ⌜ now (fixed .exit) ≡ whenAccepted checked (replicate n 0) (now (fixed .entry)) ⌝ }
-    ensures flat { λ _. ⌜ now (flat .exit) ≡ whenAccepted checked (replicate n 0) (now (flat .entry)) ⌝ }
-    ensures smooth { λ _. ⌜ now (smooth .exit) ≡ whenAccepted checked (replicate n zero) (now (smooth .entry)) ⌝ }
-    ensures desired { λ _. ⌜ now (desired .exit) ≡ whenAccepted checked (replicate n zero) (now (desired .entry)) ⌝ }
-    ensures at { λ _. ⌜ now (at .exit) ≡ whenAccepted checked (replicate p 0) (now (at .entry)) ⌝ }
-    ensures link { λ _. ⌜ now (link .exit) ≡ whenAccepted checked (replicate n 0) (now (link .entry)) ⌝ }
-    ensures entries { λ _. ⌜ now (entries .exit) ≡ whenAccepted checked (replicate (length (now (entries .entry))) 0) (now (entries .entry)) ⌝ }
-    ensures values { λ _. ⌜ now (values .exit) ≡ whenAccepted checked (replicate (length (now (values .entry))) zero) (now (values .entry)) ⌝ }
-{
-    let Checked::Accepted = checked else {
-        return checked;
-    };
-    create_core::make_tangents(
-        n,
-        p,
-        h,
-        pos,
-        normals,
-        face_normals,
-        refs,
-        entries,
-        values,
-        old,
-        t,
-        fixed,
-        flat,
-        smooth,
-        desired,
-        at,
-        link,
-    );
-    faces::fill(entries, 0);
-    distribute::clear(values);
-    checked
 }
 
 // Making from sharp edges, for lists of any length and content: `create::create_tangents` with the sharp entries as structs. Two
@@ -194,7 +144,7 @@ pub fn create_entries(
     );
     let count = count_of(checked, sharp.len());
     entries::split(count, sharp, entries, values);
-    create_when(
+    create_accepted::create_when(
         checked,
         n,
         p,

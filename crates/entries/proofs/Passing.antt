@@ -1,18 +1,18 @@
 -- How many entries pass the questions 9 and 10, one entry at a time. Assumes nothing.
 use mathlib.Core.Path.{_≡_, refl, sym, ap, _∙_}
-use mathlib.Core.Bool.{Bool, true, false, cond, _&&_}
+use mathlib.Core.Bool.{Bool, true, false}
 use mathlib.Core.List.{List, [], _∷_, map}
 use mathlib.Core.Logic.{_⊎_, inl, inr}
-use Prim.Native.Nat.{ℕ, zero, suc, _<_, _≤_}
+use Prim.Native.Nat.{ℕ, zero, suc, _<_}
 use native.Mathlib.Nat.{not-suc-le-zero, le-of-suc-le-suc, eq-or-lt-of-le}
 use native.Mathlib.Omega.{arith}
 use borrow.Author.Tests.{eq-eqb, ne-eqb}
-use lib.Dec.{eqb, ltb}
+use lib.Dec.{ltb}
 use lib.Ieee.{Float, nan}
 use lib.ListN.{length, getD}
 use Rattle.mesh.specs.Lowest.{lowest}
 use Rattle.mesh.specs.Questions.{signClear, namesHalfedge, hasClearSign}
-use Rattle.mesh.proofs.Lowest.{lowest-within, lowest-found, lowest-before, lowest-least, lowest-all, lowest-is}
+use Rattle.mesh.proofs.Lowest.{lowest-within, lowest-found, lowest-before, lowest-all, lowest-is}
 use Rattle.entries.specs.Entries.{halfedgesOf, smoothnessOf, onward, passEntry, passedOf}
 use Rattle.entries.specs.declared.Smoothness.{Smoothness}
 use Rattle.entries.specs.declared.Passed.{Passed}

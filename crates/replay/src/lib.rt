@@ -1,6 +1,7 @@
 // What the replay programs share: the numbers of a file of the oracle's answers, and a tally of what was compared. Every
 // function is total: past the end of the file stand zeros, and an offset that would wrap around wraps.
 ghost use Prim.Native.Nat.{_<_, _^_};
+use libc::STDOUT_FILENO;
 
 // How many answers were compared, and how many differ.
 pub struct Tally {
@@ -200,4 +201,13 @@ pub fn counted(t: Tally, same: bool) -> Tally {
         compared,
         differ: std::num::wrapping_add_u64(t.differ, 1),
     }
+}
+
+// Writes how many answers were compared and how many differ.
+pub fn report(t: Tally) {
+    io::write_all(STDOUT_FILENO, b"compared ");
+    io::print_decimal(STDOUT_FILENO, t.compared);
+    io::write_all(STDOUT_FILENO, b" differ ");
+    io::print_decimal(STDOUT_FILENO, t.differ);
+    io::write_all(STDOUT_FILENO, b"\n");
 }

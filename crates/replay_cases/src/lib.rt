@@ -2,9 +2,7 @@
 // than its room reads as empty.
 ghost use Prim.Native.Nat.{_≤_};
 ghost use Rattle.little_endian.specs.Front.{Front};
-use libc::STDOUT_FILENO;
 use mesh::Checked;
-use replay::Tally;
 
 // Where the lists of a case are, its counts, and the refusal that it ends in: number 0 where it is accepted.
 pub struct Case {
@@ -129,13 +127,4 @@ pub fn read_case(buf: &mut [u8]) -> usize {
     }
     io::read_full(0, &mut buf[4..size]);
     size
-}
-
-// Writes how many answers were compared and how many differ.
-pub fn report(t: Tally) {
-    io::write_all(STDOUT_FILENO, b"compared ");
-    io::print_decimal(STDOUT_FILENO, t.compared);
-    io::write_all(STDOUT_FILENO, b" differ ");
-    io::print_decimal(STDOUT_FILENO, t.differ);
-    io::write_all(STDOUT_FILENO, b"\n");
 }

@@ -8,11 +8,6 @@ use replay_cases::floats;
 use replay_cases::numbers;
 use replay_cases::signed;
 
-// A halfedge in a scratch list after the call.
-fn halfedge_after(c: Case) -> usize {
-    if c.number == 0 { 0 } else { 77 }
-}
-
 // Is this the answer of the case, whose tangents after the call stand at s[at..]? The scratch lists are zeros where it is
 // accepted, else as they were lent.
 fn same_answer(
@@ -26,10 +21,12 @@ fn same_answer(
     smooth: &[f64],
     desired: &[f64],
     halfedges: &[usize],
+    link: &[usize],
 ) -> bool {
     let accepted = c.number == 0;
     let flag = if accepted { 0 } else { 7 };
     let angle = if accepted { 0.0 } else { 0.5 };
+    let halfedge = if accepted { 0 } else { 77 };
     if !replay_cases::same_checked(checked, c) {
         return false;
     }
@@ -48,7 +45,10 @@ fn same_answer(
     if !replay::all_floats(desired, angle) {
         return false;
     }
-    replay::all_numbers(halfedges, halfedge_after(c))
+    if !replay::all_numbers(halfedges, halfedge) {
+        return false;
+    }
+    replay::all_numbers(link, halfedge)
 }
 
 // The places of a scratch list: at most 32, more than a mesh of the file needs.
@@ -100,9 +100,6 @@ fn sharp(
         halfedges,
         link,
     );
-    if !replay::all_numbers(link, halfedge_after(c)) {
-        return false;
-    }
     same_answer(
         s,
         at,
@@ -114,10 +111,11 @@ fn sharp(
         smooth,
         desired,
         halfedges,
+        link,
     )
 }
 
-// Making from normals, of lists that were read.
+// Making from normals, of lists that were read. `none` is an empty list: there is one list of halfedges less.
 fn from_normals(
     s: &[u8],
     at: usize,
@@ -128,6 +126,7 @@ fn from_normals(
     normals: &[f64],
     face_normals: &[f64],
     refs: &[i32],
+    none: &[usize],
     halfedge_normals: &[f64],
     t: &mut [f64],
 ) -> bool {
@@ -155,7 +154,19 @@ fn from_normals(
         desired,
         first,
     );
-    same_answer(s, at, c, checked, t, fixed, inside, current, desired, first)
+    same_answer(
+        s,
+        at,
+        c,
+        checked,
+        t,
+        fixed,
+        inside,
+        current,
+        desired,
+        first,
+        none,
+    )
 }
 
 // Puts the parts of the lists of a case, whose ends stand at its beginning, to its call. At s[at..] are the tangents as
@@ -206,6 +217,7 @@ fn lists(
         normals,
         face_normals,
         refs,
+        entries,
         values,
         t,
     )
@@ -272,5 +284,5 @@ fn main() {
         t = s.tally;
         more = s.more;
     }
-    replay_cases::report(t);
+    replay::report(t);
 }

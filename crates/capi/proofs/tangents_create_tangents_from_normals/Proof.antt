@@ -8,12 +8,22 @@ returns c =
     let a = c .before .before .before .before .before .before .before .before .before .before .before .before .before .before .before .before .before .before .create-tangents-from-normals .ensures in
     let l = a .1 .1 in (
       rw (a .0) at (a .1 .0),
-      (rw (a .0) at (l .0),
-      (rw (a .0) at (l .1 .0),
-      (rw (a .0) at (l .1 .1 .0),
-      (rw (a .0) at (l .1 .1 .1 .0),
-      (rw (a .0) at (l .1 .1 .1 .1),
-      rw (c .before .before .put-answer .ensures, c .before .before .before .before .number-of .ensures, c .before .before .before .place-of .ensures, a .0))))))
+      (
+        rw (a .0) at (l .0),
+        (
+          rw (a .0) at (l .1 .0),
+          (
+            rw (a .0) at (l .1 .1 .0),
+            (
+              rw (a .0) at (l .1 .1 .1 .0),
+              (
+                rw (a .0) at (l .1 .1 .1 .1),
+                rw (c .before .before .put-answer .ensures, c .before .before .before .before .number-of .ensures, c .before .before .before .place-of .ensures, a .0),
+              ),
+            ),
+          ),
+        ),
+      ),
     )
 
 pub tangents-create-tangents-from-normals-spec : {M : Type 1} → statement M

@@ -49,26 +49,14 @@ slice-aggregate-link c = front _ _ (c .before .before .before .before .before .b
 create-tangents-requires : tie.Need-create-tangents-requires
 create-tangents-requires c κs = search needs
 
-halfedge-after-requires : tie.Need-halfedge-after-requires
-halfedge-after-requires c κs = search needs
-
-all-numbers-requires : tie.Need-all-numbers-requires
-all-numbers-requires c κs = search needs
+same-answer-requires : tie.Need-same-answer-requires
+same-answer-requires c κs = search needs
 
 same-length : tie.Need-same-length
 same-length c = search needs
 
 returns : tie.Need-returns
 returns c = search needs
-
-same-answer-requires : tie.Need-same-answer-requires
-same-answer-requires c κs = search needs
-
-same-length-2 : tie.Need-same-length-2
-same-length-2 c = search (needs, c .before .before .before .before .before .before .before .before .before .before .before .before .before .before .before .before .before .before .before .before .before .before .before .before .before .before .before .before .before .before .before .create-tangents .kept)
-
-returns-2 : tie.Need-returns-2
-returns-2 c = search needs
 
 pub sharp-spec : {M : Type 1} → statement M
 sharp-spec =
@@ -89,10 +77,6 @@ sharp-spec =
     array-borrow-prefix-link
     slice-aggregate-link
     create-tangents-requires
-    halfedge-after-requires
-    all-numbers-requires
-    same-length
-    returns
     same-answer-requires
-    same-length-2
-    returns-2)
+    same-length
+    returns)

@@ -1,0 +1,2 @@
+-- The specs of `create_accepted`.
+pub mod Accepted

@@ -1,0 +1,2 @@
+-- The specs of `normals_weights`.
+pub mod Weights
