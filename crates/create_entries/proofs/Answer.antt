@@ -18,12 +18,12 @@ use Rattle.distribute.proofs.Accepted.{and-true}
 use Rattle.create_core.specs.Core.{Lists}
 use Rattle.create.specs.Create.{listsFit, scratchFits, checkCreate, checkLists as checkFlatLists, tangentsAfter}
 use Rattle.create.proofs.Accepted.{lists-of}
-use Rattle.create_accepted.specs.Accepted.{ListsWhen}
+use Rattle.create_checked.specs.CreateChecked.{entriesFit, checkPassed, countOf, ListsWhen}
 use Rattle.entries.specs.Entries.{halfedgesOf, smoothnessOf, copyFirst, passedOf}
 use Rattle.entries.specs.declared.Smoothness.{Smoothness}
 use Rattle.entries.specs.declared.Passed.{Passed}
 use Rattle.entries.proofs.Copying.{copy-all}
-use Rattle.create_entries.specs.CreateEntries.{entriesFit, checkLists, checkPassed, countOf}
+use Rattle.create_entries.specs.CreateEntries.{checkLists}
 
 and-yes : (b : Bool) → b && true ≡ b
 and-yes true = refl

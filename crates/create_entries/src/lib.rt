@@ -1,92 +1,14 @@
 // `create_tangents` of src/smoothing_tangents.rs with its sharp entries as the Rust lends them, a list of structs: an entry point
-// over the crate `create`, whose two flat lists it fills from the structs. What touches the list of structs is proved by hand.
+// over `create`, whose two flat lists it fills from the structs. It lends the list of structs on, and is proved by hand.
 ghost use mathlib.Core.Path.{_≡_};
-ghost use mathlib.Core.Bool.{_&&_};
 ghost use lib.ListN.{length, replicate};
 ghost use Rattle.float.specs.Ops.{zero};
-ghost use Rattle.mesh.specs.Check.{refusedBelow, _then_, whenAccepted};
-ghost use Rattle.create.specs.Create.{listsFit, scratchFits, tangentsAfter};
+ghost use Rattle.mesh.specs.Check.{whenAccepted};
+ghost use Rattle.create.specs.Create.{tangentsAfter};
 ghost use Rattle.entries.specs.Entries.{halfedgesOf, smoothnessOf};
-ghost use Rattle.create_entries.specs.CreateEntries.{entriesFit, checkPassed, checkLists, countOf};
-use entries::Passed;
+ghost use Rattle.create_entries.specs.CreateEntries.{checkLists};
 use entries::Smoothness;
 use mesh::Checked;
-
-// The answers so far, and then that of the question `number`, which place k is the lowest to break, or none of so many.
-fn refused_below(sofar: Checked, number: usize, k: usize, places: usize) -> Checked
-    ensures { λ r. ⌜ r ≡ (sofar then refusedBelow number k places) ⌝ }
-{
-    let Checked::Accepted = sofar else {
-        return sofar;
-    };
-    if k < places {
-        return Checked::Refused { number, place: k };
-    }
-    Checked::Accepted
-}
-
-// The questions 1 to 10, of which 9 and 10 were put to the `sharp` entries before; of the lists that are written, the lengths.
-fn check_lists(
-    n: usize,
-    p: usize,
-    h: &[i32],
-    pos: &[f64],
-    normals: &[f64],
-    face_normals: &[f64],
-    refs: &[i32],
-    sharp: usize,
-    passed: Passed,
-    t: usize,
-    fixed: usize,
-    flat: usize,
-    smooth: usize,
-    desired: usize,
-    at: usize,
-    link: usize,
-    entries: usize,
-    values: usize,
-) -> Checked
-    ensures { λ r. ⌜ r ≡ checkPassed (now (h .entry)) (now (refs .entry)) passed sharp n p (listsFit (length (now (h .entry))) (length (now (pos .entry))) (length (now (normals .entry))) (length (now («face_normals» .entry))) (length (now (refs .entry))) sharp sharp t n p && scratchFits fixed flat smooth desired at link n p && entriesFit entries values sharp) ⌝ }
-{
-    let lists = create::lists_fit(
-        n,
-        p,
-        h.len(),
-        pos.len(),
-        normals.len(),
-        face_normals.len(),
-        refs.len(),
-        sharp,
-        sharp,
-        t,
-    );
-    let scratch = create::scratch_fits(n, p, fixed, flat, smooth, desired, at, link);
-    let own = mesh::both(
-        mesh::has_length(entries, sharp, 1),
-        mesh::has_length(values, sharp, 1),
-    );
-    let lengths = mesh::both(mesh::both(lists, scratch), own);
-    let checked = mesh::check_refs(mesh::check_mesh(h, n, p, lengths), refs, n);
-    refused_below(
-        refused_below(checked, 9, passed.entry, sharp),
-        10,
-        passed.sign,
-        sharp,
-    )
-}
-
-// How many entries a call with this answer reads.
-fn count_of(checked: Checked, len: usize) -> usize
-    ensures { λ r. ⌜ r ≡ countOf checked len ⌝ }
-{
-    match checked {
-        Checked::Accepted => len,
-        Checked::Refused {
-            number: _,
-            place: _,
-        } => 0,
-    }
-}
 
 // Making from sharp edges, for lists of any length and content: `create::create_tangents` with the sharp entries as structs. Two
 // scratch lists more, `entries` and `values`, have a place for each entry.
@@ -122,7 +44,7 @@ pub fn create_entries(
     ensures values { λ r. ⌜ now (values .exit) ≡ whenAccepted r (replicate (length (now (sharp .entry))) zero) (now (values .entry)) ⌝ }
 {
     let passed = entries::scan(sharp, n);
-    let checked = check_lists(
+    let checked = create_checked::check_lists(
         n,
         p,
         h,
@@ -142,9 +64,9 @@ pub fn create_entries(
         entries.len(),
         values.len(),
     );
-    let count = count_of(checked, sharp.len());
+    let count = create_checked::count_of(checked, sharp.len());
     entries::split(count, sharp, entries, values);
-    create_accepted::create_when(
+    create_checked::create_when(
         checked,
         n,
         p,

@@ -1,7 +1,6 @@
 // Puts inputs of the program `tangents` to `program::answer`, and compares the bytes of the answers with those that stand
 // beside the inputs in the file.
 ghost use Rattle.little_endian.specs.Front.{Front};
-use libc::STDOUT_FILENO;
 use program::FLAG_ROOM;
 use program::HALFEDGE_ROOM;
 use program::OUTPUT_ROOM;
@@ -126,9 +125,5 @@ fn main() {
         t = s.tally;
         more = s.more;
     }
-    io::write_all(STDOUT_FILENO, b"compared ");
-    io::print_decimal(STDOUT_FILENO, t.compared);
-    io::write_all(STDOUT_FILENO, b" differ ");
-    io::print_decimal(STDOUT_FILENO, t.differ);
-    io::write_all(STDOUT_FILENO, b"\n");
+    replay::report(t);
 }

@@ -2,7 +2,6 @@
 // differ. README.md beside src/ says what a record holds and how the file was made.
 ghost use Prim.Native.Nat.{_+_, _≤_};
 ghost use lib.ListN.{length};
-use libc::STDOUT_FILENO;
 use linalg::Quat;
 use linalg::Vec3;
 use replay::Tally;
@@ -183,9 +182,5 @@ fn main() {
         t = s.tally;
         more = s.more;
     }
-    io::write_all(STDOUT_FILENO, b"compared ");
-    io::print_decimal(STDOUT_FILENO, t.compared);
-    io::write_all(STDOUT_FILENO, b" differ ");
-    io::print_decimal(STDOUT_FILENO, t.differ);
-    io::write_all(STDOUT_FILENO, b"\n");
+    replay::report(t);
 }

@@ -10,7 +10,6 @@ use calls::straighten;
 use leaves::flat;
 use leaves::quad;
 use leaves::tfn;
-use libc::STDOUT_FILENO;
 use questions::questions;
 use replay::Tally;
 use replay_cases::Case;
@@ -69,9 +68,5 @@ fn main() {
         t = s.tally;
         more = s.more;
     }
-    io::write_all(STDOUT_FILENO, b"compared ");
-    io::print_decimal(STDOUT_FILENO, t.compared);
-    io::write_all(STDOUT_FILENO, b" differ ");
-    io::print_decimal(STDOUT_FILENO, t.differ);
-    io::write_all(STDOUT_FILENO, b"\n");
+    replay::report(t);
 }

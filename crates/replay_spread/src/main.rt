@@ -1,7 +1,6 @@
 // Replays the oracle's answers to spreading, read from standard input, and writes how many were compared and how many
 // differ. README.md beside src/ says what a case holds and how the file was made.
 use distribute::Spreading;
-use libc::STDOUT_FILENO;
 use replay::Tally;
 use replay_cases::Case;
 use replay_cases::bytes;
@@ -23,19 +22,6 @@ fn same_answer(s: &[u8], at: usize, spreading: Spreading, c: Case) -> bool {
         }
         Spreading::Refused { number, place } => same_refusal(number, place, c),
     }
-}
-
-// A scratch list after the call: zeros where it was accepted, else 0.5 as it was lent.
-fn same_scratch(xs: &[f64], c: Case) -> bool {
-    let left = if c.number == 0 { 0.0 } else { 0.5 };
-    let mut k = 0;
-    while k < xs.len() {
-        if float::bits(xs[k]) != float::bits(left) {
-            return false;
-        }
-        k += 1;
-    }
-    true
 }
 
 // The call on lists that were read. The counts stand at s[at..], and after them the tangents as the Rust left them.
@@ -65,10 +51,12 @@ fn spread_lists(
     if !same_answer(s, at, spreading, c) {
         return false;
     }
-    if !same_scratch(current, c) {
+    // the scratch lists: zeros where it was accepted, else as they were lent
+    let angle = if c.number == 0 { 0.0 } else { 0.5 };
+    if !replay::all_floats(current, angle) {
         return false;
     }
-    if !same_scratch(desired, c) {
+    if !replay::all_floats(desired, angle) {
         return false;
     }
     let tangents = t.len();
@@ -206,9 +194,5 @@ fn main() {
         t = s.tally;
         more = s.more;
     }
-    io::write_all(STDOUT_FILENO, b"compared ");
-    io::print_decimal(STDOUT_FILENO, t.compared);
-    io::write_all(STDOUT_FILENO, b" differ ");
-    io::print_decimal(STDOUT_FILENO, t.differ);
-    io::write_all(STDOUT_FILENO, b"\n");
+    replay::report(t);
 }

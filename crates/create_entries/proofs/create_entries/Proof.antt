@@ -51,7 +51,7 @@ use Rattle.mesh.proofs.Checked as Ch
 use Rattle.mesh.proofs.Checked.Laws as Ch′
 use Rattle.mesh.specs.Check.{whenAccepted}
 use Rattle.create.specs.Create.{listsFit, scratchFits, tangentsAfter}
-use Rattle.create_accepted.specs.Accepted.{ListsWhen}
+use Rattle.create_checked.specs.CreateChecked.{entriesFit, checkPassed, countOf, ListsWhen}
 use Rattle.entries.specs.Entries.{halfedgesOf, smoothnessOf, copyFirst, passedOf}
 use Rattle.entries.specs.declared.Smoothness.{Smoothness}
 use Rattle.entries.specs.declared.Passed.{Passed}
@@ -66,22 +66,22 @@ use Rattle.entries.proofs.split as f-split
 use Rattle.entries.proofs.split.Symbol as split-def
 use Rattle.entries.proofs.split.Symbol.{name as #split}
 use Rattle.entries.proofs.split.Met as split-thm
-use Rattle.create_entries.specs.CreateEntries.{entriesFit, checkLists, checkPassed, countOf}
+use Rattle.create_entries.specs.CreateEntries.{checkLists}
 use Rattle.create_entries.proofs.Answer.{is-answer, counted, flat-halfedges, flat-smoothness, lists-when, tangents-left, entries-left, values-left}
 use Rattle.create_entries.proofs.Again.{LentAgain, lends-again, comes-back}
 use Rattle.create_entries.proofs.Steps.{ungroup, allocs-all, frees-full, also, says-and, hears-and, plus-nothing, plus-fact}
-use Rattle.create_entries.proofs.check_lists as f-check
-use Rattle.create_entries.proofs.check_lists.Symbol as check-def
-use Rattle.create_entries.proofs.check_lists.Symbol.{name as #check-lists}
-use Rattle.create_entries.proofs.check_lists.Met as check-thm
-use Rattle.create_entries.proofs.count_of as f-count
-use Rattle.create_entries.proofs.count_of.Symbol as count-def
-use Rattle.create_entries.proofs.count_of.Symbol.{name as #count-of}
-use Rattle.create_entries.proofs.count_of.Met as count-thm
-use Rattle.create_accepted.proofs.create_when as f-create
-use Rattle.create_accepted.proofs.create_when.Symbol as create-def
-use Rattle.create_accepted.proofs.create_when.Symbol.{name as #create-when}
-use Rattle.create_accepted.proofs.create_when.Met as create-thm
+use Rattle.create_checked.proofs.check_lists as f-check
+use Rattle.create_checked.proofs.check_lists.Symbol as check-def
+use Rattle.create_checked.proofs.check_lists.Symbol.{name as #check-lists}
+use Rattle.create_checked.proofs.check_lists.Met as check-thm
+use Rattle.create_checked.proofs.count_of as f-count
+use Rattle.create_checked.proofs.count_of.Symbol as count-def
+use Rattle.create_checked.proofs.count_of.Symbol.{name as #count-of}
+use Rattle.create_checked.proofs.count_of.Met as count-thm
+use Rattle.create_checked.proofs.create_when as f-create
+use Rattle.create_checked.proofs.create_when.Symbol as create-def
+use Rattle.create_checked.proofs.create_when.Symbol.{name as #create-when}
+use Rattle.create_checked.proofs.create_when.Met as create-thm
 use Rattle.create_entries.proofs.create_entries.Key.{name as #create-entries}
 use Rattle.create_entries.proofs.create_entries as f
 use Rattle.create_entries.proofs.create_entries.Statement as stated
@@ -167,6 +167,8 @@ module _ {M : Type 1} (𝓤 : URA M) (H : Heap 𝓤) (A : Atoms 𝓤) (at-mem : 
 
   abbrev Create : Contract 𝓤
   Create = tripleOf 𝓤 H A f-create.signature (f-create.spec 𝓤 H A at-mem run)
+
+-- the lists from h to link by their first letters; es and vs are what `entries` and `values` hold; κ0 and so on are the lifetimes, q0 and so on the shares of their tokens
 
 module _ {M : Type 1} (𝓤 : URA M) (H : Heap 𝓤) (A : Atoms 𝓤) (W : Given 𝓤 H A) (at-mem : Memory → SProp 𝓤) (run : Routine → Fun 𝓤) (κ0 κ1 κ2 κ3 κ4 κ5 κ6 κ7 κ8 κ9 κ10 κ11 κ12 κ13 κ14 : Lft) (q0 q1 q2 q3 q4 q5 q6 q7 q8 q9 q10 q11 q12 q13 q14 : Share)
     (n p : ℕ) (h : RefT (List ℤ)) (pos : RefT (List Float)) (nor : RefT (List Float)) (fno : RefT (List Float)) (ref : RefT (List ℤ)) (sh : RefT (List Smoothness)) (t : RefT (List Float)) (fix : RefT (List ℕ)) (fla : RefT (List ℕ)) (smo : RefT (List Float)) (des : RefT (List Float)) (ats : RefT (List ℕ)) (lin : RefT (List ℕ)) (old : Bool) (be oe : ℕ) (γe : GName) (es : List ℕ) (bv ov : ℕ) (γv : GName) (vs : List Float) (n-fits : n < 2 ^ 64) (p-fits : p < 2 ^ 64) (old-is : Is bool old (vbool old ∷ []))
@@ -533,7 +535,7 @@ create-entries-spec 𝓤 H 𝓜 𝓖 𝓡 =
     (tables 𝓤 H 𝓜 𝓡 code.env .C) (tables 𝓤 H 𝓜 𝓡 code.env .Λ) #create-entries code.function (code.unfolded 𝓤 H 𝓜 𝓡)
     (create-entries-meets 𝓤 H (𝓖 .A) (givenOf 𝓤 H 𝓜 𝓖) (𝓜 .mem) (𝓡 .run) (tablesOf 𝓤 H 𝓜 (tables 𝓤 H 𝓜 𝓡 code.env))
     (cited 𝓤 H (Scan 𝓤 H (𝓖 .A) (𝓜 .mem) (𝓡 .run)) 𝓜 𝓡 code.env #scan scan-def.routine code.calls-entries·scan (scan-thm.met 𝓤 H 𝓜 𝓖 𝓡))
-    (cited 𝓤 H (Check 𝓤 H (𝓖 .A) (𝓜 .mem) (𝓡 .run)) 𝓜 𝓡 code.env #check-lists check-def.routine code.calls-create-entries·check-lists (check-thm.met 𝓤 H 𝓜 𝓖 𝓡))
-    (cited 𝓤 H (Count 𝓤 H (𝓖 .A) (𝓜 .mem) (𝓡 .run)) 𝓜 𝓡 code.env #count-of count-def.routine code.calls-create-entries·count-of (count-thm.met 𝓤 H 𝓜 𝓖 𝓡))
+    (cited 𝓤 H (Check 𝓤 H (𝓖 .A) (𝓜 .mem) (𝓡 .run)) 𝓜 𝓡 code.env #check-lists check-def.routine code.calls-create-checked·check-lists (check-thm.met 𝓤 H 𝓜 𝓖 𝓡))
+    (cited 𝓤 H (Count 𝓤 H (𝓖 .A) (𝓜 .mem) (𝓡 .run)) 𝓜 𝓡 code.env #count-of count-def.routine code.calls-create-checked·count-of (count-thm.met 𝓤 H 𝓜 𝓖 𝓡))
     (cited 𝓤 H (Split 𝓤 H (𝓖 .A) (𝓜 .mem) (𝓡 .run)) 𝓜 𝓡 code.env #split split-def.routine code.calls-entries·split (split-thm.met 𝓤 H 𝓜 𝓖 𝓡))
-    (cited 𝓤 H (Create 𝓤 H (𝓖 .A) (𝓜 .mem) (𝓡 .run)) 𝓜 𝓡 code.env #create-when create-def.routine code.calls-create-accepted·create-when (create-thm.met 𝓤 H 𝓜 𝓖 𝓡)))
+    (cited 𝓤 H (Create 𝓤 H (𝓖 .A) (𝓜 .mem) (𝓡 .run)) 𝓜 𝓡 code.env #create-when create-def.routine code.calls-create-checked·create-when (create-thm.met 𝓤 H 𝓜 𝓖 𝓡)))

@@ -1,7 +1,7 @@
--- `create_entries::check_lists` meets its contract. Assumes nothing.
-use Rattle.create_entries.specs.CreateEntries.{checkPassed}
-use Rattle.create_entries.proofs.check_lists.Statement.{statement}
-use Rattle.create_entries.proofs.check_lists.Tie as tie
+-- `create_checked::check_lists` meets its contract. Assumes nothing.
+use Rattle.create_checked.specs.CreateChecked.{checkPassed}
+use Rattle.create_checked.proofs.check_lists.Statement.{statement}
+use Rattle.create_checked.proofs.check_lists.Tie as tie
 
 returns : tie.Need-returns
 unfolding checkPassed

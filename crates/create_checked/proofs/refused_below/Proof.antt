@@ -1,7 +1,7 @@
--- `create_entries::refused_below` meets its contract. Assumes nothing.
+-- `create_checked::refused_below` meets its contract. Assumes nothing.
 use borrow.Author.Tests.{lt-ltb, le-ltb}
-use Rattle.create_entries.proofs.refused_below.Statement.{statement}
-use Rattle.create_entries.proofs.refused_below.Tie as tie
+use Rattle.create_checked.proofs.refused_below.Statement.{statement}
+use Rattle.create_checked.proofs.refused_below.Tie as tie
 
 returns : tie.Need-returns
 returns c = rw (c .enum-told2 .given .1)

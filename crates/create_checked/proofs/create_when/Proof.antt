@@ -1,7 +1,7 @@
--- `create_accepted::create_when` meets its contract. Assumes nothing.
+-- `create_checked::create_when` meets its contract. Assumes nothing.
 use mathlib.Core.Path.{refl}
-use Rattle.create_accepted.proofs.create_when.Statement.{statement}
-use Rattle.create_accepted.proofs.create_when.Tie as tie
+use Rattle.create_checked.proofs.create_when.Statement.{statement}
+use Rattle.create_checked.proofs.create_when.Tie as tie
 
 returns : tie.Need-returns
 returns c =

@@ -1,0 +1,2 @@
+-- The specs of `create_checked`.
+pub mod CreateChecked
