@@ -1,173 +1,10 @@
 // Replays the oracle's answers to both makings, read from standard input, and writes how many were compared and how many
 // differ. README.md beside src/ says what a case holds and how the file was made.
-ghost use Prim.Native.Nat.{_≤_};
-use mesh::Checked;
 use replay::Tally;
 use replay_cases::Case;
 use replay_cases::floats;
 use replay_cases::numbers;
 use replay_cases::signed;
-
-// Is this the answer of the case, whose tangents after the call stand at s[at..]? The scratch lists are zeros where it is
-// accepted, else as they were lent.
-fn same_answer(
-    s: &[u8],
-    at: usize,
-    c: Case,
-    checked: Checked,
-    t: &[f64],
-    fixed: &[u8],
-    flags: &[u8],
-    smooth: &[f64],
-    desired: &[f64],
-    halfedges: &[usize],
-    link: &[usize],
-) -> bool {
-    let accepted = c.number == 0;
-    let flag = if accepted { 0 } else { 7 };
-    let angle = if accepted { 0.0 } else { 0.5 };
-    let halfedge = if accepted { 0 } else { 77 };
-    if !replay_cases::same_checked(checked, c) {
-        return false;
-    }
-    if !replay::same_floats(s, at, t, t.len()) {
-        return false;
-    }
-    if !replay::all_bytes(fixed, flag) {
-        return false;
-    }
-    if !replay::all_bytes(flags, flag) {
-        return false;
-    }
-    if !replay::all_floats(smooth, angle) {
-        return false;
-    }
-    if !replay::all_floats(desired, angle) {
-        return false;
-    }
-    if !replay::all_numbers(halfedges, halfedge) {
-        return false;
-    }
-    replay::all_numbers(link, halfedge)
-}
-
-// The places of a scratch list: at most 32, more than a mesh of the file needs.
-fn places(count: usize) -> usize
-    ensures { λ r. ⌜ r ≤ 32 ⌝ }
-{
-    if count <= 32 { count } else { 32 }
-}
-
-// Making from sharp edges, of lists that were read.
-fn sharp(
-    s: &[u8],
-    at: usize,
-    c: Case,
-    old: bool,
-    h: &[i32],
-    pos: &[f64],
-    normals: &[f64],
-    face_normals: &[f64],
-    refs: &[i32],
-    entries: &[usize],
-    values: &[f64],
-    t: &mut [f64],
-) -> bool {
-    let n = places(c.n);
-    let p = places(c.p);
-    let fixed = &mut [7u8; 32][..n];
-    let flat = &mut [7u8; 32][..n];
-    let smooth = &mut [0.5f64; 32][..n];
-    let desired = &mut [0.5f64; 32][..n];
-    let halfedges = &mut [77usize; 32][..p];
-    let link = &mut [77usize; 32][..n];
-    let checked = create::create_tangents(
-        c.n,
-        c.p,
-        h,
-        pos,
-        normals,
-        face_normals,
-        refs,
-        entries,
-        values,
-        old,
-        t,
-        fixed,
-        flat,
-        smooth,
-        desired,
-        halfedges,
-        link,
-    );
-    same_answer(
-        s,
-        at,
-        c,
-        checked,
-        t,
-        fixed,
-        flat,
-        smooth,
-        desired,
-        halfedges,
-        link,
-    )
-}
-
-// Making from normals, of lists that were read. `none` is an empty list: there is one list of halfedges less.
-fn from_normals(
-    s: &[u8],
-    at: usize,
-    c: Case,
-    old: bool,
-    h: &[i32],
-    pos: &[f64],
-    normals: &[f64],
-    face_normals: &[f64],
-    refs: &[i32],
-    none: &[usize],
-    halfedge_normals: &[f64],
-    t: &mut [f64],
-) -> bool {
-    let n = places(c.n);
-    let p = places(c.p);
-    let fixed = &mut [7u8; 32][..n];
-    let inside = &mut [7u8; 32][..n];
-    let current = &mut [0.5f64; 32][..n];
-    let desired = &mut [0.5f64; 32][..n];
-    let first = &mut [77usize; 32][..p];
-    let checked = create_from_normals::create_tangents_from_normals(
-        c.n,
-        c.p,
-        h,
-        pos,
-        normals,
-        face_normals,
-        refs,
-        halfedge_normals,
-        old,
-        t,
-        fixed,
-        inside,
-        current,
-        desired,
-        first,
-    );
-    same_answer(
-        s,
-        at,
-        c,
-        checked,
-        t,
-        fixed,
-        inside,
-        current,
-        desired,
-        first,
-        none,
-    )
-}
 
 // Puts the parts of the lists of a case, whose ends stand at its beginning, to its call. At s[at..] are the tangents as
 // the Rust left them.
@@ -192,7 +29,7 @@ fn lists(
     let h = replay_cases::signed_part(is, 0, e);
     let refs = replay_cases::signed_part(is, e, is.len());
     if replay::half_word(s, 4) == 8 {
-        return sharp(
+        return replay_makings::sharp(
             s,
             at,
             c,
@@ -207,7 +44,7 @@ fn lists(
             t,
         );
     }
-    from_normals(
+    replay_makings::from_normals(
         s,
         at,
         c,

@@ -1,8 +1,8 @@
--- `replay_create::from_normals` is safe and ends. Assumes nothing.
+-- `replay_makings::from_normals` is safe and ends. Assumes nothing.
 use Rattle.little_endian.proofs.Fronts.{front}
 use borrow.Author.Needs.{needs}
-use Rattle.replay_create.proofs.from_normals.Statement.{statement}
-use Rattle.replay_create.proofs.from_normals.Tie as tie
+use Rattle.replay_makings.proofs.from_normals.Statement.{statement}
+use Rattle.replay_makings.proofs.from_normals.Tie as tie
 
 places-requires : tie.Need-places-requires
 places-requires c κs = search needs
