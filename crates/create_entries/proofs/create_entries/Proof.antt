@@ -23,8 +23,8 @@ use contract.Lifetimes.{Lfts}
 use contract.Monad.{Fun, fact, factI}
 use contract.Running.{givenOf, tables, tablesOf}
 use types.Kit.{Given, Item, ‵, raw, some, given, later, _⊛_, ⋆, mean, _$_, _∵_, !, qed, by, move, keep, drop, use0, use1, use2, use3, group, split as split₁, join, pick, learn, fsplit, fjoin, feqL, suffices, check, frame, await, done}
-use types.Run.{look, init, store, stop, hop, fld, from, load, addr, of-opd, and-then, no-more, assigns, land, returns, enter, params1, pass1, pass0}
-use types.Part.{agg, whole, sub, look-in}
+use types.Run.{look, init, store, stop, fld, from, load, of-opd, and-then, no-more, assigns, land, returns, enter, params1, pass1, pass0}
+use types.Part.{whole, sub, look-in}
 use types.Tokens.{lft-new, lft-end}
 use sound.WpLaws.{FmC, fmOf, WpFn-mono}
 use denote.RattleType.{RattleType}
@@ -69,7 +69,7 @@ use Rattle.entries.proofs.split.Met as split-thm
 use Rattle.create_entries.specs.CreateEntries.{checkLists}
 use Rattle.create_entries.proofs.Answer.{is-answer, counted, flat-halfedges, flat-smoothness, lists-when, tangents-left, entries-left, values-left}
 use Rattle.create_entries.proofs.Again.{LentAgain, lends-again, comes-back}
-use Rattle.create_entries.proofs.Steps.{ungroup, allocs-all, frees-full, also, says-and, hears-and, plus-nothing, plus-fact}
+use Rattle.create_entries.proofs.Steps.{ungroup, allocs-all, frees-full, len-of, ptr-of, lent-on, also, says-and, hears-and, plus-nothing, plus-fact}
 use Rattle.create_checked.proofs.check_lists as f-check
 use Rattle.create_checked.proofs.check_lists.Symbol as check-def
 use Rattle.create_checked.proofs.check_lists.Symbol.{name as #check-lists}
@@ -428,16 +428,9 @@ module _ {M : Type 1} (𝓤 : URA M) (H : Heap 𝓤) (A : Atoms 𝓤) (W : Given
         split₁ ! $ move ! (1 ∷ []) $ use1 W (raw (fact 𝓤 (SaidScan r1))) (said-scan r1) $ heard ! (SaidScan r1) (λ e1. split₁ ! $ move ! (1 ∷ []) $ peeks ! N (Is N) (shows 𝓤 H A N) r1 (u1 ∷ []) (λ is1.
         drop ! $ split₁ ! $ move ! (1 ∷ []) $ drop ! $ land ! (from ! (stop !)) (init ! 29 refl (LL.lawful Pa.the-type Pa′.the-laws 𝓤 H A W .typed r1 (u1 ∷ []) is1 .0)) $
         -- the lengths
-        assigns ! (of-opd ! (load ! (from ! (fld ! refl (stop !))) (look-in ! 18 (sub ! 1 refl (whole !))))) (from ! (stop !)) (init ! 32 refl (tt, record { fits = room-sh .0 })) $
-        assigns ! (of-opd ! (load ! (from ! (fld ! refl (stop !))) (look-in ! 20 (sub ! 1 refl (whole !))))) (from ! (stop !)) (init ! 33 refl (tt, record { fits = room-t .0 })) $
-        assigns ! (of-opd ! (load ! (from ! (fld ! refl (stop !))) (look-in ! 21 (sub ! 1 refl (whole !))))) (from ! (stop !)) (init ! 34 refl (tt, record { fits = room-fix .0 })) $
-        assigns ! (of-opd ! (load ! (from ! (fld ! refl (stop !))) (look-in ! 22 (sub ! 1 refl (whole !))))) (from ! (stop !)) (init ! 35 refl (tt, record { fits = room-fla .0 })) $
-        assigns ! (of-opd ! (load ! (from ! (fld ! refl (stop !))) (look-in ! 23 (sub ! 1 refl (whole !))))) (from ! (stop !)) (init ! 36 refl (tt, record { fits = room-smo .0 })) $
-        assigns ! (of-opd ! (load ! (from ! (fld ! refl (stop !))) (look-in ! 24 (sub ! 1 refl (whole !))))) (from ! (stop !)) (init ! 37 refl (tt, record { fits = room-des .0 })) $
-        assigns ! (of-opd ! (load ! (from ! (fld ! refl (stop !))) (look-in ! 25 (sub ! 1 refl (whole !))))) (from ! (stop !)) (init ! 38 refl (tt, record { fits = room-ats .0 })) $
-        assigns ! (of-opd ! (load ! (from ! (fld ! refl (stop !))) (look-in ! 26 (sub ! 1 refl (whole !))))) (from ! (stop !)) (init ! 39 refl (tt, record { fits = room-lin .0 })) $
-        assigns ! (of-opd ! (load ! (from ! (fld ! refl (stop !))) (look-in ! 27 (sub ! 1 refl (whole !))))) (from ! (stop !)) (init ! 40 refl (tt, record { fits = room-e .0 })) $
-        assigns ! (of-opd ! (load ! (from ! (fld ! refl (stop !))) (look-in ! 28 (sub ! 1 refl (whole !))))) (from ! (stop !)) (init ! 41 refl (tt, record { fits = room-v .0 })) $
+        len-of ! 18 32 refl refl refl refl (room-sh .0) $ len-of ! 20 33 refl refl refl refl (room-t .0) $ len-of ! 21 34 refl refl refl refl (room-fix .0) $ len-of ! 22 35 refl refl refl refl (room-fla .0) $
+        len-of ! 23 36 refl refl refl refl (room-smo .0) $ len-of ! 24 37 refl refl refl refl (room-des .0) $ len-of ! 25 38 refl refl refl refl (room-ats .0) $
+        len-of ! 26 39 refl refl refl refl (room-lin .0) $ len-of ! 27 40 refl refl refl refl (room-e .0) $ len-of ! 28 41 refl refl refl refl (room-v .0) $
         -- the call of check_lists
         move ! (3 ∷ 2 ∷ []) $ use2 W (raw (Check 𝓤 H A at-mem run .pre (to-check r1 u1)) ⊛ Read) (goes-check r1 u1 is1) $ split₁ ! $
         calls-at ! fm (Check 𝓤 H A at-mem run) known-check-lists (to-check r1 u1) (and-then ! (load ! (from ! (stop !)) (look ! 11 refl)) (and-then ! (load ! (from ! (stop !)) (look ! 12 refl)) (and-then ! (load ! (from ! (stop !)) (look ! 13 refl)) (and-then ! (load ! (from ! (stop !)) (look ! 14 refl)) (and-then ! (load ! (from ! (stop !)) (look ! 15 refl)) (and-then ! (load ! (from ! (stop !)) (look ! 16 refl)) (and-then ! (load ! (from ! (stop !)) (look ! 17 refl)) (and-then ! (load ! (from ! (stop !)) (look ! 32 refl)) (and-then ! (load ! (from ! (stop !)) (look ! 29 refl)) (and-then ! (load ! (from ! (stop !)) (look ! 33 refl)) (and-then ! (load ! (from ! (stop !)) (look ! 34 refl)) (and-then ! (load ! (from ! (stop !)) (look ! 35 refl)) (and-then ! (load ! (from ! (stop !)) (look ! 36 refl)) (and-then ! (load ! (from ! (stop !)) (look ! 37 refl)) (and-then ! (load ! (from ! (stop !)) (look ! 38 refl)) (and-then ! (load ! (from ! (stop !)) (look ! 39 refl)) (and-then ! (load ! (from ! (stop !)) (look ! 40 refl)) (and-then ! (load ! (from ! (stop !)) (look ! 41 refl)) (no-more !))))))))))))))))))) (λ u2.
@@ -453,10 +446,7 @@ module _ {M : Type 1} (𝓤 : URA M) (H : Heap 𝓤) (A : Atoms 𝓤) (W : Given
         split₁ ! $ move ! (1 ∷ []) $ use1 W (raw (fact 𝓤 (SaidCount r2 r3))) (said-count r2 r3) $ heard ! (SaidCount r2 r3) (λ e3. split₁ ! $ drop ! $
         peeks ! usize (Is usize) (shows 𝓤 H A usize) r3 (u3 ∷ []) (λ is3. drop ! $ land ! (from ! (stop !)) (init ! 31 refl (uint-lawful 𝓤 H A W w64 .typed r3 _ is3 .0)) $
         -- the two lists are lent again, each for a lifetime of the call
-        assigns ! (addr ! (from ! (fld ! refl (hop ! (look-in ! 27 (sub ! 0 refl (whole !))) (stop !))))) (from ! (stop !)) (init ! 43 refl (tt, tt)) $
-        assigns ! (agg ! (and-then ! (load ! (from ! (stop !)) (look ! 43 refl)) (and-then ! (load ! (from ! (fld ! refl (stop !))) (look-in ! 27 (sub ! 1 refl (whole !)))) (no-more !)))) (from ! (stop !)) (init ! 44 refl (tt, (tt, (record { fits = room-e .0 }, tt)))) $
-        assigns ! (addr ! (from ! (fld ! refl (hop ! (look-in ! 28 (sub ! 0 refl (whole !))) (stop !))))) (from ! (stop !)) (init ! 45 refl (tt, tt)) $
-        assigns ! (agg ! (and-then ! (load ! (from ! (stop !)) (look ! 45 refl)) (and-then ! (load ! (from ! (fld ! refl (stop !))) (look-in ! 28 (sub ! 1 refl (whole !)))) (no-more !)))) (from ! (stop !)) (init ! 46 refl (tt, (tt, (record { fits = room-v .0 }, tt)))) $
+        ptr-of ! 27 43 refl refl refl refl $ lent-on ! 27 43 44 refl refl refl refl refl refl (room-e .0) $ ptr-of ! 28 45 refl refl refl refl $ lent-on ! 28 45 46 refl refl refl refl refl refl (room-v .0) $
         lft-new ! tt (λ νe. move ! (6 ∷ 8 ∷ []) $
         use2 W (later (some (λ (δ : GName). ‵ (MutSlice (named 1) (νe ∷ []) usize .own (xe δ es) (ve ∷ [])) ⊛ ‵ (LentAgain usize κ13 (νe ∷ []) q13 γe be oe δ es)))) (lends-again usize κ13 (νe ∷ []) q13 γe be oe 𝓤 H A W (named 13) (named 1) es) $ await ! tt $ pick ! (λ δe.
         split₁ ! $ lft-new ! tt (λ νv. move ! (9 ∷ 10 ∷ []) $
@@ -480,24 +470,12 @@ module _ {M : Type 1} (𝓤 : URA M) (H : Heap 𝓤) (A : Atoms 𝓤) (W : Given
         split₁ ! $
         -- all lists that are written are given to create_when for good
         let same-e : (zs .1 .1 .0) ≡ whenAccepted r2 (halfedgesOf (sh .now)) es = e4 .0 ∙ flat-halfedges (h .now) (pos .now) (nor .now) (fno .now) (ref .now) (sh .now) (t .now) (fix .now) (fla .now) (smo .now) (des .now) (ats .now) (lin .now) es vs n p r2 ans r3 e3 in let same-v : (zs .1 .1 .1 .0) ≡ whenAccepted r2 (smoothnessOf (sh .now)) vs = e4 .1 ∙ flat-smoothness (h .now) (pos .now) (nor .now) (fno .now) (ref .now) (sh .now) (t .now) (fix .now) (fla .now) (smo .now) (des .now) (ats .now) (lin .now) es vs n p r2 ans r3 e3 in
-        assigns ! (addr ! (from ! (fld ! refl (hop ! (look-in ! 20 (sub ! 0 refl (whole !))) (stop !))))) (from ! (stop !)) (init ! 47 refl (tt, tt)) $
-        assigns ! (agg ! (and-then ! (load ! (from ! (stop !)) (look ! 47 refl)) (and-then ! (load ! (from ! (fld ! refl (stop !))) (look-in ! 20 (sub ! 1 refl (whole !)))) (no-more !)))) (from ! (stop !)) (init ! 48 refl (tt, (tt, (record { fits = room-t .0 }, tt)))) $
-        assigns ! (addr ! (from ! (fld ! refl (hop ! (look-in ! 21 (sub ! 0 refl (whole !))) (stop !))))) (from ! (stop !)) (init ! 49 refl (tt, tt)) $
-        assigns ! (agg ! (and-then ! (load ! (from ! (stop !)) (look ! 49 refl)) (and-then ! (load ! (from ! (fld ! refl (stop !))) (look-in ! 21 (sub ! 1 refl (whole !)))) (no-more !)))) (from ! (stop !)) (init ! 50 refl (tt, (tt, (record { fits = room-fix .0 }, tt)))) $
-        assigns ! (addr ! (from ! (fld ! refl (hop ! (look-in ! 22 (sub ! 0 refl (whole !))) (stop !))))) (from ! (stop !)) (init ! 51 refl (tt, tt)) $
-        assigns ! (agg ! (and-then ! (load ! (from ! (stop !)) (look ! 51 refl)) (and-then ! (load ! (from ! (fld ! refl (stop !))) (look-in ! 22 (sub ! 1 refl (whole !)))) (no-more !)))) (from ! (stop !)) (init ! 52 refl (tt, (tt, (record { fits = room-fla .0 }, tt)))) $
-        assigns ! (addr ! (from ! (fld ! refl (hop ! (look-in ! 23 (sub ! 0 refl (whole !))) (stop !))))) (from ! (stop !)) (init ! 53 refl (tt, tt)) $
-        assigns ! (agg ! (and-then ! (load ! (from ! (stop !)) (look ! 53 refl)) (and-then ! (load ! (from ! (fld ! refl (stop !))) (look-in ! 23 (sub ! 1 refl (whole !)))) (no-more !)))) (from ! (stop !)) (init ! 54 refl (tt, (tt, (record { fits = room-smo .0 }, tt)))) $
-        assigns ! (addr ! (from ! (fld ! refl (hop ! (look-in ! 24 (sub ! 0 refl (whole !))) (stop !))))) (from ! (stop !)) (init ! 55 refl (tt, tt)) $
-        assigns ! (agg ! (and-then ! (load ! (from ! (stop !)) (look ! 55 refl)) (and-then ! (load ! (from ! (fld ! refl (stop !))) (look-in ! 24 (sub ! 1 refl (whole !)))) (no-more !)))) (from ! (stop !)) (init ! 56 refl (tt, (tt, (record { fits = room-des .0 }, tt)))) $
-        assigns ! (addr ! (from ! (fld ! refl (hop ! (look-in ! 25 (sub ! 0 refl (whole !))) (stop !))))) (from ! (stop !)) (init ! 57 refl (tt, tt)) $
-        assigns ! (agg ! (and-then ! (load ! (from ! (stop !)) (look ! 57 refl)) (and-then ! (load ! (from ! (fld ! refl (stop !))) (look-in ! 25 (sub ! 1 refl (whole !)))) (no-more !)))) (from ! (stop !)) (init ! 58 refl (tt, (tt, (record { fits = room-ats .0 }, tt)))) $
-        assigns ! (addr ! (from ! (fld ! refl (hop ! (look-in ! 26 (sub ! 0 refl (whole !))) (stop !))))) (from ! (stop !)) (init ! 59 refl (tt, tt)) $
-        assigns ! (agg ! (and-then ! (load ! (from ! (stop !)) (look ! 59 refl)) (and-then ! (load ! (from ! (fld ! refl (stop !))) (look-in ! 26 (sub ! 1 refl (whole !)))) (no-more !)))) (from ! (stop !)) (init ! 60 refl (tt, (tt, (record { fits = room-lin .0 }, tt)))) $
-        assigns ! (addr ! (from ! (fld ! refl (hop ! (look-in ! 27 (sub ! 0 refl (whole !))) (stop !))))) (from ! (stop !)) (init ! 61 refl (tt, tt)) $
-        assigns ! (agg ! (and-then ! (load ! (from ! (stop !)) (look ! 61 refl)) (and-then ! (load ! (from ! (fld ! refl (stop !))) (look-in ! 27 (sub ! 1 refl (whole !)))) (no-more !)))) (from ! (stop !)) (init ! 62 refl (tt, (tt, (record { fits = room-e .0 }, tt)))) $
-        assigns ! (addr ! (from ! (fld ! refl (hop ! (look-in ! 28 (sub ! 0 refl (whole !))) (stop !))))) (from ! (stop !)) (init ! 63 refl (tt, tt)) $
-        assigns ! (agg ! (and-then ! (load ! (from ! (stop !)) (look ! 63 refl)) (and-then ! (load ! (from ! (fld ! refl (stop !))) (look-in ! 28 (sub ! 1 refl (whole !)))) (no-more !)))) (from ! (stop !)) (init ! 64 refl (tt, (tt, (record { fits = room-v .0 }, tt)))) $
+        ptr-of ! 20 47 refl refl refl refl $ lent-on ! 20 47 48 refl refl refl refl refl refl (room-t .0) $ ptr-of ! 21 49 refl refl refl refl $
+        lent-on ! 21 49 50 refl refl refl refl refl refl (room-fix .0) $ ptr-of ! 22 51 refl refl refl refl $ lent-on ! 22 51 52 refl refl refl refl refl refl (room-fla .0) $
+        ptr-of ! 23 53 refl refl refl refl $ lent-on ! 23 53 54 refl refl refl refl refl refl (room-smo .0) $ ptr-of ! 24 55 refl refl refl refl $
+        lent-on ! 24 55 56 refl refl refl refl refl refl (room-des .0) $ ptr-of ! 25 57 refl refl refl refl $ lent-on ! 25 57 58 refl refl refl refl refl refl (room-ats .0) $
+        ptr-of ! 26 59 refl refl refl refl $ lent-on ! 26 59 60 refl refl refl refl refl refl (room-lin .0) $ ptr-of ! 27 61 refl refl refl refl $
+        lent-on ! 27 61 62 refl refl refl refl refl refl (room-e .0) $ ptr-of ! 28 63 refl refl refl refl $ lent-on ! 28 63 64 refl refl refl refl refl refl (room-v .0) $
         move ! (6 ∷ 7 ∷ 8 ∷ 2 ∷ 0 ∷ 3 ∷ 1 ∷ []) $ group ! 7 $
         use1 W (raw (Create 𝓤 H A at-mem run .pre (to-create r2 u2 (zs .1 .1 .0) (zs .1 .1 .1 .0))) ⊛ Read) (goes-create r2 u2 (zs .1 .1 .0) (zs .1 .1 .1 .0) is2 (len .0) (len .1) (lists-when (h .now) (pos .now) (nor .now) (fno .now) (ref .now) (sh .now) (t .now) (fix .now) (fla .now) (smo .now) (des .now) (ats .now) (lin .now) es vs n p r2 ans (zs .1 .1 .0) (zs .1 .1 .1 .0) same-e same-v)) $ split₁ ! $
         calls-at ! fm (Create 𝓤 H A at-mem run) known-create-when (to-create r2 u2 (zs .1 .1 .0) (zs .1 .1 .1 .0)) (and-then ! (load ! (from ! (stop !)) (look ! 25 refl)) (and-then ! (load ! (from ! (stop !)) (look ! 6 refl)) (and-then ! (load ! (from ! (stop !)) (look ! 7 refl)) (and-then ! (load ! (from ! (stop !)) (look ! 8 refl)) (and-then ! (load ! (from ! (stop !)) (look ! 9 refl)) (and-then ! (load ! (from ! (stop !)) (look ! 10 refl)) (and-then ! (load ! (from ! (stop !)) (look ! 11 refl)) (and-then ! (load ! (from ! (stop !)) (look ! 12 refl)) (and-then ! (load ! (from ! (stop !)) (look ! 14 refl)) (and-then ! (load ! (from ! (stop !)) (look ! 43 refl)) (and-then ! (load ! (from ! (stop !)) (look ! 45 refl)) (and-then ! (load ! (from ! (stop !)) (look ! 47 refl)) (and-then ! (load ! (from ! (stop !)) (look ! 49 refl)) (and-then ! (load ! (from ! (stop !)) (look ! 51 refl)) (and-then ! (load ! (from ! (stop !)) (look ! 53 refl)) (and-then ! (load ! (from ! (stop !)) (look ! 55 refl)) (and-then ! (load ! (from ! (stop !)) (look ! 57 refl)) (and-then ! (load ! (from ! (stop !)) (look ! 59 refl)) (no-more !))))))))))))))))))) (λ u5.
