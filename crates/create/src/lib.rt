@@ -1,7 +1,7 @@
 // `create_tangents` of src/smoothing_tangents.rs (document 01's making from sharp edges) as a public call: its
 // questions, and then `create_core`.
 ghost use mathlib.Core.Path.{_≡_};
-ghost use lib.ListN.{replicate};
+ghost use lib.ListN.{length, replicate};
 ghost use Rattle.float.specs.Ops.{zero};
 ghost use Rattle.mesh.specs.Check.{whenAccepted};
 ghost use Rattle.create.specs.Create.{listsFit, scratchFits, checkCreate, checkLists, tangentsAfter};
@@ -63,6 +63,31 @@ pub fn scratch_fits(
     )
 }
 
+// Question 2 of the scratch lists.
+fn scratch_lists_fit(
+    n: usize,
+    p: usize,
+    fixed: &[u8],
+    flat: &[u8],
+    smooth: &[f64],
+    desired: &[f64],
+    at: &[usize],
+    link: &[usize],
+) -> bool
+    ensures { λ r. ⌜ r ≡ scratchFits (length (now (fixed .entry))) (length (now (flat .entry))) (length (now (smooth .entry))) (length (now (desired .entry))) (length (now (at .entry))) (length (now (link .entry))) n p ⌝ }
+{
+    scratch_fits(
+        n,
+        p,
+        fixed.len(),
+        flat.len(),
+        smooth.len(),
+        desired.len(),
+        at.len(),
+        link.len(),
+    )
+}
+
 // The questions 1 to 10; `lengths` is the answer to question 2.
 fn check_create(
     n: usize,
@@ -111,30 +136,20 @@ pub fn create_tangents(
     ensures at { λ r. ⌜ now (at .exit) ≡ whenAccepted r (replicate p 0) (now (at .entry)) ⌝ }
     ensures link { λ r. ⌜ now (link .exit) ≡ whenAccepted r (replicate n 0) (now (link .entry)) ⌝ }
 {
-    let lengths = mesh::both(
-        lists_fit(
-            n,
-            p,
-            h.len(),
-            pos.len(),
-            normals.len(),
-            face_normals.len(),
-            refs.len(),
-            entries.len(),
-            values.len(),
-            t.len(),
-        ),
-        scratch_fits(
-            n,
-            p,
-            fixed.len(),
-            flat.len(),
-            smooth.len(),
-            desired.len(),
-            at.len(),
-            link.len(),
-        ),
+    let lists = lists_fit(
+        n,
+        p,
+        h.len(),
+        pos.len(),
+        normals.len(),
+        face_normals.len(),
+        refs.len(),
+        entries.len(),
+        values.len(),
+        t.len(),
     );
+    let scratch = scratch_lists_fit(n, p, fixed, flat, smooth, desired, at, link);
+    let lengths = mesh::both(lists, scratch);
     let checked = check_create(n, p, h, refs, entries, values, lengths);
     let Checked::Accepted = checked else {
         return checked;

@@ -1,7 +1,7 @@
 // `create_tangents_from_normals` of src/smoothing_tangents.rs (document 01's making from normals) as a public call: its
 // questions, and then `normals_core`.
 ghost use mathlib.Core.Path.{_≡_};
-ghost use lib.ListN.{replicate};
+ghost use lib.ListN.{length, replicate};
 ghost use Rattle.float.specs.Ops.{zero};
 ghost use Rattle.mesh.specs.Check.{whenAccepted};
 ghost use Rattle.create_from_normals.specs.FromNormals.{listsFit, scratchFits, checkNormals, checkLists, tangentsAfter};
@@ -38,27 +38,27 @@ fn lists_fit(
     )
 }
 
-// Question 2 of the scratch lists, from the length of each.
+// Question 2 of the scratch lists.
 fn scratch_fits(
     n: usize,
     p: usize,
-    fixed: usize,
-    inside: usize,
-    current: usize,
-    desired: usize,
-    first: usize,
+    fixed: &[u8],
+    inside: &[u8],
+    current: &[f64],
+    desired: &[f64],
+    first: &[usize],
 ) -> bool
-    ensures { λ r. ⌜ r ≡ scratchFits fixed inside current desired first n p ⌝ }
+    ensures { λ r. ⌜ r ≡ scratchFits (length (now (fixed .entry))) (length (now (inside .entry))) (length (now (current .entry))) (length (now (desired .entry))) (length (now (first .entry))) n p ⌝ }
 {
     let flags = mesh::both(
-        mesh::has_length(fixed, n, 1),
-        mesh::has_length(inside, n, 1),
+        mesh::has_length(fixed.len(), n, 1),
+        mesh::has_length(inside.len(), n, 1),
     );
     let angles = mesh::both(
-        mesh::both(flags, mesh::has_length(current, n, 1)),
-        mesh::has_length(desired, n, 1),
+        mesh::both(flags, mesh::has_length(current.len(), n, 1)),
+        mesh::has_length(desired.len(), n, 1),
     );
-    mesh::both(angles, mesh::has_length(first, p, 1))
+    mesh::both(angles, mesh::has_length(first.len(), p, 1))
 }
 
 // The questions 1 to 8; `lengths` is the answer to question 2.
@@ -97,28 +97,19 @@ pub fn create_tangents_from_normals(
     ensures desired { λ r. ⌜ now (desired .exit) ≡ whenAccepted r (replicate n zero) (now (desired .entry)) ⌝ }
     ensures first { λ r. ⌜ now (first .exit) ≡ whenAccepted r (replicate p 0) (now (first .entry)) ⌝ }
 {
-    let lengths = mesh::both(
-        lists_fit(
-            n,
-            p,
-            h.len(),
-            pos.len(),
-            normals.len(),
-            face_normals.len(),
-            refs.len(),
-            halfedge_normals.len(),
-            t.len(),
-        ),
-        scratch_fits(
-            n,
-            p,
-            fixed.len(),
-            inside.len(),
-            current.len(),
-            desired.len(),
-            first.len(),
-        ),
+    let lists = lists_fit(
+        n,
+        p,
+        h.len(),
+        pos.len(),
+        normals.len(),
+        face_normals.len(),
+        refs.len(),
+        halfedge_normals.len(),
+        t.len(),
     );
+    let scratch = scratch_fits(n, p, fixed, inside, current, desired, first);
+    let lengths = mesh::both(lists, scratch);
     let checked = check_normals(n, p, h, refs, lengths);
     let Checked::Accepted = checked else {
         return checked;

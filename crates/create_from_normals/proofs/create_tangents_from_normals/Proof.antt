@@ -1,55 +1,18 @@
 -- `create_from_normals::create_tangents_from_normals` meets its contract: the questions, and then the core. Assumes nothing.
-use mathlib.Core.Path.{_≡_, sym, _∙_}
+use mathlib.Core.Path.{_≡_, refl, sym, _∙_}
 use Rattle.create_from_normals.specs.FromNormals.{checkLists}
 use Rattle.create_from_normals.proofs.Accepted.{lists-of}
-use borrow.Author.Needs.{needs}
 use Rattle.create_from_normals.proofs.create_tangents_from_normals.Statement.{statement}
 use Rattle.create_from_normals.proofs.create_tangents_from_normals.Tie as tie
 
-answer : (c : tie.After-check-normals) → let a = c .before .before .before .before .before .before .before .before .before .before .before .before .before .before .args in c .check-normals .result ≡ checkLists (a .h .now) (a .pos .now) (a .normals .now) (a .«face-normals» .now) (a .refs .now) (a .«halfedge-normals» .now) (a .t .now) (a .fixed .now) (a .inside .now) (a .current .now) (a .desired .now) (a .first .now) (a .n) (a .p)
-answer c = rw (← c .before .before .before .lists-fit .ensures, ← c .before .before .scratch-fits .ensures, ← c .before .both .ensures) (c .check-normals .ensures)
-
-lists-fit-requires : tie.Need-lists-fit-requires
-lists-fit-requires c κs = tt
-
-scratch-fits-requires : tie.Need-scratch-fits-requires
-scratch-fits-requires c κs = tt
-
-both-requires : tie.Need-both-requires
-both-requires c κs = tt
-
-check-normals-requires : tie.Need-check-normals-requires
-check-normals-requires c κs = tt
-
-enum-told : tie.Need-enum-told
-enum-told c = search needs
-
-enum-told-2 : tie.Need-enum-told-2
-enum-told-2 c = search needs
+answer : (c : tie.After-check-normals) → let a = c .before .before .before .before .before .before .before .before .before .before .before .before .before .before .before .before .before .before .before .args in c .check-normals .result ≡ checkLists (a .h .now) (a .pos .now) (a .normals .now) (a .«face-normals» .now) (a .refs .now) (a .«halfedge-normals» .now) (a .t .now) (a .fixed .now) (a .inside .now) (a .current .now) (a .desired .now) (a .first .now) (a .n) (a .p)
+answer c = rw (← c .before .before .before .before .before .before .before .before .lists-fit .ensures, ← c .before .before .scratch-fits .ensures, ← c .before .both .ensures) (c .check-normals .ensures)
 
 returns : tie.Need-returns
 returns c = let e = c .enum-told2 .given .1 in (answer (c .before .before), (rw e, (rw e, (rw e, (rw e, (rw e, rw e))))))
 
 make-tangents-requires : tie.Need-make-tangents-requires
-make-tangents-requires c κs = let a = c .before .before .before .before .before .before .before .before .before .before .before .before .before .before .before .before .before .before .before .before .before .before .args in lists-of (a .h .now) (a .pos .now) (a .normals .now) (a .«face-normals» .now) (a .refs .now) (a .«halfedge-normals» .now) (a .t .now) (a .fixed .now) (a .inside .now) (a .current .now) (a .desired .now) (a .first .now) (a .n) (a .p) (sym (answer (c .before .before .before .before .before .before .before .before)) ∙ c .before .before .before .before .before .before .enum-told .given .1)
-
-same-length : tie.Need-same-length
-same-length c = c .before .before .before .before .before .before .before .before .before .before .before .before .make-tangents .kept .1 .1 .1 .1 .1 .1 .1 .1 .1 .0
-
-same-length-2 : tie.Need-same-length-2
-same-length-2 c = c .before .before .before .before .before .before .before .before .before .before .before .before .make-tangents .kept .1 .1 .1 .1 .1 .1 .1 .1 .1 .1 .0
-
-same-length-3 : tie.Need-same-length-3
-same-length-3 c = c .before .before .before .before .before .before .before .before .before .before .before .before .make-tangents .kept .1 .1 .1 .1 .1 .1 .1 .1 .1 .1 .1 .0
-
-same-length-4 : tie.Need-same-length-4
-same-length-4 c = c .before .before .before .before .before .before .before .before .before .before .before .before .make-tangents .kept .1 .1 .1 .1 .1 .1 .1 .1 .1 .1 .1 .1 .0
-
-same-length-5 : tie.Need-same-length-5
-same-length-5 c = c .before .before .before .before .before .before .before .before .before .before .before .before .make-tangents .kept .1 .1 .1 .1 .1 .1 .1 .1 .1 .1 .1 .1 .1 .0
-
-same-length-6 : tie.Need-same-length-6
-same-length-6 c = c .before .before .before .before .before .before .before .before .before .before .before .before .make-tangents .kept .1 .1 .1 .1 .1 .1 .1 .1 .1 .1 .1 .1 .1 .1 .0
+make-tangents-requires c κs = let a = c .before .before .before .before .before .before .before .before .before .before .before .before .before .before .before .before .before .before .before .before .before .before .before .before .before .before .before .args in lists-of (a .h .now) (a .pos .now) (a .normals .now) (a .«face-normals» .now) (a .refs .now) (a .«halfedge-normals» .now) (a .t .now) (a .fixed .now) (a .inside .now) (a .current .now) (a .desired .now) (a .first .now) (a .n) (a .p) (sym (answer (c .before .before .before .before .before .before .before .before)) ∙ c .before .before .before .before .before .before .enum-told .given .1)
 
 returns-2 : tie.Need-returns-2
 returns-2 c = let e = c .before .before .before .before .before .before .before .before .before .before .before .before .before .before .before .before .before .before .before .enum-told .given .1 in let m = c .before .before .before .before .before .before .before .before .before .before .before .before .make-tangents .ensures in (answer (c .before .before .before .before .before .before .before .before .before .before .before .before .before .before .before .before .before .before .before .before .before), (rw e (m .0), (rw e (m .1 .0), (rw e (m .1 .1 .0), (rw e (m .1 .1 .1 .0), (rw e (m .1 .1 .1 .1 .0), rw e (m .1 .1 .1 .1 .1)))))))
@@ -58,18 +21,23 @@ pub create-tangents-from-normals-spec : {M : Type 1} → statement M
 create-tangents-from-normals-spec =
     tie.close
     (tie.spec
-    lists-fit-requires
-    scratch-fits-requires
-    both-requires
-    check-normals-requires
-    enum-told
-    enum-told-2
+    (λ c κs. tt)
+    (λ c κs. tt)
+    (λ c κs. tt)
+    (λ c κs. tt)
+    (λ c. c .match .keys1)
+    (λ c. c .match .keys2)
+    (λ c. refl)
+    (λ c. refl)
+    (λ c. refl)
+    (λ c. refl)
+    (λ c. refl)
     returns
     make-tangents-requires
-    same-length
-    same-length-2
-    same-length-3
-    same-length-4
-    same-length-5
-    same-length-6
+    (λ c. c .before .before .before .before .before .before .before .before .before .before .before .before .make-tangents .kept .1 .1 .1 .1 .1 .1 .1 .1 .1 .0)
+    (λ c. c .before .before .before .before .before .before .before .before .before .before .before .before .make-tangents .kept .1 .1 .1 .1 .1 .1 .1 .1 .1 .1 .0)
+    (λ c. c .before .before .before .before .before .before .before .before .before .before .before .before .make-tangents .kept .1 .1 .1 .1 .1 .1 .1 .1 .1 .1 .1 .0)
+    (λ c. c .before .before .before .before .before .before .before .before .before .before .before .before .make-tangents .kept .1 .1 .1 .1 .1 .1 .1 .1 .1 .1 .1 .1 .0)
+    (λ c. c .before .before .before .before .before .before .before .before .before .before .before .before .make-tangents .kept .1 .1 .1 .1 .1 .1 .1 .1 .1 .1 .1 .1 .1 .0)
+    (λ c. c .before .before .before .before .before .before .before .before .before .before .before .before .make-tangents .kept .1 .1 .1 .1 .1 .1 .1 .1 .1 .1 .1 .1 .1 .1 .0)
     returns-2)
