@@ -15,6 +15,10 @@ ghost use Rattle.mesh.specs.Check.{whenAccepted};
 ghost use Rattle.create.specs.Create.{checkLists as checkCreate, tangentsAfter as createdTangents};
 ghost use Rattle.create_from_normals.specs.FromNormals.{checkLists as checkFromNormals, tangentsAfter as tangentsFromNormals};
 ghost use Rattle.capi.specs.Answers.{put, putChecked, putValidity, putListing, putSpreading};
+use distribute::Spreading;
+use mesh::Checked;
+use sharpen::Listing;
+use validate::Validity;
 
 fn put_at(answer: &mut [usize], k: usize, x: usize)
     ensures { λ _. ⌜ now (answer .exit) ≡ set (now (answer .entry)) k x ⌝ }
@@ -33,6 +37,58 @@ fn put_answer(answer: &mut [usize], number: usize, place: usize, first: usize, s
     put_at(answer, 3, second);
 }
 
+// Straightening and the makings: no further numbers.
+fn put_checked(answer: &mut [usize], checked: Checked)
+    ensures { λ _. ⌜ now (answer .exit) ≡ putChecked (now (answer .entry)) checked ⌝ }
+{
+    put_answer(
+        answer,
+        mesh::number_of(checked),
+        mesh::place_of(checked),
+        0,
+        0,
+    );
+}
+
+// The mark check: 1 for yes, 0 for no.
+fn put_validity(answer: &mut [usize], valid: Validity)
+    ensures { λ _. ⌜ now (answer .exit) ≡ putValidity (now (answer .entry)) valid ⌝ }
+{
+    put_answer(
+        answer,
+        validate::number_of(valid),
+        validate::place_of(valid),
+        validate::value_of(valid),
+        0,
+    );
+}
+
+// The crease listing: the number of entries, and the tally.
+fn put_listing(answer: &mut [usize], listing: Listing)
+    ensures { λ _. ⌜ now (answer .exit) ≡ putListing (now (answer .entry)) listing ⌝ }
+{
+    put_answer(
+        answer,
+        sharpen::number_of(listing),
+        sharpen::place_of(listing),
+        sharpen::entries_of(listing),
+        sharpen::tally_of(listing),
+    );
+}
+
+// Spreading: looked and turned.
+fn put_spreading(answer: &mut [usize], spreading: Spreading)
+    ensures { λ _. ⌜ now (answer .exit) ≡ putSpreading (now (answer .entry)) spreading ⌝ }
+{
+    put_answer(
+        answer,
+        distribute::number_of(spreading),
+        distribute::place_of(spreading),
+        distribute::looked_of(spreading),
+        distribute::turned_of(spreading),
+    );
+}
+
 // Straightening.
 #[no_mangle]
 pub extern "C" fn tangents_linearize_flat_tangents(
@@ -47,13 +103,7 @@ pub extern "C" fn tangents_linearize_flat_tangents(
     ensures { λ _. ⌜ now (answer .exit) ≡ putChecked (now (answer .entry)) (linearizeAnswer (now (h .entry)) (now (pos .entry)) (now (t .entry)) n p) ⌝ }
 {
     let checked = linearize::linearize_flat_tangents(n, p, h, pos, t);
-    put_answer(
-        answer,
-        mesh::number_of(checked),
-        mesh::place_of(checked),
-        0,
-        0,
-    );
+    put_checked(answer, checked);
 }
 
 // The mark check.
@@ -69,13 +119,7 @@ pub extern "C" fn tangents_valid_tangents(
     ensures { λ _. ⌜ now (answer .exit) ≡ putValidity (now (answer .entry)) (validAnswer (now (h .entry)) (now (pos .entry)) (now (t .entry)) n p) ⌝ }
 {
     let valid = validate::valid_tangents(n, p, h, pos, t);
-    put_answer(
-        answer,
-        validate::number_of(valid),
-        validate::place_of(valid),
-        validate::value_of(valid),
-        0,
-    );
+    put_validity(answer, valid);
 }
 
 // The crease listing.
@@ -96,13 +140,7 @@ pub extern "C" fn tangents_sharpen_edges(
     ensures { λ _. ⌜ now (answer .exit) ≡ putListing (now (answer .entry)) (sharpenEdges (now (h .entry)) (now (normals .entry)) angle smooth (now (halfedges .entry)) (now (smoothness .entry)) n p) ⌝ }
 {
     let listing = sharpen::sharpen_edges(n, p, h, normals, angle, smooth, halfedges, smoothness);
-    put_answer(
-        answer,
-        sharpen::number_of(listing),
-        sharpen::place_of(listing),
-        sharpen::entries_of(listing),
-        sharpen::tally_of(listing),
-    );
+    put_listing(answer, listing);
 }
 
 // Spreading, with the answer's two counts looked and turned.
@@ -135,13 +173,7 @@ pub extern "C" fn tangents_distribute_tangents(
         current,
         desired,
     );
-    put_answer(
-        answer,
-        distribute::number_of(spreading),
-        distribute::place_of(spreading),
-        distribute::looked_of(spreading),
-        distribute::turned_of(spreading),
-    );
+    put_spreading(answer, spreading);
 }
 
 // Making from sharp edges. `old` says whether the tangents lent are old ones: 0 for no.
@@ -194,13 +226,7 @@ pub extern "C" fn tangents_create_tangents(
         at,
         link,
     );
-    put_answer(
-        answer,
-        mesh::number_of(checked),
-        mesh::place_of(checked),
-        0,
-        0,
-    );
+    put_checked(answer, checked);
 }
 
 // Making from normals, three numbers for each halfedge. `old` says whether the tangents lent are old ones: 0 for no.
@@ -248,11 +274,5 @@ pub extern "C" fn tangents_create_tangents_from_normals(
         desired,
         first,
     );
-    put_answer(
-        answer,
-        mesh::number_of(checked),
-        mesh::place_of(checked),
-        0,
-        0,
-    );
+    put_checked(answer, checked);
 }

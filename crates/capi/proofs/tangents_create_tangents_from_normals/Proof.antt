@@ -1,32 +1,24 @@
 -- `capi::tangents_create_tangents_from_normals` meets its contract. Assumes nothing.
-use borrow.Author.Needs.{needs}
 use Rattle.capi.proofs.tangents_create_tangents_from_normals.Statement.{statement}
 use Rattle.capi.proofs.tangents_create_tangents_from_normals.Tie as tie
 
 returns : tie.Need-returns
 returns c =
-    let a = c .before .before .before .before .before .before .before .before .before .before .before .before .before .before .before .before .before .before .create-tangents-from-normals .ensures in
-    let l = a .1 .1 in (
-      rw (a .0) at (a .1 .0),
-      (
-        rw (a .0) at (l .0),
-        (
-          rw (a .0) at (l .1 .0),
-          (
-            rw (a .0) at (l .1 .1 .0),
-            (
-              rw (a .0) at (l .1 .1 .1 .0),
-              (
-                rw (a .0) at (l .1 .1 .1 .1),
-                rw (c .before .before .put-answer .ensures, c .before .before .before .before .number-of .ensures, c .before .before .before .place-of .ensures, a .0),
-              ),
-            ),
-          ),
-        ),
-      ),
-    )
+    let a = c .before .before .before .before .before .before .before .before .before .before .before .before .before .before .before .before .create-tangents-from-normals .ensures in
+    let p = c .before .before .put-checked .ensures in
+    (rw (a .0) at (a .1 .0), (rw (a .0) at (a .1 .1 .0), (rw (a .0) at (a .1 .1 .1 .0), (rw (a .0) at (a .1 .1 .1 .1 .0), (rw (a .0) at (a .1 .1 .1 .1 .1 .0), (rw (a .0) at (a .1 .1 .1 .1 .1 .1), rw (p, a .0)))))))
 
 pub tangents-create-tangents-from-normals-spec : {M : Type 1} → statement M
 tangents-create-tangents-from-normals-spec =
     tie.close
-    (tie.spec (λ c κs. tt) (λ c κs. tt) (λ c κs. tt) (λ c κs. tt) (λ c. search needs) (λ c. search needs) (λ c. search needs) (λ c. search needs) (λ c. search needs) (λ c. search needs) (λ c. search needs) returns)
+    (tie.spec
+    (λ c κs. tt)
+    (λ c κs. tt)
+    (λ c. c .before .before .before .before .before .before .before .before .before .before .before .before .before .before .before .before .create-tangents-from-normals .kept .1 .1 .1 .1 .1 .1 .1 .1 .1 .0)
+    (λ c. c .before .before .before .before .before .before .before .before .before .before .before .before .before .before .before .before .create-tangents-from-normals .kept .1 .1 .1 .1 .1 .1 .1 .1 .1 .1 .0)
+    (λ c. c .before .before .before .before .before .before .before .before .before .before .before .before .before .before .before .before .create-tangents-from-normals .kept .1 .1 .1 .1 .1 .1 .1 .1 .1 .1 .1 .0)
+    (λ c. c .before .before .before .before .before .before .before .before .before .before .before .before .before .before .before .before .create-tangents-from-normals .kept .1 .1 .1 .1 .1 .1 .1 .1 .1 .1 .1 .1 .0)
+    (λ c. c .before .before .before .before .before .before .before .before .before .before .before .before .before .before .before .before .create-tangents-from-normals .kept .1 .1 .1 .1 .1 .1 .1 .1 .1 .1 .1 .1 .1 .0)
+    (λ c. c .before .before .before .before .before .before .before .before .before .before .before .before .before .before .before .before .create-tangents-from-normals .kept .1 .1 .1 .1 .1 .1 .1 .1 .1 .1 .1 .1 .1 .1 .0)
+    (λ c. c .before .before .put-checked .kept .0)
+    returns)
