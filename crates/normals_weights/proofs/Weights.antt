@@ -1,10 +1,10 @@
--- THE THEOREM: on a sound mesh making from normals leaves made weights only, and no flag of a missing normal. Assumes nothing.
+-- THE THEOREM: on a sound mesh, and so after an accepted call, making from normals leaves made weights only, and no flag of a missing normal. Assumes nothing.
 use Prim.Native.Nat.{ℕ, _+_, _*_, _<_}
 use native.Mathlib.Nat.{le-refl}
 use native.Mathlib.Omega.{arith}
 use mathlib.Core.Path.{_≡_, refl, sym, ap, _∙_}
 use mathlib.Core.Logic.{_⊎_, inl, inr}
-use mathlib.Core.Bool.{Bool, true, false, true≢false}
+use mathlib.Core.Bool.{Bool, true, false, _&&_, true≢false}
 use mathlib.Core.List.{List}
 use lib.ListN.{length, replicate, length-replicate, getD-replicate}
 use lib.IntN.{ℤ}
@@ -14,7 +14,7 @@ use Rattle.mesh.specs.Questions.{signClear}
 use Rattle.mesh.specs.Check.{checkMesh}
 use Rattle.mesh.specs.Sound.{Sound}
 use Rattle.mesh.specs.declared.Checked.the-variants.{Accepted}
-use Rattle.mesh.proofs.Accepted.{accepted}
+use Rattle.mesh.proofs.Accepted.{accepted, refs-accepted}
 use Rattle.mesh.proofs.Fold.{fold-keeps}
 use Rattle.smoothing.specs.Lists.{weightAt}
 use Rattle.smoothing.specs.Edges.{edgeVec}
@@ -28,7 +28,8 @@ use Rattle.distribute_steps.specs.FloatSteps.{floatSteps}
 use Rattle.distribute_walks.proofs.Lawful.{lawful}
 use Rattle.distribute.specs.Distribute.{spreadTangents}
 use Rattle.normals_core.specs.Core.{insideQuads, normalTangents, createTangentsFromNormals}
-use Rattle.normals_weights.specs.Weights.{MadeWeight, inside, further, circular, WeightsOf}
+use Rattle.create_from_normals.specs.FromNormals.{listsFit, scratchFits, checkNormals}
+use Rattle.normals_weights.specs.Weights.{MadeWeight, inside, further, circular, WeightsOf, WeightsAfter}
 use Rattle.normals_weights.proofs.Circular.{circular-clear}
 use Rattle.normals_weights.proofs.Verts.{AllMade, vert-keeps}
 
@@ -89,6 +90,10 @@ module _ {H : List ℤ} {n p : ℕ} (S : Sound H n p) (R : List ℤ) (P N A G O 
     none-missing = λ e l. not-missing (mark-or-clear (made-weight e l));
   }
 
--- so of a mesh that got through the questions
-pub accepted-weights : (H R : List ℤ) (P N A G O : List Float) (old : Bool) (n p : ℕ) (lengths : Bool) → checkMesh H n p lengths ≡ Accepted → WeightsOf H R P N A G O old n p
-accepted-weights H R P N A G O old n p lengths a = weights (accepted H n p lengths a .1) R P N A G O old
+-- so of a call that is accepted
+pub weights-after : (H : List ℤ) (P N A : List Float) (R : List ℤ) (G O : List Float) (X Q : List ℕ) (C D : List Float) (F : List ℕ) (old : Bool) (n p : ℕ) → WeightsAfter H P N A R G O X Q C D F old n p
+unfolding checkNormals
+weights-after H P N A R G O X Q C D F old n p e =
+    let lengths = listsFit (length H) (length P) (length N) (length A) (length R) (length G) (length O) n p && scratchFits (length X) (length Q) (length C) (length D) (length F) n p in
+    let sound = accepted H n p lengths (refs-accepted (checkMesh H n p lengths) n R e .0) .1 in
+    rw e (weights sound R P N A G O old)

@@ -9,11 +9,13 @@ use lib.Ieee.{Float}
 use Rattle.float.specs.Ops.{zero}
 use Rattle.linalg.specs.declared.Vec3.{Vec3}
 use Rattle.mesh.specs.Questions.{signClear}
+use Rattle.mesh.specs.declared.Checked.the-variants.{Accepted}
 use Rattle.smoothing.specs.Directions.{circularTangent}
 use Rattle.smoothing.specs.Lists.{weightAt}
 use Rattle.smoothing.specs.Edges.{edgeVec}
 use Rattle.normals_steps.specs.Steps.{insideQuadWeight, missingNormalWeight}
 use Rattle.normals_core.specs.Core.{createTangentsFromNormals}
+use Rattle.create_from_normals.specs.FromNormals.{checkLists, tangentsAfter}
 
 -- What the weight w of halfedge e can be: -1 inside a quad, 0 in a further vertex cycle of a point, and else that of a circular tangent along its edge.
 pub data MadeWeight (H : List ℤ) (P : List Float) (e : ℕ) (w : Float) : Type 0 where
@@ -32,3 +34,9 @@ pub record Weights (H : List ℤ) (P T : List Float) (n : ℕ) : Type 0 where
 -- THE CLAIM, for every sound mesh and any other lists
 abbrev pub WeightsOf : List ℤ → List ℤ → List Float → List Float → List Float → List Float → List Float → Bool → ℕ → ℕ → Type 0
 WeightsOf H R P N A G O old n p = Weights H P (createTangentsFromNormals H R P N A G O old n p) n
+
+-- The same of the public call, for every input that it accepts; X, Q, C, D and F are its scratch lists
+abbrev pub WeightsAfter : List ℤ → List Float → List Float → List Float → List ℤ → List Float → List Float → List ℕ → List ℕ → List Float → List Float → List ℕ → Bool → ℕ → ℕ → Type 0
+WeightsAfter H P N A R G O X Q C D F old n p =
+    let answer = checkLists H P N A R G O X Q C D F n p in
+    answer ≡ Accepted → Weights H P (tangentsAfter answer H P N A R G O old n p) n
