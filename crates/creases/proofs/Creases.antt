@@ -13,6 +13,7 @@ use lib.Ieee.{Float}
 use borrow.Author.Tests.{eqb-true}
 use Rattle.mesh.specs.Mesh.{startVert, pairedHalfedge, isForward}
 use Rattle.mesh.specs.Sound.{Sound}
+use Rattle.mesh.proofs.Tests.{and-true}
 use Rattle.mesh.proofs.Pairs.{one-forward, paired-injective, paired-other}
 use Rattle.edges.specs.Smoothness.{isCrease}
 use Rattle.creases.specs.Creases.{addHalfedge, addCrease, creasesFrom, creasesAt}
@@ -31,13 +32,9 @@ pub all-tail : (P : ℕ → Type 0) (l : List ℕ) → All P l → All P (drop 1
 all-tail P [] a = tt
 all-tail P (e ∷ l) a = a .1
 
-and-left : (a b : Bool) → a && b ≡ true → a ≡ true
-and-left true b e = refl
-and-left false b e = e
-
 pub crease-forward : (H : List ℤ) (S : List Float) (f : ℕ) → isCrease H S f ≡ true → isForward H f ≡ true
 unfolding isCrease
-crease-forward H S f e = and-left (isForward H f) _ e
+crease-forward H S f e = and-true (isForward H f) _ e .0
 
 -- ---- of each crease at the point v
 

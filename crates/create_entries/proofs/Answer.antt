@@ -14,7 +14,7 @@ use Rattle.mesh.specs.Check.{checkEntries, whenAccepted}
 use Rattle.mesh.specs.declared.Checked.{Checked}
 use Rattle.mesh.specs.declared.Checked.the-variants.{Accepted, Refused}
 use Rattle.mesh.proofs.Accepted.{accepted, refs-accepted, entries-accepted}
-use Rattle.distribute.proofs.Accepted.{and-true}
+use Rattle.mesh.proofs.Tests.{and-true}
 use Rattle.create_core.specs.Core.{Lists}
 use Rattle.create.specs.Create.{listsFit, scratchFits, checkCreate, checkLists as checkFlatLists, tangentsAfter}
 use Rattle.create.proofs.Accepted.{lists-of}

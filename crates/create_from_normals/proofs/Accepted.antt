@@ -4,7 +4,6 @@ use native.Mathlib.Omega.{arith}
 use mathlib.Core.Path.{_≡_, sym, subst}
 use mathlib.Core.Bool.{true, _&&_}
 use mathlib.Core.List.{List}
-use borrow.Author.Tests.{eqb-true}
 use lib.ListN.{length}
 use lib.IntN.{ℤ}
 use lib.Ieee.{Float}
@@ -13,18 +12,10 @@ use Rattle.mesh.specs.Questions.{hasLength}
 use Rattle.mesh.specs.Check.{checkMesh}
 use Rattle.mesh.specs.Sound.{Sound}
 use Rattle.mesh.specs.declared.Checked.the-variants.{Accepted}
+use Rattle.mesh.proofs.Tests.{and-true, has-length, has-one}
 use Rattle.mesh.proofs.Accepted.{accepted, refs-accepted}
 use Rattle.normals_core.specs.Core.{Lists}
-use Rattle.distribute.proofs.Accepted.{and-true}
 use Rattle.create_from_normals.specs.FromNormals.{listsFit, scratchFits, checkNormals, checkLists}
-
--- the length that question 2 finds of a list with so many numbers for each of `count`
-has : (len count per : ℕ) → hasLength len count per ≡ true → len ≡ count * per
-has len count per e = eqb-true _ _ e
-
--- with one place for each
-has-one : (len count : ℕ) → hasLength len count 1 ≡ true → len ≡ count
-has-one len count e = let q = has len count 1 e in omega arith
 
 -- question 2 of the lists read and of the tangents
 record ListsFit (l m a g t n p : ℕ) : Type 0 where
@@ -43,11 +34,11 @@ lists-fit h l m a r g t n p e =
     let e₃ = and-true _ (hasLength m p 3) (e₄ .0) in
     let e₂ = and-true (hasLength h n halfedgeStride) (hasLength l p 3) (e₃ .0) in
     record {
-      positions = has l p 3 (e₂ .1);
-      normals = has m p 3 (e₃ .1);
-      face-normals = has a (n / 3) 3 (e₄ .1);
-      halfedge-normals = has g n 3 (e₆ .1);
-      tangents = has t n 4 (e₇ .1);
+      positions = has-length l p 3 (e₂ .1);
+      normals = has-length m p 3 (e₃ .1);
+      face-normals = has-length a (n / 3) 3 (e₄ .1);
+      halfedge-normals = has-length g n 3 (e₆ .1);
+      tangents = has-length t n 4 (e₇ .1);
     }
 
 -- and of scratch

@@ -11,13 +11,10 @@ use lib.Ieee.{Float}
 use Rattle.mesh.specs.Mesh.{halfedgeStride}
 use Rattle.mesh.specs.Questions.{hasLength}
 use Rattle.mesh.specs.declared.Checked.the-variants.{Accepted}
+use Rattle.mesh.proofs.Tests.{and-true}
 use Rattle.mesh.proofs.Accepted.{accepted, flags-accepted}
 use Rattle.distribute_walks.specs.Walks.{Lists}
 use Rattle.distribute.specs.Distribute.{lengthsFit, checkLists}
-
-pub and-true : (a b : Bool) → a && b ≡ true → (a ≡ true) × (b ≡ true)
-and-true true b e = (refl, e)
-and-true false b e = absurd (true≢false (sym e))
 
 pub lists-of : (H : List ℤ) (P N : List Float) (F : List ℕ) (T C D : List Float) (n p : ℕ) → checkLists H P N F T C D n p ≡ Accepted → Lists H P N F T C D n p
 unfolding checkLists

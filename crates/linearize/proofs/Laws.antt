@@ -17,15 +17,12 @@ use Rattle.linalg.specs.declared.Vec4.{Vec4}
 use Rattle.mesh.specs.Mesh.{halfedgeStride, isForward}
 use Rattle.mesh.specs.Questions.{hasLength}
 use Rattle.mesh.specs.declared.Checked.the-variants.{Accepted}
+use Rattle.mesh.proofs.Tests.{and-true}
 use Rattle.mesh.proofs.Fold.{fold-keeps}
 use Rattle.mesh.proofs.Accepted.{accepted}
 use Rattle.smoothing.specs.Lists.{tangentAt, putTangent, weightAt, isMarkedInsideQuad}
 use Rattle.smoothing.proofs.Tangents.{weight-of, length-put, tangent-put-other}
 use Rattle.linearize.specs.Linearize.{isFlat, linearized, linearizeEnd, linearizeEdge, linearizeAt, linearizeFlatTangents, lengthsFit, linearizeAnswer, Lists}
-
-both-true : (a b : Bool) → a && b ≡ true → (a ≡ true) × (b ≡ true)
-both-true true b e = (refl, e)
-both-true false b e = let z : _≡_ {A = ℕ} 0 1 = cc in absurd (omega arith)
 
 -- what one arm has of the other, the branch has: f stands for what is looked at
 arm : {A B : Type 0} (f : A → B) (b : Bool) (x y : A) → (b ≡ true → f x ≡ f y) → f (cond b x y) ≡ f y
@@ -37,7 +34,7 @@ arm f false x y q = refl
 pub neither-kept : (T : List Float) (e pair : ℕ) (edge : Vec3) (tangent other : Vec4) → not (isFlat tangent) && not (isFlat other) ≡ true → linearizeEdge T e pair edge tangent other ≡ T
 unfolding linearizeEdge linearizeEnd
 neither-kept T e pair edge tangent other q =
-    let unflat = both-true (not (isFlat tangent)) (not (isFlat other)) q in
+    let unflat = and-true (not (isFlat tangent)) (not (isFlat other)) q in
     rw (not-true (isFlat tangent) (unflat .0), not-true (isFlat other) (unflat .1))
 
 -- ---- the length is kept
@@ -83,7 +80,7 @@ mark-unflat nan q = refl
 mark-unflat (inf s) q = refl
 mark-unflat (fin s m e) q =
     let a = m * Ieee.up e * 1 in
-    let same : a ≡ 1 * Ieee.down e = eqb-true a (1 * Ieee.down e) (both-true _ _ q .0) in
+    let same : a ≡ 1 * Ieee.down e = eqb-true a (1 * Ieee.down e) (and-true _ _ q .0) in
     let other : eqb a (0 * Ieee.down e) ≡ false = ne-eqb a (0 * Ieee.down e) (λ z. omega (arith, same, z, down-pos e)) in
     rw other
 
@@ -95,6 +92,6 @@ marked-kept H P d T n q = all-kept H P d T n (rw weight-of (mark-unflat (weightA
 pub accepted-lists : (H : List ℤ) (P T : List Float) (n p : ℕ) → linearizeAnswer H P T n p ≡ Accepted → Lists H P T n p
 accepted-lists H P T n p e =
     let a = accepted H n p (lengthsFit H P T n p) e in
-    let l = both-true (hasLength (length H) n halfedgeStride && hasLength (length P) p 3) (hasLength (length T) n 4) (a .0) in
-    let m = both-true (hasLength (length H) n halfedgeStride) (hasLength (length P) p 3) (l .0) in
+    let l = and-true (hasLength (length H) n halfedgeStride && hasLength (length P) p 3) (hasLength (length T) n 4) (a .0) in
+    let m = and-true (hasLength (length H) n halfedgeStride) (hasLength (length P) p 3) (l .0) in
     record { sound = a .1; positions = eqb-true _ _ (m .1); tangents = eqb-true _ _ (l .1) }

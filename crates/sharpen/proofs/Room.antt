@@ -11,6 +11,7 @@ use borrow.Author.Tests.{eqb-true}
 use Rattle.mesh.specs.Mesh.{pairedHalfedge, isForward}
 use Rattle.mesh.specs.Sound.{Sound}
 use Rattle.mesh.specs.declared.Checked.the-variants.{Accepted}
+use Rattle.mesh.proofs.Tests.{and-true}
 use Rattle.mesh.proofs.Accepted.{accepted}
 use Rattle.mesh.proofs.Pairs.{one-forward, paired-injective}
 use Rattle.sharpen.specs.Crease.{isCrease, NormalsIn}
@@ -18,10 +19,6 @@ use Rattle.sharpen.specs.Entries.{entriesIn, listEdges, countBelow}
 use Rattle.sharpen.specs.Sharpen.{lengthsFit, checkLists, Lists, EdgeFits}
 use Rattle.sharpen.proofs.Listed.{entries-twice}
 use Rattle.sharpen.proofs.Count.{count-half, count-room}
-
-and-true : (a b : Bool) → a && b ≡ true → (a ≡ true) × (b ≡ true)
-and-true true b e = (refl, e)
-and-true false b e = let z : _≡_ {A = ℕ} 0 1 = cc in absurd (omega arith)
 
 module _ {H : List ℤ} {n p : ℕ} (A : List Float) (limit : Float) (s : Sound H n p) where
   -- of the two halfedges of an edge only the forward one is asked
