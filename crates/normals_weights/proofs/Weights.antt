@@ -13,7 +13,6 @@ use Rattle.float.specs.Ops.{zero}
 use Rattle.mesh.specs.Questions.{signClear}
 use Rattle.mesh.specs.Check.{checkMesh}
 use Rattle.mesh.specs.Sound.{Sound}
-use Rattle.mesh.specs.declared.Checked.the-variants.{Accepted}
 use Rattle.mesh.proofs.Accepted.{accepted, refs-accepted}
 use Rattle.mesh.proofs.Fold.{fold-keeps}
 use Rattle.smoothing.specs.Lists.{weightAt}
