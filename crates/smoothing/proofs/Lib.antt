@@ -1,3 +1,4 @@
 -- The laws of `smoothing` that its proofs share and the crates above cite.
+pub mod Directions
 pub mod Tangents
 pub mod Edges

@@ -3,8 +3,8 @@ use Prim.Native.Nat.{ℕ, zero, suc, _+_, _*_, _/_, _%_, _≤_, _<_}
 use native.Mathlib.Omega.{arith}
 use mathlib.Core.Path.{_≡_, refl, sym, _∙_, ap}
 use mathlib.Core.List.{List}
-use lib.ListN.{length, getD, length-set}
-use lib.Seq.{getD-set-same, getD-set-other, lt-length-set, set-getD, ext-getD}
+use lib.ListN.{length, getD, set, length-set}
+use lib.Seq.{getD-set-same, getD-set-other, lt-length-set, set-getD, set-set, set-comm, ext-getD}
 use lib.Ieee.{Float, nan}
 use Rattle.linalg.specs.declared.Vec4.{Vec4}
 use Rattle.smoothing.specs.Lists.{tangentAt, putTangent, weightAt}
@@ -42,6 +42,23 @@ weight-put-same T e v h = sym (weight-of (putTangent T e v) e) ∙ ap (λ (u : V
 pub put-there : (T : List Float) (e : ℕ) → putTangent T e (tangentAt T e) ≡ T
 unfolding tangentAt putTangent
 put-there T e = simp set-getD
+
+-- ---- twice at the same halfedge
+
+-- stores in ascending order
+set-ascending : (l : List Float) (i j : ℕ) (a b : Float) → j < i → set (set l i a) j b ≡ set (set l j b) i a
+set-ascending l i j a b h = set-comm l i j a b (λ q. omega arith)
+
+pub put-put : (T : List Float) (e : ℕ) (u v : Vec4) → putTangent (putTangent T e u) e v ≡ putTangent T e v
+unfolding putTangent
+put-put T e u v =
+    let ab : e * 4 < e * 4 + 1 = omega arith in
+    let ac : e * 4 < e * 4 + 2 = omega arith in
+    let ad : e * 4 < e * 4 + 3 = omega arith in
+    let bc : e * 4 + 1 < e * 4 + 2 = omega arith in
+    let bd : e * 4 + 1 < e * 4 + 3 = omega arith in
+    let cd : e * 4 + 2 < e * 4 + 3 = omega arith in
+    simp (set-ascending, set-set)
 
 -- ---- at another one
 

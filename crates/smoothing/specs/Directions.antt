@@ -41,6 +41,10 @@ angleBetween a b =
 unfoldable pub equalNormals : Vec3 → Vec3 → Bool
 equalNormals a b = lt (lit 0x3fef_ff2e_48e8_a71e) (dotOf (safeNormalize a) (safeNormalize b))
 
+-- the comparison of `equal_normals` on two unit vectors: `equalNormals a b` where these are `safeNormalize a` and `safeNormalize b`
+unfoldable pub equalUnits : Vec3 → Vec3 → Bool
+equalUnits u v = lt (lit 0x3fef_ff2e_48e8_a71e) (dotOf u v)
+
 -- `circular_tangent`
 unfoldable pub circularTangent : Vec3 → Vec3 → Vec4
 circularTangent tangent edge =

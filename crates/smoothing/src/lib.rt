@@ -3,7 +3,7 @@
 ghost use mathlib.Core.Path.{_≡_};
 ghost use Prim.Native.Nat.{_+_, _*_, _≤_, _<_, _^_};
 ghost use lib.ListN.{length};
-ghost use Rattle.smoothing.specs.Directions.{vec3FromVec4, isDegenerate, directionBy, safeNormalize, wrapOf, angleBetween, equalNormals, circularTangent};
+ghost use Rattle.smoothing.specs.Directions.{vec3FromVec4, isDegenerate, directionBy, safeNormalize, wrapOf, angleBetween, equalNormals, equalUnits, circularTangent};
 ghost use Rattle.smoothing.specs.Lists.{pointAt, tangentAt, putTangent, weightAt, isMarkedInsideQuad};
 ghost use Rattle.smoothing.specs.Edges.{EdgeIn, FacesIn, QuadIn, edgeVec, biTangent, tangentFromNormal, sameFaceAcross, noOtherNeighbor, isInsideQuad};
 use linalg::Vec3;
@@ -91,6 +91,13 @@ pub fn equal_normals(a: Vec3, b: Vec3) -> bool
     ensures { λ r. ⌜ r ≡ equalNormals a b ⌝ }
 {
     linalg::dot(safe_normalize(a), safe_normalize(b)) > 0.9999
+}
+
+// The same, where the unit vectors of the two normals are known.
+pub fn equal_units(u: Vec3, v: Vec3) -> bool
+    ensures { λ r. ⌜ r ≡ equalUnits u v ⌝ }
+{
+    linalg::dot(u, v) > 0.9999
 }
 
 // The length of the edge is worked out once, for its direction and for itself.
