@@ -1,10 +1,23 @@
 // What `create_tangents_from_normals` reads of the normals, and what it carries on its way round a vertex cycle.
 ghost use mathlib.Core.Path.{_≡_};
 ghost use mathlib.Core.Bool.{xor};
-ghost use Prim.Native.Nat.{_+_, _*_, _/_, _≤_, _<_};
+ghost use mathlib.Core.List.{List};
+ghost use Prim.Native.Nat.{_+_, _*_, _/_, _≤_};
 ghost use lib.ListN.{length};
-ghost use Rattle.normals_state.specs.State.{MissingIn, StateLists, getNormal, isZero, normalOr, hasFaceNormal, isMissing, addFaceEdge, nextFaceEdges, setStart, missingStart, nextStart, someMissing, nextLast, startState, nextState, spoilFaceEdges};
+ghost use lib.IntN.{ℤ};
+ghost use lib.Ieee.{Float};
+ghost use Rattle.cycles.specs.Cycles.{nextAround};
+ghost use Rattle.normals_state.specs.State.{getNormal, isZero, normalOr, halfedgeNormal, addFaceEdge, nextFaceEdges, setStart, missingStart, nextStart, someMissing, nextLast, startState, nextState, spoilFaceEdges};
 use linalg::Vec3;
+
+// The normal of a halfedge, its unit vector, whether it is missing, and whether it is that of its triangle. Each is worked out
+// once, for the halfedge and for the one before it round the point.
+pub struct HalfedgeNormal {
+    pub normal: Vec3,
+    pub unit: Vec3,
+    pub zero: bool,
+    pub flat: bool,
+}
 
 // The Rust's `face_edges`, the halfedges round a point at which a flat face begins or ends: none yet; one; two; or a third, or
 // more than one normal at the point (its -2), so that there is no single flat face.
@@ -57,23 +70,20 @@ pub fn normal_or(v: Vec3, other: Vec3) -> Vec3
     v
 }
 
-// Is the normal of halfedge e that of its triangle?
-fn has_face_normal(face_normals: &[f64], halfedge_normals: &[f64], e: usize) -> bool
+// The normal of halfedge e with what the loop asks of it.
+pub fn halfedge_normal(face_normals: &[f64], halfedge_normals: &[f64], e: usize) -> HalfedgeNormal
     requires { ⌜ (e / 3 * 3 + 3 ≤ length (now «face_normals»)) × (e * 3 + 3 ≤ length (now «halfedge_normals»)) ⌝ }
-    ensures { λ r. ⌜ r ≡ hasFaceNormal (now («face_normals» .entry)) (now («halfedge_normals» .entry)) e ⌝ }
+    ensures { λ r. ⌜ r ≡ halfedgeNormal (now («face_normals» .entry)) (now («halfedge_normals» .entry)) e ⌝ }
 {
     let normal = get_normal(halfedge_normals, e);
-    smoothing::equal_normals(normal, smoothing::point_at(face_normals, e / 3))
-}
-
-// Is the normal of halfedge e or that of the next one round its point missing?
-pub fn is_missing(n: usize, h: &[i32], halfedge_normals: &[f64], e: usize) -> bool
-    requires { ⌜ (e < n) × MissingIn (now h) (now «halfedge_normals») n ⌝ }
-    ensures { λ r. ⌜ r ≡ isMissing (now (h .entry)) (now («halfedge_normals» .entry)) e ⌝ }
-{
-    let here_zero = is_zero(get_normal(halfedge_normals, e));
-    let next = cycles::next_around(h, e);
-    cycles::either(here_zero, is_zero(get_normal(halfedge_normals, next)))
+    let unit = smoothing::safe_normalize(normal);
+    let face_unit = smoothing::safe_normalize(smoothing::point_at(face_normals, e / 3));
+    HalfedgeNormal {
+        normal,
+        unit,
+        zero: is_zero(normal),
+        flat: smoothing::equal_units(unit, face_unit),
+    }
 }
 
 // ---- what the loop carries
@@ -177,31 +187,22 @@ pub fn start_state() -> CycleState
     }
 }
 
-// What is carried after halfedge e.
+// What is carried after halfedge e, by its normal and the next one round its point.
 pub fn next_state(
-    n: usize,
-    h: &[i32],
-    face_normals: &[f64],
-    halfedge_normals: &[f64],
     state: CycleState,
+    here: HalfedgeNormal,
+    next: HalfedgeNormal,
     e: usize,
 ) -> CycleState
-    requires { ⌜ (e < n) × StateLists (now h) (now «face_normals») (now «halfedge_normals») n ⌝ }
-    ensures { λ r. ⌜ r ≡ nextState (now (h .entry)) (now («face_normals» .entry)) (now («halfedge_normals» .entry)) state e ⌝ }
+    ensures { λ r. ⌜ ((H : List ℤ) (A G : List Float) → here ≡ halfedgeNormal A G e → next ≡ halfedgeNormal A G (nextAround H e) → r ≡ nextState H A G state e) ⌝ }
 {
-    let next = cycles::next_around(h, e);
-    let normal = get_normal(halfedge_normals, e);
-    let here_zero = is_zero(normal);
-    let next_zero = is_zero(get_normal(halfedge_normals, next));
-    let here_is_flat = has_face_normal(face_normals, halfedge_normals, e);
-    let next_is_flat = has_face_normal(face_normals, halfedge_normals, next);
     let edges = state.face_edges;
     let start = state.start_halfedge;
     let last = state.last_normal;
     CycleState {
-        face_edges: next_face_edges(here_is_flat, next_is_flat, edges, e),
-        start_halfedge: next_start(here_zero, next_zero, start, e),
-        last_normal: next_last(here_zero, next_zero, normal, last),
+        face_edges: next_face_edges(here.flat, next.flat, edges, e),
+        start_halfedge: next_start(here.zero, next.zero, start, e),
+        last_normal: next_last(here.zero, next.zero, here.normal, last),
     }
 }
 

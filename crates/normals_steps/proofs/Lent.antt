@@ -1,7 +1,7 @@
 -- On an accepted mesh the lent lists hold what `normals_steps` reads and writes, and a walk names halfedges only. Assumes nothing.
 use Prim.Native.Nat.{ℕ, _*_, _+_, _<_, _≤_}
 use native.Mathlib.Omega.{arith}
-use mathlib.Core.Path.{_≡_, sym, subst, _∙_}
+use mathlib.Core.Path.{_≡_, sym, subst}
 use mathlib.Core.Bool.{Bool, true, false, cond, xor}
 use mathlib.Core.List.{List}
 use lib.ListN.{length}
@@ -19,7 +19,7 @@ use Rattle.normals_state.specs.declared.StartHalfedge.{StartHalfedge}
 use Rattle.normals_state.specs.declared.StartHalfedge.the-variants.{NoneMissing, SomeMissing, StartAt}
 use Rattle.normals_state.specs.declared.CycleState.{CycleState}
 use Rattle.normals_state.specs.State.{getNormal, isMissing, addFaceEdge, nextFaceEdges, setStart, missingStart, nextStart, startState, nextState, spoilFaceEdges}
-use Rattle.normals_steps.specs.Steps.{NormalsIn, StepIn, FaceEdgesIn, StartIn, StateIn, flagTangent, isInside, Walk, walkOf, tangentStep, normalStep}
+use Rattle.normals_steps.specs.Steps.{NormalsIn, FaceEdgesIn, StartIn, StateIn, flagTangent, isInside, Walk, walkOf, tangentStep, normalStep}
 
 module _ {H : List ℤ} {P A G T : List Float} {n : ℕ} (w : NormalsIn H P A G T n) {e : ℕ} (h : e < n) where
   -- in a list as long as T
@@ -32,9 +32,6 @@ module _ {H : List ℤ} {P A G T : List Float} {n : ℕ} (w : NormalsIn H P A G 
 -- another list of tangents, as long
 pub normals-still : {H : List ℤ} {P A G T T′ : List Float} {n : ℕ} → length T′ ≡ length T → NormalsIn H P A G T n → NormalsIn H P A G T′ n
 normals-still q w = record { state = w .state; positions = w .positions; tangents = omega (arith, w .tangents) }
-
-pub step-still : {H : List ℤ} {P A G : List Float} {Q : List ℕ} {T T′ : List Float} {X X′ : List ℕ} {n : ℕ} → length T′ ≡ length T → length X′ ≡ length X → StepIn H P A G Q T X n → StepIn H P A G Q T′ X′ n
-step-still q r w = record { lists = normals-still q (w .lists); inside = w .inside; fixed = r ∙ w .fixed }
 
 -- ---- the halfedges that a walk names are halfedges
 

@@ -1,15 +1,21 @@
 // One halfedge, or one point, in `create_tangents_from_normals`: the bodies of its loops, and the edges of a single flat face.
 ghost use mathlib.Core.Path.{_≡_};
+ghost use mathlib.Core.List.{List};
+ghost use mathlib.Core.Bool.{cond};
 ghost use Prim.Native.Nat.{_+_, _*_, _≤_, _<_};
 ghost use lib.ListN.{length};
+ghost use lib.Ieee.{Float};
 ghost use Rattle.smoothing.specs.Edges.{EdgeIn, FacesIn};
+ghost use Rattle.cycles.specs.Cycles.{nextAround};
 ghost use Rattle.shapes.specs.Sharpen.{AlignIn};
 ghost use Rattle.shapes.specs.Shapes.{ShapeIn, tangentsOf};
-ghost use Rattle.normals_steps.specs.Steps.{NormalsIn, StepIn, FaceEdgesIn, signedDir, tangentBetween, withWeight, flagTangent, walkOf, tangentStep, normalStep, vertNormalStep, fillOf, fillTangent, putFillTangent, fillStep, faceTangent, alignEdges, fixFaceEdges, alignFaceEdges};
+ghost use Rattle.normals_state.specs.State.{halfedgeNormal};
+ghost use Rattle.normals_steps.specs.Steps.{FaceEdgesIn, signedDir, tangentBetween, withWeight, insideQuadWeight, missingNormalWeight, walkOf, tangentStep, normalStep, vertNormalStep, fillOf, fillTangent, putFillTangent, fillStep, faceTangent, alignEdges, fixFaceEdges, alignFaceEdges};
 use linalg::Vec3;
 use linalg::Vec4;
 use normals_state::CycleState;
 use normals_state::FaceEdges;
+use normals_state::HalfedgeNormal;
 
 // ---- the loop round the vertex cycle
 
@@ -55,17 +61,14 @@ fn with_weight(v: Vec3, w: f64) -> Vec4
     }
 }
 
-// The tangent of a halfedge first, where it was t.
-fn flag_tangent(missing: bool, inside: bool, last: Vec3, t: Vec4) -> Vec4
-    ensures { λ r. ⌜ r ≡ flagTangent missing inside last t ⌝ }
+// The tangent of a halfedge with a flag: inside a quad, or its normal or the next one is missing.
+fn flag_tangent(inside: bool, last: Vec3) -> Vec4
+    ensures { λ r. ⌜ r ≡ withWeight last (cond inside insideQuadWeight missingNormalWeight) ⌝ }
 {
     if inside {
         return with_weight(last, -1.0);
     }
-    if missing {
-        return with_weight(last, -3.0);
-    }
-    with_weight(smoothing::vec3_from_vec4(t), 1.0)
+    with_weight(last, -3.0)
 }
 
 // A halfedge e without a flag: fixed where its normal and the next one differ.
@@ -74,19 +77,18 @@ fn tangent_step(
     h: &[i32],
     pos: &[f64],
     face_normals: &[f64],
-    halfedge_normals: &[f64],
     t: &mut [f64],
     fixed: &mut [u8],
     state: CycleState,
+    here: HalfedgeNormal,
+    next: HalfedgeNormal,
     e: usize,
 ) -> CycleState
-    requires { ⌜ (e < n) × NormalsIn (now h) (now pos) (now «face_normals») (now «halfedge_normals») (now t) n × (length (now fixed) ≡ n) ⌝ }
-    ensures { λ r. ⌜ walkOf (now (t .exit)) (now (fixed .exit)) r ≡ tangentStep (now (h .entry)) (now (pos .entry)) (now («face_normals» .entry)) (now («halfedge_normals» .entry)) (walkOf (now (t .entry)) (now (fixed .entry)) state) e ⌝ }
+    requires { ⌜ (e < n) × ShapeIn (now h) (now pos) (now t) (now fixed) n × (length (now «face_normals») ≡ n) ⌝ }
+    ensures { λ r. ⌜ ((G : List Float) → here ≡ halfedgeNormal (now («face_normals» .entry)) G e → next ≡ halfedgeNormal (now («face_normals» .entry)) G (nextAround (now (h .entry)) e) → walkOf (now (t .exit)) (now (fixed .exit)) r ≡ tangentStep (now (h .entry)) (now (pos .entry)) (now («face_normals» .entry)) G (walkOf (now (t .entry)) (now (fixed .entry)) state) e) ⌝ }
 {
-    let here = normals_state::get_normal(halfedge_normals, e);
-    let next = normals_state::get_normal(halfedge_normals, cycles::next_around(h, e));
-    let equal = smoothing::equal_normals(next, here);
-    let tangent = tangent_between(h, pos, face_normals, here, next, equal, e);
+    let equal = smoothing::equal_units(next.unit, here.unit);
+    let tangent = tangent_between(h, pos, face_normals, here.normal, next.normal, equal, e);
     smoothing::put_tangent(t, e, tangent);
     if equal {
         return state;
@@ -95,42 +97,32 @@ fn tangent_step(
     normals_state::spoil_face_edges(state)
 }
 
-// The body of the loop, at halfedge e: what is carried after it.
+// The body of the loop, at halfedge e, by its normal and the next one round its point: what is carried after it. The tangent is
+// written once: a flag that is clear would be read nowhere.
 pub fn normal_step(
     n: usize,
     h: &[i32],
     pos: &[f64],
     face_normals: &[f64],
-    halfedge_normals: &[f64],
     inside: &[u8],
     t: &mut [f64],
     fixed: &mut [u8],
     state: CycleState,
+    here: HalfedgeNormal,
+    next: HalfedgeNormal,
     e: usize,
 ) -> CycleState
-    requires { ⌜ (e < n) × StepIn (now h) (now pos) (now «face_normals») (now «halfedge_normals») (now inside) (now t) (now fixed) n ⌝ }
-    ensures { λ r. ⌜ walkOf (now (t .exit)) (now (fixed .exit)) r ≡ normalStep (now (h .entry)) (now (pos .entry)) (now («face_normals» .entry)) (now («halfedge_normals» .entry)) (now (inside .entry)) (walkOf (now (t .entry)) (now (fixed .entry)) state) e ⌝ }
+    requires { ⌜ (e < n) × ShapeIn (now h) (now pos) (now t) (now fixed) n × (length (now «face_normals») ≡ n) × (length (now inside) ≡ n) ⌝ }
+    ensures { λ r. ⌜ ((G : List Float) → here ≡ halfedgeNormal (now («face_normals» .entry)) G e → next ≡ halfedgeNormal (now («face_normals» .entry)) G (nextAround (now (h .entry)) e) → walkOf (now (t .exit)) (now (fixed .exit)) r ≡ normalStep (now (h .entry)) (now (pos .entry)) (now («face_normals» .entry)) G (now (inside .entry)) (walkOf (now (t .entry)) (now (fixed .entry)) state) e) ⌝ }
 {
-    let after = normals_state::next_state(n, h, face_normals, halfedge_normals, state, e);
-    let missing = normals_state::is_missing(n, h, halfedge_normals, e);
-    let before = smoothing::tangent_at(t, e);
-    let last = after.last_normal;
-    let flagged = flag_tangent(missing, inside[e] == 1, last, before);
-    smoothing::put_tangent(t, e, flagged);
-    if smoothing::weight_at(t, e) < 0.0 {
+    let after = normals_state::next_state(state, here, next, e);
+    let in_quad = inside[e] == 1;
+    let missing = cycles::either(here.zero, next.zero);
+    if cycles::either(in_quad, missing) {
+        smoothing::put_tangent(t, e, flag_tangent(in_quad, after.last_normal));
         return after;
     }
-    tangent_step(
-        n,
-        h,
-        pos,
-        face_normals,
-        halfedge_normals,
-        t,
-        fixed,
-        after,
-        e,
-    )
+    tangent_step(n, h, pos, face_normals, t, fixed, after, here, next, e)
 }
 
 // ---- missing normals

@@ -29,21 +29,26 @@ fn normal_walk(
     ensures { λ r. ⌜ StateIn n r ⌝ }
 {
     let mut state = normals_state::start_state();
+    let mut here = normals_state::halfedge_normal(face_normals, halfedge_normals, e);
     let mut current = e;
     loop {
+        let following = cycles::next_around(h, current);
+        let next = normals_state::halfedge_normal(face_normals, halfedge_normals, following);
         state = normals_steps::normal_step(
             n,
             h,
             pos,
             face_normals,
-            halfedge_normals,
             inside,
             t,
             fixed,
             state,
+            here,
+            next,
             current,
         );
-        current = cycles::next_around(h, current);
+        here = next;
+        current = following;
         if current == e {
             break;
         }

@@ -1,57 +1,37 @@
 -- `normals_state::next_state` meets its contract: the code is the definition. Assumes nothing.
-use Rattle.normals_state.specs.State.{nextState}
-use Rattle.cycles.proofs.Around.{next-fits}
-use Rattle.normals_state.proofs.Lent.{here-in, next-in, here-face-in, next-face-in}
-use borrow.Author.Needs.{needs}
+use Prim.Native.Nat.{ℕ}
+use mathlib.Core.Path.{_≡_, refl}
+use mathlib.Core.List.{List}
+use lib.IntN.{ℤ}
+use lib.Ieee.{Float}
+use Rattle.linalg.specs.declared.Vec3.{Vec3}
+use Rattle.cycles.specs.Cycles.{nextAround}
+use Rattle.normals_state.specs.declared.HalfedgeNormal.{HalfedgeNormal}
+use Rattle.normals_state.specs.declared.FaceEdges.{FaceEdges}
+use Rattle.normals_state.specs.declared.StartHalfedge.{StartHalfedge}
+use Rattle.normals_state.specs.declared.CycleState.{CycleState}
+use Rattle.normals_state.specs.State.{halfedgeNormal, nextFaceEdges, nextStart, nextLast, nextState}
 use Rattle.normals_state.proofs.next_state.Statement.{statement}
 use Rattle.normals_state.proofs.next_state.Tie as tie
 
-next-around-requires : tie.Need-next-around-requires
-next-around-requires c κs = let p = c .before .before .pre in next-fits (p .1 .missing .sound) _ (p .0)
-
-get-normal-requires : tie.Need-get-normal-requires
-get-normal-requires c κs = let p = c .before .before .before .pre in here-in (p .1 .missing) (p .0)
-
-is-zero-requires : tie.Need-is-zero-requires
-is-zero-requires c κs = search needs
-
-get-normal-requires-2 : tie.Need-get-normal-requires-2
-get-normal-requires-2 c κs = let p = c .before .before .before .before .before .pre in next-in (p .1 .missing) (p .0) (c .before .before .next-around .ensures)
-
-is-zero-requires-2 : tie.Need-is-zero-requires-2
-is-zero-requires-2 c κs = search needs
-
-has-face-normal-requires : tie.Need-has-face-normal-requires
-has-face-normal-requires c κs = let p = c .before .before .before .before .before .before .before .pre in (here-face-in (p .1) (p .0), here-in (p .1 .missing) (p .0))
-
-has-face-normal-requires-2 : tie.Need-has-face-normal-requires-2
-has-face-normal-requires-2 c κs = let p = c .before .before .before .before .before .before .before .before .pre in (next-face-in (p .1) (p .0) (c .before .before .before .before .before .next-around .ensures), next-in (p .1 .missing) (p .0) (c .before .before .before .before .before .next-around .ensures))
+next-by : (H : List ℤ) (A G : List Float) (s : CycleState) (e : ℕ) (here next : HalfedgeNormal) {f : FaceEdges} {b : StartHalfedge} {l : Vec3} → here ≡ halfedgeNormal A G e → next ≡ halfedgeNormal A G (nextAround H e) → f ≡ nextFaceEdges (here .flat) (next .flat) (s .«face_edges») e → b ≡ nextStart (here .zero) (next .zero) (s .«start_halfedge») e → l ≡ nextLast (here .zero) (next .zero) (here .normal) (s .«last_normal») → record { «face_edges» = f; «start_halfedge» = b; «last_normal» = l } ≡ nextState H A G s e
+unfolding nextState halfedgeNormal
+next-by H A G s e here next p q f b l = rw (f, b, l, p, q) refl
 
 next-face-edges-requires : tie.Need-next-face-edges-requires
-next-face-edges-requires c κs = search needs
+next-face-edges-requires c κs = tt
 
 next-start-requires : tie.Need-next-start-requires
-next-start-requires c κs = search needs
+next-start-requires c κs = tt
 
 next-last-requires : tie.Need-next-last-requires
-next-last-requires c κs = search needs
+next-last-requires c κs = tt
 
 returns : tie.Need-returns
-unfolding nextState
-returns c = cc
+returns c =
+    let a = c .before .before .before .before .args in
+    λ H A G p q. next-by H A G (a .state) (a .e) (a .here) (a .next) p q (c .before .before .next-face-edges .ensures) (c .before .next-start .ensures) (c .next-last .ensures)
 
 pub next-state-spec : {M : Type 1} → statement M
 next-state-spec =
-    tie.close
-    (tie.spec
-    next-around-requires
-    get-normal-requires
-    is-zero-requires
-    get-normal-requires-2
-    is-zero-requires-2
-    has-face-normal-requires
-    has-face-normal-requires-2
-    next-face-edges-requires
-    next-start-requires
-    next-last-requires
-    returns)
+    tie.close (tie.spec next-face-edges-requires next-start-requires next-last-requires returns)

@@ -1,9 +1,11 @@
--- `normals_walks::normal_walk` meets its contract: a walk once round a vertex cycle. The invariant: what is left of the fold gives the whole. Assumes nothing.
+-- `normals_walks::normal_walk` meets its contract: a walk once round a vertex cycle. The invariant: what is left of the fold gives the whole, and the normal that is carried is the current halfedge's. Assumes nothing.
 use Rattle.normals_walks.specs.Walks.{normalWalk}
+use Rattle.normals_walks.proofs.Lent.{shape-in}
 use Rattle.normals_steps.specs.Steps.{StateIn, walkOf, normalStep}
-use Rattle.normals_steps.proofs.Lent.{step-still, state-start, state-after}
-use Rattle.normals_state.specs.State.{startState}
+use Rattle.normals_steps.proofs.Lent.{state-start, state-after}
+use Rattle.normals_state.specs.State.{halfedgeNormal, startState}
 use Rattle.normals_state.specs.declared.CycleState.{CycleState}
+use Rattle.normals_state.proofs.Lent.{here-in, next-in, here-face-in, next-face-in}
 use Rattle.cycles.proofs.Around.{next-permutes, next-fits}
 use Rattle.cycles.proofs.Loops.{Walking, around-start, around-step, around-less, around-fold-step, around-fold-stop}
 use Rattle.cycles.proofs.Paths.{isAt, stepsLeft}
@@ -17,64 +19,83 @@ use Rattle.normals_walks.proofs.normal_walk.Statement.{statement}
 use Rattle.normals_walks.proofs.normal_walk.Tie as tie
 
 abbrev Inv-loop : tie.InvT-loop
-Inv-loop n h pos face-normals halfedge-normals inside t₀ fixed₀ e state₀ current₀ t fixed state current =
+Inv-loop n h pos face-normals halfedge-normals inside t₀ fixed₀ e state₀ here₀ current₀ t fixed state here current =
     Walking (nextAround h) n (isAt e) n e current × (length t ≡ length t₀) × (length fixed ≡ length fixed₀) × StateIn n state
+    × (here ≡ halfedgeNormal face-normals halfedge-normals current)
     × (foldl (normalStep h pos face-normals halfedge-normals inside) (walkOf t fixed state) (cycleFrom (nextAround h) n e current) ≡ foldl (normalStep h pos face-normals halfedge-normals inside) (walkOf t₀ fixed₀ startState) (vertexCycle h n e))
 
 abbrev μ-loop : tie.MeasureT-loop
-μ-loop n h pos face-normals halfedge-normals inside t₀ fixed₀ e state₀ current₀ t fixed state current = stepsLeft (nextAround h) (isAt e) n current
+μ-loop n h pos face-normals halfedge-normals inside t₀ fixed₀ e state₀ here₀ current₀ t fixed state here current = stepsLeft (nextAround h) (isAt e) n current
 
 start-state-requires : tie.Need-start-state-requires Inv-loop μ-loop
 start-state-requires c κs = tt
 
+halfedge-normal-requires : tie.Need-halfedge-normal-requires Inv-loop μ-loop
+halfedge-normal-requires c κs = let p = c .before .before .before .before .before .before .before .pre in (here-face-in (p .1 .lists .state) (p .0), here-in (p .1 .lists .state .missing) (p .0))
+
 loop-holds : tie.Need-loop-holds Inv-loop μ-loop
 loop-holds c =
-    let z = c .before .before .before .before .before .before .before in
-    let q = c .start-state .ensures in (
+    let z = c .before .before .before .before .before .before .before .before in
+    let q = c .before .start-state .ensures in (
       around-start (next-permutes (z .pre .1 .lists .state .missing .sound)) (le-refl _) (z .pre .0),
       refl,
       refl,
       subst (StateIn (z .args .n)) (sym q) state-start,
+      c .halfedge-normal .ensures,
       ap (λ (s : CycleState). foldl (normalStep (z .args .h .now) (z .args .pos .now) (z .args .face-normals .now) (z .args .halfedge-normals .now) (z .args .inside .now)) (walkOf (z .args .t .now) (z .args .fixed .now) s) (vertexCycle (z .args .h .now) (z .args .n) (z .args .e))) q,
     )
 
-normal-step-requires : tie.Need-normal-step-requires Inv-loop μ-loop
-normal-step-requires c κs = let l = c .before .before .loop in (l .inv .0 .below, step-still (l .inv .1) (l .inv .2) (c .before .before .before .before .before .before .before .before .before .before .pre .1))
-
 next-around-requires : tie.Need-next-around-requires Inv-loop μ-loop
-next-around-requires c κs = let l = c .before .before .before .before .before .before .before .loop in next-fits (c .before .before .before .before .before .before .before .before .before .before .before .before .before .before .before .pre .1 .lists .state .missing .sound) (l .current) (l .inv .0 .below)
+next-around-requires c κs = next-fits (c .before .before .before .before .before .before .before .before .before .pre .1 .lists .state .missing .sound) (c .loop .current) (c .loop .inv .0 .below)
+
+halfedge-normal-requires-2 : tie.Need-halfedge-normal-requires-2 Inv-loop μ-loop
+halfedge-normal-requires-2 c κs =
+    let w = c .before .before .before .before .before .before .before .before .before .before .pre .1 .lists .state in
+    let l = c .before .loop .inv .0 .below in
+    (next-face-in w l (c .next-around .ensures), next-in (w .missing) l (c .next-around .ensures))
+
+normal-step-requires : tie.Need-normal-step-requires Inv-loop μ-loop
+normal-step-requires c κs =
+    let l = c .before .before .before .before .loop in
+    let w = c .before .before .before .before .before .before .before .before .before .before .before .before .before .pre .1 in
+    (l .inv .0 .below, shape-in (w .lists) (l .inv .1) (l .inv .2 ∙ w .fixed), w .lists .state .face-normals, w .inside)
 
 loop-less : tie.Need-loop-less Inv-loop μ-loop
-loop-less c = around-less (next-permutes (c .before .before .before .before .before .before .before .before .before .before .before .before .before .before .before .before .before .pre .1 .lists .state .missing .sound)) (c .before .before .before .before .before .before .before .before .before .loop .inv .0) (c .before .next-around .ensures) (c .if1 .left)
+loop-less c = around-less (next-permutes (c .before .before .before .before .before .before .before .before .before .before .before .before .before .before .before .before .before .before .before .pre .1 .lists .state .missing .sound)) (c .before .before .before .before .before .before .before .before .before .before .loop .inv .0) (c .before .before .before .before .before .before .before .before .before .next-around .ensures) (c .if1 .left)
 
 loop-again : tie.Need-loop-again Inv-loop μ-loop
 loop-again c =
-    let m = c .before .before .before .before .before .before .normal-step in
-    let l = c .before .before .before .before .before .before .before .before .before .loop in
-    let a = c .before .before .before .before .before .before .before .before .before .before .before .before .before .before .before .before .before .args in
-    let Q = next-permutes (c .before .before .before .before .before .before .before .before .before .before .before .before .before .before .before .before .before .pre .1 .lists .state .missing .sound) in (
-      around-step Q (l .inv .0) (c .before .next-around .ensures) (c .if1 .left),
-      m .kept .1 .1 .1 .1 .1 .1 .0 ∙ l .inv .1,
-      m .kept .1 .1 .1 .1 .1 .1 .1 .0 ∙ l .inv .2,
-      state-after (l .inv .0 .below) (a .h .now) (a .pos .now) (a .face-normals .now) (a .halfedge-normals .now) (a .inside .now) (walkOf (l .t) (l .fixed) (l .state)) (m .ensures) (l .inv .3),
-      around-fold-step Q (l .inv .0) (c .before .next-around .ensures) (normalStep (a .h .now) (a .pos .now) (a .face-normals .now) (a .halfedge-normals .now) (a .inside .now)) (walkOf (l .t) (l .fixed) (l .state)) (l .inv .4) (m .ensures) (c .if1 .left),
+    let m = c .before .before .before .before .before .normal-step in
+    let g = c .before .before .before .before .before .before .before .before .halfedge-normal2 .ensures in
+    let x = c .before .before .before .before .before .before .before .before .before .next-around .ensures in
+    let l = c .before .before .before .before .before .before .before .before .before .before .loop in
+    let a = c .before .before .before .before .before .before .before .before .before .before .before .before .before .before .before .before .before .before .before .args in
+    let Q = next-permutes (c .before .before .before .before .before .before .before .before .before .before .before .before .before .before .before .before .before .before .before .pre .1 .lists .state .missing .sound) in
+    let done = m .ensures (a .halfedge-normals .now) (l .inv .4) (g ∙ ap (halfedgeNormal (a .face-normals .now) (a .halfedge-normals .now)) x) in (
+      around-step Q (l .inv .0) x (c .if1 .left),
+      m .kept .1 .1 .1 .1 .1 .0 ∙ l .inv .1,
+      m .kept .1 .1 .1 .1 .1 .1 .0 ∙ l .inv .2,
+      state-after (l .inv .0 .below) (a .h .now) (a .pos .now) (a .face-normals .now) (a .halfedge-normals .now) (a .inside .now) (walkOf (l .t) (l .fixed) (l .state)) done (l .inv .3),
+      g,
+      around-fold-step Q (l .inv .0) x (normalStep (a .h .now) (a .pos .now) (a .face-normals .now) (a .halfedge-normals .now) (a .inside .now)) (walkOf (l .t) (l .fixed) (l .state)) (l .inv .5) done (c .if1 .left),
     )
 
 same-length : tie.Need-same-length Inv-loop μ-loop
-same-length c = c .before .before .before .before .before .before .normal-step .kept .1 .1 .1 .1 .1 .1 .0 ∙ c .before .before .before .before .before .before .before .before .before .loop .inv .1
+same-length c = c .before .before .before .before .before .normal-step .kept .1 .1 .1 .1 .1 .0 ∙ c .before .before .before .before .before .before .before .before .before .before .loop .inv .1
 
 same-length-2 : tie.Need-same-length-2 Inv-loop μ-loop
-same-length-2 c = c .before .before .before .before .before .before .normal-step .kept .1 .1 .1 .1 .1 .1 .1 .0 ∙ c .before .before .before .before .before .before .before .before .before .loop .inv .2
+same-length-2 c = c .before .before .before .before .before .normal-step .kept .1 .1 .1 .1 .1 .1 .0 ∙ c .before .before .before .before .before .before .before .before .before .before .loop .inv .2
 
 returns : tie.Need-returns Inv-loop μ-loop
 unfolding normalWalk
 returns c =
-    let m = c .before .before .before .before .before .before .normal-step in
-    let l = c .before .before .before .before .before .before .before .before .before .loop in
-    let a = c .before .before .before .before .before .before .before .before .before .before .before .before .before .before .before .before .before .args in
-    let Q = next-permutes (c .before .before .before .before .before .before .before .before .before .before .before .before .before .before .before .before .before .pre .1 .lists .state .missing .sound) in (
-      around-fold-stop Q (l .inv .0) (c .before .next-around .ensures) (normalStep (a .h .now) (a .pos .now) (a .face-normals .now) (a .halfedge-normals .now) (a .inside .now)) (walkOf (l .t) (l .fixed) (l .state)) (l .inv .4) (m .ensures) (c .if1 .taken),
-      state-after (l .inv .0 .below) (a .h .now) (a .pos .now) (a .face-normals .now) (a .halfedge-normals .now) (a .inside .now) (walkOf (l .t) (l .fixed) (l .state)) (m .ensures) (l .inv .3),
+    let x = c .before .before .before .before .before .before .before .before .before .next-around .ensures in
+    let l = c .before .before .before .before .before .before .before .before .before .before .loop in
+    let a = c .before .before .before .before .before .before .before .before .before .before .before .before .before .before .before .before .before .before .before .args in
+    let Q = next-permutes (c .before .before .before .before .before .before .before .before .before .before .before .before .before .before .before .before .before .before .before .pre .1 .lists .state .missing .sound) in
+    let done = c .before .before .before .before .before .normal-step .ensures (a .halfedge-normals .now) (l .inv .4) (c .before .before .before .before .before .before .before .before .halfedge-normal2 .ensures ∙ ap (halfedgeNormal (a .face-normals .now) (a .halfedge-normals .now)) x) in (
+      around-fold-stop Q (l .inv .0) x (normalStep (a .h .now) (a .pos .now) (a .face-normals .now) (a .halfedge-normals .now) (a .inside .now)) (walkOf (l .t) (l .fixed) (l .state)) (l .inv .5) done (c .if1 .taken),
+      state-after (l .inv .0 .below) (a .h .now) (a .pos .now) (a .face-normals .now) (a .halfedge-normals .now) (a .inside .now) (walkOf (l .t) (l .fixed) (l .state)) done (l .inv .3),
     )
 
 pub normal-walk-spec : {M : Type 1} → statement M
@@ -84,9 +105,11 @@ normal-walk-spec =
     Inv-loop
     μ-loop
     start-state-requires
+    halfedge-normal-requires
     loop-holds
-    normal-step-requires
     next-around-requires
+    halfedge-normal-requires-2
+    normal-step-requires
     loop-less
     loop-again
     same-length
