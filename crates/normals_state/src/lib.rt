@@ -1,11 +1,12 @@
 // What `create_tangents_from_normals` reads of the normals, and what it carries on its way round a vertex cycle.
 ghost use mathlib.Core.Path.{_≡_};
-ghost use mathlib.Core.Bool.{xor};
+ghost use mathlib.Core.Bool.{true, xor};
 ghost use mathlib.Core.List.{List};
 ghost use Prim.Native.Nat.{_+_, _*_, _/_, _≤_};
 ghost use lib.ListN.{length};
 ghost use lib.IntN.{ℤ};
 ghost use lib.Ieee.{Float};
+ghost use Rattle.smoothing.specs.Directions.{safeNormalize};
 ghost use Rattle.cycles.specs.Cycles.{nextAround};
 ghost use Rattle.normals_state.specs.State.{getNormal, isZero, normalOr, halfedgeNormal, addFaceEdge, nextFaceEdges, setStart, missingStart, nextStart, someMissing, nextLast, startState, nextState, spoilFaceEdges};
 use linalg::Vec3;
@@ -70,13 +71,46 @@ pub fn normal_or(v: Vec3, other: Vec3) -> Vec3
     v
 }
 
-// The normal of halfedge e with what the loop asks of it.
-pub fn halfedge_normal(face_normals: &[f64], halfedge_normals: &[f64], e: usize) -> HalfedgeNormal
-    requires { ⌜ (e / 3 * 3 + 3 ≤ length (now «face_normals»)) × (e * 3 + 3 ≤ length (now «halfedge_normals»)) ⌝ }
+// Are the two the same bit for bit? Zeros of different sign are not.
+fn same_number(a: f64, b: f64) -> bool
+    ensures { λ r. ⌜ (r ≡ true → a ≡ b) ⌝ }
+{
+    float::bits(a) == float::bits(b)
+}
+
+fn same_normal(a: Vec3, b: Vec3) -> bool
+    ensures { λ r. ⌜ (r ≡ true → a ≡ b) ⌝ }
+{
+    let same_x = same_number(a.x, b.x);
+    let same_y = same_number(a.y, b.y);
+    let same_z = same_number(a.z, b.z);
+    mesh::both(mesh::both(same_x, same_y), same_z)
+}
+
+// The unit vector of a normal, where that of the normal before it is known: mostly the two normals are the same.
+fn unit_after(normal: Vec3, before: Vec3, unit: Vec3) -> Vec3
+    requires { ⌜ unit ≡ safeNormalize before ⌝ }
+    ensures { λ r. ⌜ r ≡ safeNormalize normal ⌝ }
+{
+    if same_normal(normal, before) {
+        return unit;
+    }
+    smoothing::safe_normalize(normal)
+}
+
+// The normal of halfedge e with what the loop asks of it, where the unit vector of the normal before it is known.
+pub fn normal_after(
+    face_normals: &[f64],
+    halfedge_normals: &[f64],
+    before: Vec3,
+    unit: Vec3,
+    e: usize,
+) -> HalfedgeNormal
+    requires { ⌜ (e / 3 * 3 + 3 ≤ length (now «face_normals»)) × (e * 3 + 3 ≤ length (now «halfedge_normals»)) × (unit ≡ safeNormalize before) ⌝ }
     ensures { λ r. ⌜ r ≡ halfedgeNormal (now («face_normals» .entry)) (now («halfedge_normals» .entry)) e ⌝ }
 {
     let normal = get_normal(halfedge_normals, e);
-    let unit = smoothing::safe_normalize(normal);
+    let unit = unit_after(normal, before, unit);
     let face_unit = smoothing::safe_normalize(smoothing::point_at(face_normals, e / 3));
     HalfedgeNormal {
         normal,
@@ -84,6 +118,16 @@ pub fn halfedge_normal(face_normals: &[f64], halfedge_normals: &[f64], e: usize)
         zero: is_zero(normal),
         flat: smoothing::equal_units(unit, face_unit),
     }
+}
+
+// The same where no normal is before it.
+pub fn halfedge_normal(face_normals: &[f64], halfedge_normals: &[f64], e: usize) -> HalfedgeNormal
+    requires { ⌜ (e / 3 * 3 + 3 ≤ length (now «face_normals»)) × (e * 3 + 3 ≤ length (now «halfedge_normals»)) ⌝ }
+    ensures { λ r. ⌜ r ≡ halfedgeNormal (now («face_normals» .entry)) (now («halfedge_normals» .entry)) e ⌝ }
+{
+    let normal = get_normal(halfedge_normals, e);
+    let unit = smoothing::safe_normalize(normal);
+    normal_after(face_normals, halfedge_normals, normal, unit, e)
 }
 
 // ---- what the loop carries

@@ -33,7 +33,13 @@ fn normal_walk(
     let mut current = e;
     loop {
         let following = cycles::next_around(h, current);
-        let next = normals_state::halfedge_normal(face_normals, halfedge_normals, following);
+        let next = normals_state::normal_after(
+            face_normals,
+            halfedge_normals,
+            here.normal,
+            here.unit,
+            following,
+        );
         state = normals_steps::normal_step(
             n,
             h,

@@ -1,8 +1,4 @@
--- `normals_state::halfedge_normal` meets its contract: the code is the definition, with the normal's unit vector worked out once. Assumes nothing.
-use Rattle.smoothing.specs.Lists.{pointAt}
-use Rattle.smoothing.proofs.Directions.{equal-by-units}
-use Prim.Native.Nat.{_/_}
-use Rattle.normals_state.specs.State.{getNormal, hasFaceNormal, halfedgeNormal}
+-- `normals_state::halfedge_normal` meets its contract: the code is `normal_after`. Assumes nothing.
 use borrow.Author.Needs.{needs}
 use Rattle.normals_state.proofs.halfedge_normal.Statement.{statement}
 use Rattle.normals_state.proofs.halfedge_normal.Tie as tie
@@ -13,24 +9,11 @@ get-normal-requires c κs = search needs
 safe-normalize-requires : tie.Need-safe-normalize-requires
 safe-normalize-requires c κs = tt
 
-point-at-requires : tie.Need-point-at-requires
-point-at-requires c κs = search needs
-
-safe-normalize-requires-2 : tie.Need-safe-normalize-requires-2
-safe-normalize-requires-2 c κs = tt
-
-is-zero-requires : tie.Need-is-zero-requires
-is-zero-requires c κs = tt
-
-equal-units-requires : tie.Need-equal-units-requires
-equal-units-requires c κs = tt
+normal-after-requires : tie.Need-normal-after-requires
+normal-after-requires c κs = let p = c .before .before .before .before .pre in (p .0, p .1, c .safe-normalize .ensures)
 
 returns : tie.Need-returns
-unfolding halfedgeNormal hasFaceNormal
-returns c =
-    let a = c .before .before .before .before .before .before .before .before .args in
-    let q = equal-by-units (getNormal (a .halfedge-normals .now) (a .e)) (pointAt (a .face-normals .now) (a .e / 3)) in
-    cc
+returns c = c .normal-after .ensures
 
 pub halfedge-normal-spec : {M : Type 1} → statement M
 halfedge-normal-spec =
@@ -38,8 +21,5 @@ halfedge-normal-spec =
     (tie.spec
     get-normal-requires
     safe-normalize-requires
-    point-at-requires
-    safe-normalize-requires-2
-    is-zero-requires
-    equal-units-requires
+    normal-after-requires
     returns)

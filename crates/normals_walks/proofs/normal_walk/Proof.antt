@@ -11,12 +11,20 @@ use Rattle.cycles.proofs.Loops.{Walking, around-start, around-step, around-less
 use Rattle.cycles.proofs.Paths.{isAt, stepsLeft}
 use Rattle.cycles.specs.Cycles.{nextAround, vertexCycle}
 use Rattle.cycles.specs.Walk.{cycleFrom}
+use Rattle.smoothing.specs.Directions.{safeNormalize}
+use Rattle.normals_state.specs.declared.HalfedgeNormal.{HalfedgeNormal}
+use Prim.Native.Nat.{ℕ}
 use lib.ListN.{length}
+use lib.Ieee.{Float}
 use native.Mathlib.Nat.{le-refl}
-use mathlib.Core.List.{foldl}
+use mathlib.Core.List.{List, foldl}
 use mathlib.Core.Path.{_≡_, refl, sym, ap, subst, _∙_}
 use Rattle.normals_walks.proofs.normal_walk.Statement.{statement}
 use Rattle.normals_walks.proofs.normal_walk.Tie as tie
+
+unit-is : (A G : List Float) (e : ℕ) {k : HalfedgeNormal} → k ≡ halfedgeNormal A G e → k .unit ≡ safeNormalize (k .normal)
+unfolding halfedgeNormal
+unit-is A G e q = rw q refl
 
 abbrev Inv-loop : tie.InvT-loop
 Inv-loop n h pos face-normals halfedge-normals inside t₀ fixed₀ e state₀ here₀ current₀ t fixed state here current =
@@ -48,11 +56,13 @@ loop-holds c =
 next-around-requires : tie.Need-next-around-requires Inv-loop μ-loop
 next-around-requires c κs = next-fits (c .before .before .before .before .before .before .before .before .before .pre .1 .lists .state .missing .sound) (c .loop .current) (c .loop .inv .0 .below)
 
-halfedge-normal-requires-2 : tie.Need-halfedge-normal-requires-2 Inv-loop μ-loop
-halfedge-normal-requires-2 c κs =
-    let w = c .before .before .before .before .before .before .before .before .before .before .pre .1 .lists .state in
+normal-after-requires : tie.Need-normal-after-requires Inv-loop μ-loop
+normal-after-requires c κs =
+    let z = c .before .before .before .before .before .before .before .before .before .before in
+    let a = z .args in
+    let w = z .pre .1 .lists .state in
     let l = c .before .loop .inv .0 .below in
-    (next-face-in w l (c .next-around .ensures), next-in (w .missing) l (c .next-around .ensures))
+    (next-face-in w l (c .next-around .ensures), next-in (w .missing) l (c .next-around .ensures), unit-is (a .face-normals .now) (a .halfedge-normals .now) (c .before .loop .current) (c .before .loop .inv .4))
 
 normal-step-requires : tie.Need-normal-step-requires Inv-loop μ-loop
 normal-step-requires c κs =
@@ -66,7 +76,7 @@ loop-less c = around-less (next-permutes (c .before .before .before .before .bef
 loop-again : tie.Need-loop-again Inv-loop μ-loop
 loop-again c =
     let m = c .before .before .before .before .before .normal-step in
-    let g = c .before .before .before .before .before .before .before .before .halfedge-normal2 .ensures in
+    let g = c .before .before .before .before .before .before .before .before .normal-after .ensures in
     let x = c .before .before .before .before .before .before .before .before .before .next-around .ensures in
     let l = c .before .before .before .before .before .before .before .before .before .before .loop in
     let a = c .before .before .before .before .before .before .before .before .before .before .before .before .before .before .before .before .before .before .before .args in
@@ -93,7 +103,7 @@ returns c =
     let l = c .before .before .before .before .before .before .before .before .before .before .loop in
     let a = c .before .before .before .before .before .before .before .before .before .before .before .before .before .before .before .before .before .before .before .args in
     let Q = next-permutes (c .before .before .before .before .before .before .before .before .before .before .before .before .before .before .before .before .before .before .before .pre .1 .lists .state .missing .sound) in
-    let done = c .before .before .before .before .before .normal-step .ensures (a .halfedge-normals .now) (l .inv .4) (c .before .before .before .before .before .before .before .before .halfedge-normal2 .ensures ∙ ap (halfedgeNormal (a .face-normals .now) (a .halfedge-normals .now)) x) in (
+    let done = c .before .before .before .before .before .normal-step .ensures (a .halfedge-normals .now) (l .inv .4) (c .before .before .before .before .before .before .before .before .normal-after .ensures ∙ ap (halfedgeNormal (a .face-normals .now) (a .halfedge-normals .now)) x) in (
       around-fold-stop Q (l .inv .0) x (normalStep (a .h .now) (a .pos .now) (a .face-normals .now) (a .halfedge-normals .now) (a .inside .now)) (walkOf (l .t) (l .fixed) (l .state)) (l .inv .5) done (c .if1 .taken),
       state-after (l .inv .0 .below) (a .h .now) (a .pos .now) (a .face-normals .now) (a .halfedge-normals .now) (a .inside .now) (walkOf (l .t) (l .fixed) (l .state)) done (l .inv .3),
     )
@@ -108,7 +118,7 @@ normal-walk-spec =
     halfedge-normal-requires
     loop-holds
     next-around-requires
-    halfedge-normal-requires-2
+    normal-after-requires
     normal-step-requires
     loop-less
     loop-again
