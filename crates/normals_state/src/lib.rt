@@ -87,7 +87,7 @@ fn same_normal(a: Vec3, b: Vec3) -> bool
     mesh::both(mesh::both(same_x, same_y), same_z)
 }
 
-// The unit vector of a normal, where that of the normal before it is known: mostly the two normals are the same.
+// The unit vector of a normal, where that of the normal before it is known: on a smooth surface the two are mostly the same.
 fn unit_after(normal: Vec3, before: Vec3, unit: Vec3) -> Vec3
     requires { ⌜ unit ≡ safeNormalize before ⌝ }
     ensures { λ r. ⌜ r ≡ safeNormalize normal ⌝ }

@@ -97,8 +97,8 @@ fn tangent_step(
     normals_state::spoil_face_edges(state)
 }
 
-// The body of the loop, at halfedge e, by its normal and the next one round its point: what is carried after it. The tangent is
-// written once: a flag that is clear would be read nowhere.
+// The body of the loop, at halfedge e, by its normal and the next one round its point: what is carried after it. Without a flag
+// the Rust writes weight 1 first, and then the tangent over it; here it is written once.
 pub fn normal_step(
     n: usize,
     h: &[i32],
