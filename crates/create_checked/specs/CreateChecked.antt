@@ -11,10 +11,15 @@ use Rattle.mesh.specs.declared.Checked.{Checked}
 use Rattle.mesh.specs.declared.Checked.the-variants.{Accepted, Refused}
 use Rattle.create_core.specs.Core.{Lists}
 use Rattle.entries.specs.declared.Passed.{Passed}
+use Rattle.create_checked.specs.declared.Lengths.{Lengths}
 
 -- question 2 of the two scratch lists that the flat lists are made in: as long as the entries
 abbrev pub entriesFit : ℕ → ℕ → ℕ → Bool
 entriesFit entries values sharp = hasLength entries sharp 1 && hasLength values sharp 1
+
+-- the lengths that the questions ask about
+abbrev pub lengthsOf : ℕ → ℕ → Bool → Lengths
+lengthsOf sharp t scratch = record { sharp = sharp; t = t; scratch = scratch }
 
 -- questions 1 to 10, where so many of the entries passed the questions 9 and 10; `lengths` is the answer to question 2
 unfoldable pub checkPassed : List ℤ → List ℤ → Passed → ℕ → ℕ → ℕ → Bool → Checked

@@ -6,7 +6,7 @@ ghost use lib.ListN.{length, replicate};
 ghost use Rattle.float.specs.Ops.{zero};
 ghost use Rattle.mesh.specs.Check.{refusedBelow, _then_, whenAccepted};
 ghost use Rattle.create.specs.Create.{listsFit, scratchFits, tangentsAfter};
-ghost use Rattle.create_checked.specs.CreateChecked.{entriesFit, checkPassed, countOf, ListsWhen};
+ghost use Rattle.create_checked.specs.CreateChecked.{entriesFit, lengthsOf, checkPassed, countOf, ListsWhen};
 use entries::Passed;
 use mesh::Checked;
 
@@ -23,17 +23,19 @@ fn refused_below(sofar: Checked, number: usize, k: usize, places: usize) -> Chec
     Checked::Accepted
 }
 
-// The questions 1 to 10, of which 9 and 10 were put to the `sharp` entries before; of the lists that are written, the lengths.
-pub fn check_lists(
+// Of the lists that are written what the questions ask: the number of entries, the length of the tangents, and whether the
+// scratch lists fit.
+pub struct Lengths {
+    pub sharp: usize,
+    pub t: usize,
+    pub scratch: bool,
+}
+
+// Question 2 of scratch, from the lengths of all lists that are written.
+pub fn lengths_of(
     n: usize,
     p: usize,
-    h: &[i32],
-    pos: &[f64],
-    normals: &[f64],
-    face_normals: &[f64],
-    refs: &[i32],
     sharp: usize,
-    passed: Passed,
     t: usize,
     fixed: usize,
     flat: usize,
@@ -43,9 +45,36 @@ pub fn check_lists(
     link: usize,
     entries: usize,
     values: usize,
-) -> Checked
-    ensures { λ r. ⌜ r ≡ checkPassed (now (h .entry)) (now (refs .entry)) passed sharp n p (listsFit (length (now (h .entry))) (length (now (pos .entry))) (length (now (normals .entry))) (length (now («face_normals» .entry))) (length (now (refs .entry))) sharp sharp t n p && scratchFits fixed flat smooth desired at link n p && entriesFit entries values sharp) ⌝ }
+) -> Lengths
+    ensures { λ r. ⌜ r ≡ lengthsOf sharp t (scratchFits fixed flat smooth desired at link n p && entriesFit entries values sharp) ⌝ }
 {
+    let scratch = create::scratch_fits(n, p, fixed, flat, smooth, desired, at, link);
+    let own = mesh::both(
+        mesh::has_length(entries, sharp, 1),
+        mesh::has_length(values, sharp, 1),
+    );
+    Lengths {
+        sharp,
+        t,
+        scratch: mesh::both(scratch, own),
+    }
+}
+
+// The questions 1 to 10, of which 9 and 10 were put to the entries before, and question 2 to scratch.
+pub fn check_lists(
+    n: usize,
+    p: usize,
+    h: &[i32],
+    pos: &[f64],
+    normals: &[f64],
+    face_normals: &[f64],
+    refs: &[i32],
+    passed: Passed,
+    lengths: Lengths,
+) -> Checked
+    ensures { λ r. ⌜ r ≡ checkPassed (now (h .entry)) (now (refs .entry)) passed (lengths .sharp) n p (listsFit (length (now (h .entry))) (length (now (pos .entry))) (length (now (normals .entry))) (length (now («face_normals» .entry))) (length (now (refs .entry))) (lengths .sharp) (lengths .sharp) (lengths .t) n p && lengths .scratch) ⌝ }
+{
+    let sharp = lengths.sharp;
     let lists = create::lists_fit(
         n,
         p,
@@ -56,15 +85,10 @@ pub fn check_lists(
         refs.len(),
         sharp,
         sharp,
-        t,
+        lengths.t,
     );
-    let scratch = create::scratch_fits(n, p, fixed, flat, smooth, desired, at, link);
-    let own = mesh::both(
-        mesh::has_length(entries, sharp, 1),
-        mesh::has_length(values, sharp, 1),
-    );
-    let lengths = mesh::both(mesh::both(lists, scratch), own);
-    let checked = mesh::check_refs(mesh::check_mesh(h, n, p, lengths), refs, n);
+    let fit = mesh::both(lists, lengths.scratch);
+    let checked = mesh::check_refs(mesh::check_mesh(h, n, p, fit), refs, n);
     refused_below(
         refused_below(checked, 9, passed.entry, sharp),
         10,

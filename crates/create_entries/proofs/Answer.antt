@@ -18,7 +18,8 @@ use Rattle.mesh.proofs.Tests.{and-true}
 use Rattle.create_core.specs.Core.{Lists}
 use Rattle.create.specs.Create.{listsFit, scratchFits, checkCreate, checkLists as checkFlatLists, tangentsAfter}
 use Rattle.create.proofs.Accepted.{lists-of}
-use Rattle.create_checked.specs.CreateChecked.{entriesFit, checkPassed, countOf, ListsWhen}
+use Rattle.create_checked.specs.CreateChecked.{entriesFit, lengthsOf, checkPassed, countOf, ListsWhen}
+use Rattle.create_checked.specs.declared.Lengths.{Lengths}
 use Rattle.entries.specs.Entries.{halfedgesOf, smoothnessOf, copyFirst, passedOf}
 use Rattle.entries.specs.declared.Smoothness.{Smoothness}
 use Rattle.entries.specs.declared.Passed.{Passed}
@@ -29,11 +30,21 @@ and-yes : (b : Bool) → b && true ≡ b
 and-yes true = refl
 and-yes false = refl
 
+and-assoc : (a b c : Bool) → a && (b && c) ≡ a && b && c
+and-assoc true b c = refl
+and-assoc false b c = refl
+
 -- the lists as lent, and the counts
 module _ (H : List ℤ) (P N A : List Float) (R : List ℤ) (E : List Smoothness) (T : List Float) (X F : List ℕ) (S D : List Float) (C L I : List ℕ) (Q : List Float) (n p : ℕ) where
   -- the lengths of the lists of `create`, with the entries' count for each flat list
+  abbrev lists : ℕ → ℕ → ℕ → Bool
+  lists i q t = listsFit (length H) (length P) (length N) (length A) (length R) i q t n p
+
+  abbrev scratch : Bool
+  scratch = scratchFits (length X) (length F) (length S) (length D) (length C) (length L) n p
+
   abbrev lengths : ℕ → ℕ → Bool
-  lengths i q = listsFit (length H) (length P) (length N) (length A) (length R) i q (length T) n p && scratchFits (length X) (length F) (length S) (length D) (length C) (length L) n p
+  lengths i q = lists i q (length T) && scratch
 
   abbrev own : Bool
   own = entriesFit (length I) (length Q) (length E)
@@ -53,12 +64,15 @@ module _ (H : List ℤ) (P N A : List Float) (R : List ℤ) (E : List Smoothness
   smoothness-long : length Ss ≡ length E
   smoothness-long = length-map E (λ e. e .smoothness)
 
-  -- the answer that `check_lists` finds, from what `scan` counted
-  pub is-answer : (passed : Passed) → passed ≡ passedOf E n (length E) → (c : Checked) → c ≡ checkPassed H R passed (length E) n p (lengths (length E) (length E) && own) → c ≡ answer
+  -- the answer that `check_lists` finds, from what `scan` counted and what `lengths_of` found
+  pub is-answer : (passed : Passed) → passed ≡ passedOf E n (length E) → (w : Lengths) → w ≡ lengthsOf (length E) (length T) (scratch && own)
+      → (c : Checked) → c ≡ checkPassed H R passed (w .sharp) n p (lists (w .sharp) (w .sharp) (w .t) && w .scratch) → c ≡ answer
   unfolding checkPassed checkCreate checkEntries
-  is-answer passed e c a =
+  is-answer passed e w l c a =
       let found : ℕ → ℕ → Checked = λ i q. checkPassed H R (passedOf E n i) i n p (lengths i q && own) in
-      a ∙ ap (λ (w : Passed). checkPassed H R w (length E) n p (lengths (length E) (length E) && own)) e
+      a ∙ ap (λ (v : Lengths). checkPassed H R passed (v .sharp) n p (lists (v .sharp) (v .sharp) (v .t) && v .scratch)) l
+      ∙ ap (checkPassed H R passed (length E) n p) (and-assoc (lists (length E) (length E) (length T)) scratch own)
+      ∙ ap (λ (w : Passed). checkPassed H R w (length E) n p (lengths (length E) (length E) && own)) e
       ∙ ap (λ (i : ℕ). found i (length E)) (sym halfedges-long) ∙ ap (λ (q : ℕ). found (length Hs) q) (sym smoothness-long)
 
   -- an accepted call's lists have their lengths

@@ -2,3 +2,4 @@
 mod Answer
 mod Again
 mod Steps
+mod Frame

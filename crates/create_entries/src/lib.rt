@@ -7,6 +7,7 @@ ghost use Rattle.mesh.specs.Check.{whenAccepted};
 ghost use Rattle.create.specs.Create.{tangentsAfter};
 ghost use Rattle.entries.specs.Entries.{halfedgesOf, smoothnessOf};
 ghost use Rattle.create_entries.specs.CreateEntries.{checkLists};
+use create_checked::check_lists;
 use entries::Smoothness;
 use mesh::Checked;
 
@@ -44,16 +45,10 @@ pub fn create_entries(
     ensures values { λ r. ⌜ now (values .exit) ≡ whenAccepted r (replicate (length (now (sharp .entry))) zero) (now (values .entry)) ⌝ }
 {
     let passed = entries::scan(sharp, n);
-    let checked = create_checked::check_lists(
+    let lengths = create_checked::lengths_of(
         n,
         p,
-        h,
-        pos,
-        normals,
-        face_normals,
-        refs,
         sharp.len(),
-        passed,
         t.len(),
         fixed.len(),
         flat.len(),
@@ -64,6 +59,7 @@ pub fn create_entries(
         entries.len(),
         values.len(),
     );
+    let checked = check_lists(n, p, h, pos, normals, face_normals, refs, passed, lengths);
     let count = create_checked::count_of(checked, sharp.len());
     entries::split(count, sharp, entries, values);
     create_checked::create_when(
