@@ -72,7 +72,7 @@ use Rattle.entries.proofs.split.Met as split-thm
 use Rattle.create_entries.specs.CreateEntries.{checkLists}
 use Rattle.create_entries.proofs.Answer.{is-answer, counted, flat-halfedges, flat-smoothness, lists-when, tangents-left, entries-left, values-left}
 use Rattle.create_entries.proofs.Again.{LentAgain, lends-again, comes-back}
-use Rattle.create_entries.proofs.Steps.{ungroup, also, says-and, hears-and, plus-nothing, plus-fact}
+use Rattle.create_entries.proofs.Steps.{ungroup, flat, tree, twice-both, lengths-said, Lengths-are, alone, hears-lengths, numbers, owns-numbers, also, says-and, hears-and, plus-nothing, plus-fact}
 use Rattle.create_entries.proofs.Frame.{Cmd, len, lend, is-slice, some-slice, after, stored, allocs-frame, passes-frame, frees-frame, holds, args, lands-frame, does}
 use Rattle.create_checked.proofs.lengths_of as f-lengths
 use Rattle.create_checked.proofs.lengths_of.Symbol as lengths-def
@@ -239,28 +239,28 @@ module _ {M : Type 1} (𝓤 : URA M) (H : Heap 𝓤) (A : Atoms 𝓤) (W : Given
 
   apart : ent 𝓤 (sep 𝓤 (mean 𝓤 H A Tokens) (mean 𝓤 H A Owned)) (mean 𝓤 H A Apart)
   apart =
-      qed W (Tokens ∷ Owned ∷ []) ∵
-      ungroup ! 15 $ move ! (16 ∷ []) $ ungroup ! 18 $ move ! (2 ∷ 3 ∷ 4 ∷ 5 ∷ 6 ∷ []) $ group ! 5 $ frame ! $ move ! (14 ∷ 15 ∷ 16 ∷ 17 ∷ 18 ∷ 29 ∷ []) $ group ! 6 $ frame ! $ move ! (14 ∷ []) $ frame ! $
-      move ! (2 ∷ []) $ frame ! $ move ! (3 ∷ 4 ∷ 5 ∷ 6 ∷ 7 ∷ 8 ∷ 9 ∷ 13 ∷ 14 ∷ 15 ∷ 16 ∷ 17 ∷ 18 ∷ 19 ∷ []) $ group ! 14 $ frame ! $ move ! (3 ∷ []) $ frame ! $ move ! (3 ∷ []) $ frame ! $
-      move ! (4 ∷ []) $ frame ! $ keep ! (4 ∷ []) $ done !
+      qed W (Tokens ∷ Owned ∷ []) ∵ join ! $ flat ! $
+      keep ! (18 ∷ 19 ∷ 20 ∷ 21 ∷ 22 ∷ 0 ∷ 1 ∷ 2 ∷ 3 ∷ 4 ∷ 15 ∷ 5 ∷ 23 ∷ 25 ∷ 26 ∷ 27 ∷ 28 ∷ 29 ∷ 30 ∷ 31 ∷ 6 ∷ 7 ∷ 8 ∷ 9 ∷ 10 ∷ 11 ∷ 12 ∷ 32 ∷ 33 ∷ 13 ∷ 14 ∷ []) $
+      tree ! Apart $ done !
 
   read-twice : ent 𝓤 (mean 𝓤 H A Read) (mean 𝓤 H A (Read ⊛ Read))
   read-twice =
-      qed W (Read ∷ []) ∵
-      ungroup ! 4 $
-      use1 W (‵ (ShrSlice (named 0) κ0 i32 .own h ((at-slice h) ∷ [])) ⊛ ‵ (ShrSlice (named 0) κ0 i32 .own h ((at-slice h) ∷ []))) (shr-slice-copy 𝓤 H A W (named 0) κ0 i32 .twice h ((at-slice h) ∷ [])) $
-      split₁ ! $ move ! (2 ∷ []) $
-      use1 W (‵ (ShrSlice (named 1) κ1 f64 .own pos ((at-slice pos) ∷ [])) ⊛ ‵ (ShrSlice (named 1) κ1 f64 .own pos ((at-slice pos) ∷ []))) (shr-slice-copy 𝓤 H A W (named 1) κ1 f64 .twice pos ((at-slice pos) ∷ [])) $
-      split₁ ! $ move ! (4 ∷ []) $
-      use1 W (‵ (ShrSlice (named 2) κ2 f64 .own nor ((at-slice nor) ∷ [])) ⊛ ‵ (ShrSlice (named 2) κ2 f64 .own nor ((at-slice nor) ∷ []))) (shr-slice-copy 𝓤 H A W (named 2) κ2 f64 .twice nor ((at-slice nor) ∷ [])) $
-      split₁ ! $ move ! (6 ∷ []) $
-      use1 W (‵ (ShrSlice (named 3) κ3 f64 .own fno ((at-slice fno) ∷ [])) ⊛ ‵ (ShrSlice (named 3) κ3 f64 .own fno ((at-slice fno) ∷ []))) (shr-slice-copy 𝓤 H A W (named 3) κ3 f64 .twice fno ((at-slice fno) ∷ [])) $
-      split₁ ! $ move ! (8 ∷ []) $
-      use1 W (‵ (ShrSlice (named 4) κ4 i32 .own ref ((at-slice ref) ∷ [])) ⊛ ‵ (ShrSlice (named 4) κ4 i32 .own ref ((at-slice ref) ∷ []))) (shr-slice-copy 𝓤 H A W (named 4) κ4 i32 .twice ref ((at-slice ref) ∷ [])) $
-      split₁ ! $ move ! (8 ∷ 6 ∷ 4 ∷ 2 ∷ 0 ∷ []) $ group ! 5 $ frame ! $ move ! (4 ∷ 3 ∷ 2 ∷ 1 ∷ 0 ∷ []) $ done !
+      twice-both 𝓤 (shr-slice-copy 𝓤 H A W (named 0) κ0 i32 .twice h ((at-slice h) ∷ []))
+      (twice-both 𝓤 (shr-slice-copy 𝓤 H A W (named 1) κ1 f64 .twice pos ((at-slice pos) ∷ []))
+      (twice-both 𝓤 (shr-slice-copy 𝓤 H A W (named 2) κ2 f64 .twice nor ((at-slice nor) ∷ []))
+      (twice-both 𝓤 (shr-slice-copy 𝓤 H A W (named 3) κ3 f64 .twice fno ((at-slice fno) ∷ []))
+      (shr-slice-copy 𝓤 H A W (named 4) κ4 i32 .twice ref ((at-slice ref) ∷ [])))))
 
   sharp-twice : ent 𝓤 (mean 𝓤 H A Sharp) (mean 𝓤 H A (Sharp ⊛ Sharp))
   sharp-twice = shr-slice-copy 𝓤 H A W (named 5) κ5 R .twice sh (at-slice sh ∷ [])
+
+  abbrev Plain : Item 𝓤
+  Plain = ‵ (usize .own n (vint w64 n ∷ [])) ⊛ ‵ (usize .own p (vint w64 p ∷ [])) ⊛ ‵ (bool .own old (vbool old ∷ [])) ⊛ ‵ ftrue
+
+  has-plain : ent 𝓤 (emp 𝓤) (mean 𝓤 H A Plain)
+  has-plain =
+      qed W [] ∵ nothing ! $ owned ! bool (Is bool) (bool-makes 𝓤 H A W) old (vbool old ∷ []) old-is $ owned ! usize (Is usize) (uint-makes 𝓤 H A W w64) p (vint w64 p ∷ []) (refl, p-fits) $
+      owned ! usize (Is usize) (uint-makes 𝓤 H A W w64) n (vint w64 n ∷ []) (refl, n-fits) $ done !
 
   -- ---- the call of `scan`: what it is passed, what it asks and what it says
   abbrev scan-args : RefT (List Smoothness) × (ℕ × Unit {0})
@@ -283,6 +283,9 @@ module _ {M : Type 1} (𝓤 : URA M) (H : Heap 𝓤) (A : Atoms 𝓤) (W : Given
   said-scan r = exE 𝓤 _ (λ ws. snd∗ 𝓤 (sem 𝓤 H A (lasts f-scan.ended (κ5, tt) scan-args ws)) (fact 𝓤 (SaidScan r)))
 
   -- ---- the call of `lengths_of`
+  abbrev counts : List ℕ
+  counts = n ∷ p ∷ length (sh .now) ∷ length (t .now) ∷ length (fix .now) ∷ length (fla .now) ∷ length (smo .now) ∷ length (des .now) ∷ length (ats .now) ∷ length (lin .now) ∷ length es ∷ length vs ∷ []
+
   abbrev lengths-args : Args f-lengths.signature tt
   lengths-args = (n, (p, ((length (sh .now)), ((length (t .now)), ((length (fix .now)), ((length (fla .now)), ((length (smo .now)), ((length (des .now)), ((length (ats .now)), ((length (lin .now)), ((length es), ((length vs), tt))))))))))))
 
@@ -291,19 +294,9 @@ module _ {M : Type 1} (𝓤 : URA M) (H : Heap 𝓤) (A : Atoms 𝓤) (W : Given
 
   goes-lengths : ent 𝓤 (emp 𝓤) (Lens 𝓤 H A at-mem run .pre to-lengths)
   goes-lengths =
-      qed W [] ∵ nothing ! $ nothing ! $
-      owned ! usize (Is usize) (uint-makes 𝓤 H A W w64) (length vs) (vint w64 (length vs) ∷ []) (refl, room-v .0) $
-      owned ! usize (Is usize) (uint-makes 𝓤 H A W w64) (length es) (vint w64 (length es) ∷ []) (refl, room-e .0) $
-      owned ! usize (Is usize) (uint-makes 𝓤 H A W w64) (length (lin .now)) (vint w64 (length (lin .now)) ∷ []) (refl, room-lin .0) $
-      owned ! usize (Is usize) (uint-makes 𝓤 H A W w64) (length (ats .now)) (vint w64 (length (ats .now)) ∷ []) (refl, room-ats .0) $
-      owned ! usize (Is usize) (uint-makes 𝓤 H A W w64) (length (des .now)) (vint w64 (length (des .now)) ∷ []) (refl, room-des .0) $
-      owned ! usize (Is usize) (uint-makes 𝓤 H A W w64) (length (smo .now)) (vint w64 (length (smo .now)) ∷ []) (refl, room-smo .0) $
-      owned ! usize (Is usize) (uint-makes 𝓤 H A W w64) (length (fla .now)) (vint w64 (length (fla .now)) ∷ []) (refl, room-fla .0) $
-      owned ! usize (Is usize) (uint-makes 𝓤 H A W w64) (length (fix .now)) (vint w64 (length (fix .now)) ∷ []) (refl, room-fix .0) $
-      owned ! usize (Is usize) (uint-makes 𝓤 H A W w64) (length (t .now)) (vint w64 (length (t .now)) ∷ []) (refl, room-t .0) $
-      owned ! usize (Is usize) (uint-makes 𝓤 H A W w64) (length (sh .now)) (vint w64 (length (sh .now)) ∷ []) (refl, room-sh .0) $
-      owned ! usize (Is usize) (uint-makes 𝓤 H A W w64) p (vint w64 p ∷ []) (refl, p-fits) $ owned ! usize (Is usize) (uint-makes 𝓤 H A W w64) n (vint w64 n ∷ []) (refl, n-fits) $
-      group ! 13 $ move ! (1 ∷ 0 ∷ []) $ join ! $ use1 W (raw (Lens 𝓤 H A at-mem run .pre to-lengths)) (plus-nothing 𝓤 _) $ done !
+      qed W [] ∵
+      use0 W (numbers 𝓤 counts) (owns-numbers 𝓤 H A W counts (n-fits, (p-fits, (room-sh .0, (room-t .0, (room-fix .0, (room-fla .0, (room-smo .0, (room-des .0, (room-ats .0, (room-lin .0, (room-e .0, (room-v .0, tt))))))))))))) $
+      nothing ! $ join ! $ use1 W (raw (Lens 𝓤 H A at-mem run .pre to-lengths)) (plus-nothing 𝓤 _) $ done !
 
   abbrev SaidLengths : Lengths → Type 0
   SaidLengths w = w ≡ lengthsOf (length (sh .now)) (length (t .now)) (scratchFits (length (fix .now)) (length (fla .now)) (length (smo .now)) (length (des .now)) (length (ats .now)) (length (lin .now)) n p && entriesFit (length es) (length vs) (length (sh .now)))
@@ -396,11 +389,10 @@ module _ {M : Type 1} (𝓤 : URA M) (H : Heap 𝓤) (A : Atoms 𝓤) (W : Given
       → ent 𝓤 (⋆ 𝓤 H A (ReadTokens ∷ Read ∷ Written ∷ ‵ (MutSlice (named 13) κ13 usize .own (xe γe ys) (ve ∷ [])) ∷ ‵ (MutSlice (named 14) κ14 f64 .own (xv γv zs) (vv ∷ [])) ∷ ‵ (flft κ13 q13) ∷ ‵ (flft κ14 q14) ∷ [])) (mean 𝓤 H A (raw (Create 𝓤 H A at-mem run .pre (to-create c u ys zs)) ⊛ Read))
   goes-create c u ys zs is le lv lists =
       qed W (ReadTokens ∷ Read ∷ Written ∷ ‵ (MutSlice (named 13) κ13 usize .own (xe γe ys) (ve ∷ [])) ∷ ‵ (MutSlice (named 14) κ14 f64 .own (xv γv zs) (vv ∷ [])) ∷ ‵ (flft κ13 q13) ∷ ‵ (flft κ14 q14) ∷ []) ∵
-      move ! (1 ∷ []) $ use1 W (Read ⊛ Read) read-twice $ split₁ ! $ ungroup ! 4 $ move ! (6 ∷ []) $ ungroup ! 5 $ move ! (12 ∷ []) $ ungroup ! 13 $ nothing ! $
-      owned ! bool (Is bool) (bool-makes 𝓤 H A W) old (vbool old ∷ []) old-is $ owned ! usize (Is usize) (uint-makes 𝓤 H A W w64) p (vint w64 p ∷ []) (refl, p-fits) $
-      owned ! usize (Is usize) (uint-makes 𝓤 H A W w64) n (vint w64 n ∷ []) (refl, n-fits) $ owned ! Ck (Is Ck) (EL.makes Ch.the-type Ch′.the-plain 𝓤 H A) c (u ∷ []) is $
-      move ! (19 ∷ 20 ∷ 21 ∷ 22 ∷ 23 ∷ 12 ∷ 13 ∷ 14 ∷ 15 ∷ 16 ∷ 17 ∷ 18 ∷ 33 ∷ 34 ∷ 24 ∷ []) $ group ! 15 $
-      move ! (1 ∷ 2 ∷ 3 ∷ 13 ∷ 14 ∷ 15 ∷ 16 ∷ 17 ∷ 4 ∷ 6 ∷ 7 ∷ 8 ∷ 9 ∷ 10 ∷ 11 ∷ 12 ∷ 19 ∷ 20 ∷ 5 ∷ []) $ group ! 19 $ move ! (1 ∷ 0 ∷ []) $ join ! $
+      move ! (1 ∷ []) $ use1 W (Read ⊛ Read) read-twice $ split₁ ! $ use0 W Plain has-plain $ owned ! Ck (Is Ck) (EL.makes Ch.the-type Ch′.the-plain 𝓤 H A) c (u ∷ []) is $
+      move ! (0 ∷ 1 ∷ 2 ∷ 4 ∷ 5 ∷ 6 ∷ 7 ∷ 8 ∷ 9 ∷ []) $ group ! 9 $ flat ! $
+      move ! (10 ∷ 11 ∷ 12 ∷ 13 ∷ 14 ∷ 23 ∷ 24 ∷ 25 ∷ 26 ∷ 27 ∷ 28 ∷ 29 ∷ 32 ∷ 33 ∷ 15 ∷ 0 ∷ 1 ∷ 2 ∷ 5 ∷ 6 ∷ 7 ∷ 8 ∷ 9 ∷ 3 ∷ 16 ∷ 17 ∷ 18 ∷ 19 ∷ 20 ∷ 21 ∷ 22 ∷ 30 ∷ 31 ∷ 4 ∷ []) $ group ! 15 $
+      move ! (1 ∷ 2 ∷ 3 ∷ 4 ∷ 5 ∷ 6 ∷ 7 ∷ 8 ∷ 9 ∷ 10 ∷ 11 ∷ 12 ∷ 13 ∷ 14 ∷ 15 ∷ 16 ∷ 17 ∷ 18 ∷ 19 ∷ []) $ group ! 19 $ move ! (1 ∷ 0 ∷ []) $ join ! $
       use1 W (raw (Create 𝓤 H A at-mem run .pre (to-create c u ys zs))) (plus-fact 𝓤 _ lists) $ done !
 
   abbrev CreateLasts : Checked → List ℕ → List Float → Type 0
@@ -409,9 +401,13 @@ module _ {M : Type 1} (𝓤 : URA M) (H : Heap 𝓤) (A : Atoms 𝓤) (W : Given
   abbrev SaidCreate : (c : Checked) (ys : List ℕ) (zs : List Float) → Checked → CreateLasts c ys zs → Type 0
   SaidCreate c ys zs r ws = (r ≡ c) × ((ws .1 .1 .1 .1 .1 .1 .1 .1 .1 .0 ≡ tangentsAfter c (h .now) (pos .now) (nor .now) (fno .now) (ref .now) ys zs (t .now) old n p) × ((ws .1 .1 .1 .1 .1 .1 .1 .1 .1 .1 .0 ≡ whenAccepted c (replicate n 0) (fix .now)) × ((ws .1 .1 .1 .1 .1 .1 .1 .1 .1 .1 .1 .0 ≡ whenAccepted c (replicate n 0) (fla .now)) × ((ws .1 .1 .1 .1 .1 .1 .1 .1 .1 .1 .1 .1 .0 ≡ whenAccepted c (replicate n zero) (smo .now)) × ((ws .1 .1 .1 .1 .1 .1 .1 .1 .1 .1 .1 .1 .1 .0 ≡ whenAccepted c (replicate n zero) (des .now)) × ((ws .1 .1 .1 .1 .1 .1 .1 .1 .1 .1 .1 .1 .1 .1 .0 ≡ whenAccepted c (replicate p 0) (ats .now)) × ((ws .1 .1 .1 .1 .1 .1 .1 .1 .1 .1 .1 .1 .1 .1 .1 .0 ≡ whenAccepted c (replicate n 0) (lin .now)) × ((ws .1 .1 .1 .1 .1 .1 .1 .1 .1 .1 .1 .1 .1 .1 .1 .1 .0 ≡ whenAccepted c (replicate (length ys) 0) ys) × (ws .1 .1 .1 .1 .1 .1 .1 .1 .1 .1 .1 .1 .1 .1 .1 .1 .1 .0 ≡ whenAccepted c (replicate (length zs) zero) zs)))))))))
 
-  -- what `create_when` leaves of its lists
+  -- what `create_when` leaves of its lists, each with its length
+  abbrev left-lists : (c : Checked) (ys : List ℕ) (zs : List Float) → CreateLasts c ys zs → List (Item 𝓤 × (ℕ × ℕ))
+  left-lists c ys zs ws =
+      (‵ (finally f64 (t .name) (ws .1 .1 .1 .1 .1 .1 .1 .1 .1 .0)), (length (ws .1 .1 .1 .1 .1 .1 .1 .1 .1 .0), length (t .now))) ∷ (‵ (finally u8 (fix .name) (ws .1 .1 .1 .1 .1 .1 .1 .1 .1 .1 .0)), (length (ws .1 .1 .1 .1 .1 .1 .1 .1 .1 .1 .0), length (fix .now))) ∷ (‵ (finally u8 (fla .name) (ws .1 .1 .1 .1 .1 .1 .1 .1 .1 .1 .1 .0)), (length (ws .1 .1 .1 .1 .1 .1 .1 .1 .1 .1 .1 .0), length (fla .now))) ∷ (‵ (finally f64 (smo .name) (ws .1 .1 .1 .1 .1 .1 .1 .1 .1 .1 .1 .1 .0)), (length (ws .1 .1 .1 .1 .1 .1 .1 .1 .1 .1 .1 .1 .0), length (smo .now))) ∷ (‵ (finally f64 (des .name) (ws .1 .1 .1 .1 .1 .1 .1 .1 .1 .1 .1 .1 .1 .0)), (length (ws .1 .1 .1 .1 .1 .1 .1 .1 .1 .1 .1 .1 .1 .0), length (des .now))) ∷ (‵ (finally usize (ats .name) (ws .1 .1 .1 .1 .1 .1 .1 .1 .1 .1 .1 .1 .1 .1 .0)), (length (ws .1 .1 .1 .1 .1 .1 .1 .1 .1 .1 .1 .1 .1 .1 .0), length (ats .now))) ∷ (‵ (finally usize (lin .name) (ws .1 .1 .1 .1 .1 .1 .1 .1 .1 .1 .1 .1 .1 .1 .1 .0)), (length (ws .1 .1 .1 .1 .1 .1 .1 .1 .1 .1 .1 .1 .1 .1 .1 .0), length (lin .now))) ∷ (‵ (finally usize γe (ws .1 .1 .1 .1 .1 .1 .1 .1 .1 .1 .1 .1 .1 .1 .1 .1 .0)), (length (ws .1 .1 .1 .1 .1 .1 .1 .1 .1 .1 .1 .1 .1 .1 .1 .1 .0), length ys)) ∷ (‵ (finally f64 γv (ws .1 .1 .1 .1 .1 .1 .1 .1 .1 .1 .1 .1 .1 .1 .1 .1 .1 .0)), (length (ws .1 .1 .1 .1 .1 .1 .1 .1 .1 .1 .1 .1 .1 .1 .1 .1 .1 .0), length zs)) ∷ []
+
   abbrev LeftLists : (c : Checked) (ys : List ℕ) (zs : List Float) → CreateLasts c ys zs → Item 𝓤
-  LeftLists c ys zs ws = ‵ ftrue ⊛ ‵ ftrue ⊛ ‵ ftrue ⊛ ‵ ftrue ⊛ ‵ ftrue ⊛ ‵ ftrue ⊛ ‵ ftrue ⊛ ‵ ftrue ⊛ ‵ ftrue ⊛ (‵ (finally f64 (t .name) (ws .1 .1 .1 .1 .1 .1 .1 .1 .1 .0)) ⊛ ‵ (feq ℕ (length (ws .1 .1 .1 .1 .1 .1 .1 .1 .1 .0)) (length (t .now)))) ⊛ (‵ (finally u8 (fix .name) (ws .1 .1 .1 .1 .1 .1 .1 .1 .1 .1 .0)) ⊛ ‵ (feq ℕ (length (ws .1 .1 .1 .1 .1 .1 .1 .1 .1 .1 .0)) (length (fix .now)))) ⊛ (‵ (finally u8 (fla .name) (ws .1 .1 .1 .1 .1 .1 .1 .1 .1 .1 .1 .0)) ⊛ ‵ (feq ℕ (length (ws .1 .1 .1 .1 .1 .1 .1 .1 .1 .1 .1 .0)) (length (fla .now)))) ⊛ (‵ (finally f64 (smo .name) (ws .1 .1 .1 .1 .1 .1 .1 .1 .1 .1 .1 .1 .0)) ⊛ ‵ (feq ℕ (length (ws .1 .1 .1 .1 .1 .1 .1 .1 .1 .1 .1 .1 .0)) (length (smo .now)))) ⊛ (‵ (finally f64 (des .name) (ws .1 .1 .1 .1 .1 .1 .1 .1 .1 .1 .1 .1 .1 .0)) ⊛ ‵ (feq ℕ (length (ws .1 .1 .1 .1 .1 .1 .1 .1 .1 .1 .1 .1 .1 .0)) (length (des .now)))) ⊛ (‵ (finally usize (ats .name) (ws .1 .1 .1 .1 .1 .1 .1 .1 .1 .1 .1 .1 .1 .1 .0)) ⊛ ‵ (feq ℕ (length (ws .1 .1 .1 .1 .1 .1 .1 .1 .1 .1 .1 .1 .1 .1 .0)) (length (ats .now)))) ⊛ (‵ (finally usize (lin .name) (ws .1 .1 .1 .1 .1 .1 .1 .1 .1 .1 .1 .1 .1 .1 .1 .0)) ⊛ ‵ (feq ℕ (length (ws .1 .1 .1 .1 .1 .1 .1 .1 .1 .1 .1 .1 .1 .1 .1 .0)) (length (lin .now)))) ⊛ (‵ (finally usize γe (ws .1 .1 .1 .1 .1 .1 .1 .1 .1 .1 .1 .1 .1 .1 .1 .1 .0)) ⊛ ‵ (feq ℕ (length (ws .1 .1 .1 .1 .1 .1 .1 .1 .1 .1 .1 .1 .1 .1 .1 .1 .0)) (length ys))) ⊛ (‵ (finally f64 γv (ws .1 .1 .1 .1 .1 .1 .1 .1 .1 .1 .1 .1 .1 .1 .1 .1 .1 .0)) ⊛ ‵ (feq ℕ (length (ws .1 .1 .1 .1 .1 .1 .1 .1 .1 .1 .1 .1 .1 .1 .1 .1 .1 .0)) (length zs))) ⊛ ‵ ftrue
+  LeftLists c ys zs ws = lengths-said 𝓤 9 (left-lists c ys zs ws)
 
   abbrev Left : (c : Checked) (ys : List ℕ) (zs : List Float) → Checked → CreateLasts c ys zs → Type 0
   Left c ys zs r ws = (r ≡ checkLists (h .now) (pos .now) (nor .now) (fno .now) (ref .now) (sh .now) (t .now) (fix .now) (fla .now) (smo .now) (des .now) (ats .now) (lin .now) es vs n p) × (((ws .1 .1 .1 .1 .1 .1 .1 .1 .1 .0) ≡ tangentsAfter r (h .now) (pos .now) (nor .now) (fno .now) (ref .now) (halfedgesOf (sh .now)) (smoothnessOf (sh .now)) (t .now) old n p) × (((ws .1 .1 .1 .1 .1 .1 .1 .1 .1 .1 .0) ≡ whenAccepted r (replicate n 0) (fix .now)) × (((ws .1 .1 .1 .1 .1 .1 .1 .1 .1 .1 .1 .0) ≡ whenAccepted r (replicate n 0) (fla .now)) × (((ws .1 .1 .1 .1 .1 .1 .1 .1 .1 .1 .1 .1 .0) ≡ whenAccepted r (replicate n zero) (smo .now)) × (((ws .1 .1 .1 .1 .1 .1 .1 .1 .1 .1 .1 .1 .1 .0) ≡ whenAccepted r (replicate n zero) (des .now)) × (((ws .1 .1 .1 .1 .1 .1 .1 .1 .1 .1 .1 .1 .1 .1 .0) ≡ whenAccepted r (replicate p 0) (ats .now)) × (((ws .1 .1 .1 .1 .1 .1 .1 .1 .1 .1 .1 .1 .1 .1 .1 .0) ≡ whenAccepted r (replicate n 0) (lin .now)) × (((ws .1 .1 .1 .1 .1 .1 .1 .1 .1 .1 .1 .1 .1 .1 .1 .1 .0) ≡ whenAccepted r (replicate (length (sh .now)) 0) es) × ((ws .1 .1 .1 .1 .1 .1 .1 .1 .1 .1 .1 .1 .1 .1 .1 .1 .1 .0) ≡ whenAccepted r (replicate (length (sh .now)) zero) vs)))))))))
@@ -419,15 +415,11 @@ module _ {M : Type 1} (𝓤 : URA M) (H : Heap 𝓤) (A : Atoms 𝓤) (W : Given
   exits : (c r : Checked) (u : Val) (ys : List ℕ) (zs : List Float) (ws : CreateLasts c ys zs) → length ys ≡ length es → length zs ≡ length vs → Left c ys zs r ws → ent 𝓤 (⋆ 𝓤 H A (CreateTokens ∷ ‵ (flft κ5 q5) ∷ Read ∷ Sharp ∷ LeftLists c ys zs ws ∷ ‵ (Ck .own r (u ∷ [])) ∷ [])) (Post u)
   exits c r u ys zs ws le lv left =
       qed W (CreateTokens ∷ ‵ (flft κ5 q5) ∷ Read ∷ Sharp ∷ LeftLists c ys zs ws ∷ ‵ (Ck .own r (u ∷ [])) ∷ []) ∵
-      move ! (4 ∷ []) $ ungroup ! 18 $ move ! (9 ∷ []) $ split₁ ! $ move ! (1 ∷ []) $ feqL ! (λ l-t. move ! (10 ∷ []) $ split₁ ! $ move ! (1 ∷ []) $ feqL ! (λ l-fix. move ! (11 ∷ []) $ split₁ ! $
-      move ! (1 ∷ []) $ feqL ! (λ l-fla. move ! (12 ∷ []) $ split₁ ! $ move ! (1 ∷ []) $ feqL ! (λ l-smo. move ! (13 ∷ []) $ split₁ ! $ move ! (1 ∷ []) $ feqL ! (λ l-des. move ! (14 ∷ []) $ split₁ ! $
-      move ! (1 ∷ []) $ feqL ! (λ l-ats. move ! (15 ∷ []) $ split₁ ! $ move ! (1 ∷ []) $ feqL ! (λ l-lin. move ! (16 ∷ []) $ split₁ ! $ move ! (1 ∷ []) $ feqL ! (λ l-e. move ! (17 ∷ []) $ split₁ ! $
-      move ! (1 ∷ []) $ feqL ! (λ l-v.
-      suffices ! _ (ends-at 𝓤 H A f.ended stayed (f.clauses 𝓤 H A at-mem run) W bound u r (tt, (tt, (tt, (tt, (tt, (tt, (tt, (tt, (tt, ((ws .1 .1 .1 .1 .1 .1 .1 .1 .1 .0), ((ws .1 .1 .1 .1 .1 .1 .1 .1 .1 .1 .0), ((ws .1 .1 .1 .1 .1 .1 .1 .1 .1 .1 .1 .0), ((ws .1 .1 .1 .1 .1 .1 .1 .1 .1 .1 .1 .1 .0), ((ws .1 .1 .1 .1 .1 .1 .1 .1 .1 .1 .1 .1 .1 .0), ((ws .1 .1 .1 .1 .1 .1 .1 .1 .1 .1 .1 .1 .1 .1 .0), ((ws .1 .1 .1 .1 .1 .1 .1 .1 .1 .1 .1 .1 .1 .1 .1 .0), ((ws .1 .1 .1 .1 .1 .1 .1 .1 .1 .1 .1 .1 .1 .1 .1 .1 .0), ((ws .1 .1 .1 .1 .1 .1 .1 .1 .1 .1 .1 .1 .1 .1 .1 .1 .1 .0), tt)))))))))))))))))) (tt, (tt, (tt, (tt, (tt, (tt, (tt, (tt, (tt, (l-t, (l-fix, (l-fla, (l-smo, (l-des, (l-ats, (l-lin, (l-e ∙ le, (l-v ∙ lv, tt))))))))))))))))))) $ also ! (says-and 𝓤 (left .0) (says-and 𝓤 (left .1 .0) (says-and 𝓤 (left .1 .1 .0) (says-and 𝓤 (left .1 .1 .1 .0) (says-and 𝓤 (left .1 .1 .1 .1 .0) (says-and 𝓤 (left .1 .1 .1 .1 .1 .0) (says-and 𝓤 (left .1 .1 .1 .1 .1 .1 .0) (says-and 𝓤 (left .1 .1 .1 .1 .1 .1 .1 .0) (says-and 𝓤 (left .1 .1 .1 .1 .1 .1 .1 .1 .0) (factI 𝓤 _ (emp 𝓤) (left .1 .1 .1 .1 .1 .1 .1 .1 .1))))))))))) $
-      move ! (19 ∷ []) $ ungroup ! 14 $ move ! (0 ∷ 1 ∷ 2 ∷ 3 ∷ 4 ∷ 34 ∷ 5 ∷ 6 ∷ 7 ∷ 8 ∷ 9 ∷ 10 ∷ 11 ∷ 12 ∷ 13 ∷ 14 ∷ []) $ group ! 16 $ frame ! $ move ! (19 ∷ []) $ ungroup ! 4 $ nothing ! $
-      owned ! bool (Is bool) (bool-makes 𝓤 H A W) old (vbool old ∷ []) old-is $ owned ! usize (Is usize) (uint-makes 𝓤 H A W w64) p (vint w64 p ∷ []) (refl, p-fits) $
-      owned ! usize (Is usize) (uint-makes 𝓤 H A W w64) n (vint w64 n ∷ []) (refl, n-fits) $ move ! (0 ∷ 1 ∷ 4 ∷ 5 ∷ 6 ∷ 7 ∷ 8 ∷ 28 ∷ 2 ∷ 17 ∷ 16 ∷ 15 ∷ 14 ∷ 13 ∷ 12 ∷ 11 ∷ 10 ∷ 9 ∷ 3 ∷ []) $ group ! 19 $
-      frame ! $ keep ! (10 ∷ []) $ done !)))))))))
+      move ! (4 ∷ []) $ use1 W (given (Lengths-are 𝓤 (left-lists c ys zs ws)) (alone 𝓤 (left-lists c ys zs ws))) (hears-lengths 𝓤 H A W 9 (left-lists c ys zs ws)) $ learn ! (λ l.
+      suffices ! _ (ends-at 𝓤 H A f.ended stayed (f.clauses 𝓤 H A at-mem run) W bound u r (tt, (tt, (tt, (tt, (tt, (tt, (tt, (tt, (tt, ((ws .1 .1 .1 .1 .1 .1 .1 .1 .1 .0), ((ws .1 .1 .1 .1 .1 .1 .1 .1 .1 .1 .0), ((ws .1 .1 .1 .1 .1 .1 .1 .1 .1 .1 .1 .0), ((ws .1 .1 .1 .1 .1 .1 .1 .1 .1 .1 .1 .1 .0), ((ws .1 .1 .1 .1 .1 .1 .1 .1 .1 .1 .1 .1 .1 .0), ((ws .1 .1 .1 .1 .1 .1 .1 .1 .1 .1 .1 .1 .1 .1 .0), ((ws .1 .1 .1 .1 .1 .1 .1 .1 .1 .1 .1 .1 .1 .1 .1 .0), ((ws .1 .1 .1 .1 .1 .1 .1 .1 .1 .1 .1 .1 .1 .1 .1 .1 .0), ((ws .1 .1 .1 .1 .1 .1 .1 .1 .1 .1 .1 .1 .1 .1 .1 .1 .1 .0), tt)))))))))))))))))) (tt, (tt, (tt, (tt, (tt, (tt, (tt, (tt, (tt, (l .0, (l .1 .0, (l .1 .1 .0, (l .1 .1 .1 .0, (l .1 .1 .1 .1 .0, (l .1 .1 .1 .1 .1 .0, (l .1 .1 .1 .1 .1 .1 .0, (l .1 .1 .1 .1 .1 .1 .1 .0 ∙ le, (l .1 .1 .1 .1 .1 .1 .1 .1 .0 ∙ lv, tt))))))))))))))))))) $ also ! (says-and 𝓤 (left .0) (says-and 𝓤 (left .1 .0) (says-and 𝓤 (left .1 .1 .0) (says-and 𝓤 (left .1 .1 .1 .0) (says-and 𝓤 (left .1 .1 .1 .1 .0) (says-and 𝓤 (left .1 .1 .1 .1 .1 .0) (says-and 𝓤 (left .1 .1 .1 .1 .1 .1 .0) (says-and 𝓤 (left .1 .1 .1 .1 .1 .1 .1 .0) (says-and 𝓤 (left .1 .1 .1 .1 .1 .1 .1 .1 .0) (factI 𝓤 _ (emp 𝓤) (left .1 .1 .1 .1 .1 .1 .1 .1 .1))))))))))) $
+      use0 W Plain has-plain $ group ! 7 $ flat ! $
+      move ! (14 ∷ 15 ∷ 16 ∷ 17 ∷ 18 ∷ 29 ∷ 19 ∷ 20 ∷ 21 ∷ 22 ∷ 23 ∷ 24 ∷ 25 ∷ 26 ∷ 27 ∷ 28 ∷ 0 ∷ 1 ∷ 30 ∷ 31 ∷ 32 ∷ 33 ∷ 34 ∷ 35 ∷ 2 ∷ 4 ∷ 5 ∷ 6 ∷ 7 ∷ 8 ∷ 9 ∷ 10 ∷ 11 ∷ 12 ∷ 3 ∷ 36 ∷ []) $
+      group ! 16 $ frame ! $ group ! 19 $ frame ! $ keep ! (0 ∷ []) $ done !)
 
   said-create : (c : Checked) (ys : List ℕ) (zs : List Float) (r : Checked) → ent 𝓤 (ensured 𝓤 H A f-create.ended (f-create.clauses 𝓤 H A at-mem run) create-lfts (create-args c ys zs) tt r)
       (mean 𝓤 H A (some (λ (ws : CreateLasts c ys zs). ‵ (lasts f-create.ended create-lfts (create-args c ys zs) ws) ⊛ raw (fact 𝓤 (SaidCreate c ys zs r ws)))))
