@@ -431,7 +431,7 @@ module _ {M : Type 1} (𝓤 : URA M) (H : Heap 𝓤) (A : Atoms 𝓤) (W : Given
       → (r : Checked) (ws : CreateLasts c ys zs) → SaidCreate c ys zs r ws → Left c ys zs r ws
   left-create c ys zs ans i q r ws e = rw (e .0) (ans, (e .1 .0 ∙ tangents-left (h .now) (pos .now) (nor .now) (fno .now) (ref .now) (sh .now) (t .now) (fix .now) (fla .now) (smo .now) (des .now) (ats .now) (lin .now) es vs n p c ys zs i q old, (e .1 .1 .0, (e .1 .1 .1 .0, (e .1 .1 .1 .1 .0, (e .1 .1 .1 .1 .1 .0, (e .1 .1 .1 .1 .1 .1 .0, (e .1 .1 .1 .1 .1 .1 .1 .0, (e .1 .1 .1 .1 .1 .1 .1 .1 .0 ∙ entries-left (h .now) (pos .now) (nor .now) (fno .now) (ref .now) (sh .now) (t .now) (fix .now) (fla .now) (smo .now) (des .now) (ats .now) (lin .now) es vs n p c ys zs i q, e .1 .1 .1 .1 .1 .1 .1 .1 .1 ∙ values-left (h .now) (pos .now) (nor .now) (fno .now) (ref .now) (sh .now) (t .now) (fix .now) (fla .now) (smo .now) (des .now) (ats .now) (lin .now) es vs n p c ys zs i q)))))))))
 
-  -- ---- what the locals hold after each step, where the calls return u₁ to u₆
+  -- ---- what the locals hold after each step, where the calls return u1 to u6
   abbrev values : List Val
   values = vint w64 n ∷ vint w64 p ∷ (at-slice h) ∷ (at-slice pos) ∷ (at-slice nor) ∷ (at-slice fno) ∷ (at-slice ref) ∷ (at-slice sh) ∷ vbool old ∷ (at-slice t) ∷ (at-slice fix) ∷ (at-slice fla) ∷ (at-slice smo) ∷ (at-slice des) ∷ (at-slice ats) ∷ (at-slice lin) ∷ ve ∷ vv ∷ []
 
@@ -471,33 +471,33 @@ module _ {M : Type 1} (𝓤 : URA M) (H : Heap 𝓤) (A : Atoms 𝓤) (W : Given
         move ! (1 ∷ 2 ∷ []) $ use2 W Apart apart $ ungroup ! 8 $
         -- the call of scan
         move ! (2 ∷ 3 ∷ []) $ use2 W (raw (Scan 𝓤 H A at-mem run .pre to-scan) ⊛ Sharp) goes-scan $ split₁ ! $
-        calls-at ! fm (Scan 𝓤 H A at-mem run) known-scan to-scan (args ! 9 os0 refl dec (8 ∷ 1 ∷ []) _ (tt, (tt, tt)) refl) (λ u1.
+        calls-at ! fm (Scan 𝓤 H A at-mem run) known-scan to-scan (args ! 9 os0 refl dec (8 ∷ 1 ∷ []) _ tt refl) (λ u1.
         use1 W (later (some (λ (r1 : Passed). ((‵ (flft κ5 q5) ⊛ ‵ ftrue) ⊛ ‵ (N .own r1 (u1 ∷ []))) ⊛ raw (ensured 𝓤 H A f-scan.ended (f-scan.clauses 𝓤 H A at-mem run) (κ5, tt) scan-args tt r1)))) (id⊢ 𝓤 _) $ await ! tt $ pick ! (λ r1.
         split₁ ! $ move ! (1 ∷ []) $ use1 W (raw (fact 𝓤 (SaidScan r1))) (said-scan r1) $ heard ! (SaidScan r1) (λ e1. split₁ ! $ move ! (1 ∷ []) $ peeks ! N (Is N) (shows 𝓤 H A N) r1 (u1 ∷ []) (λ is1.
         drop ! $ split₁ ! $ move ! (1 ∷ []) $ drop ! $ lands-frame ! 9 os0 refl dec tt (LL.lawful Pa.the-type Pa′.the-laws 𝓤 H A W .typed r1 (u1 ∷ []) is1 .0) $
         -- the lengths, and the call of lengths_of
-        does ! 9 (stored os0 19 u1) refl dec lengths-first (room-sh .0, ((tt, (some-slice, refl)), (tt, (tt, (room-t .0, ((tt, (some-slice, refl)), (tt, (tt, (room-fix .0, ((tt, (some-slice, refl)), (tt, (tt, (room-fla .0, ((tt, (some-slice, refl)), (tt, (tt, (room-smo .0, ((tt, (some-slice, refl)), (tt, (tt, (room-des .0, ((tt, (some-slice, refl)), (tt, (tt, (room-ats .0, ((tt, (some-slice, refl)), (tt, (tt, (room-lin .0, ((tt, (some-slice, refl)), (tt, (tt, (room-e .0, ((tt, (some-slice, refl)), (tt, (tt, (room-v .0, ((tt, (some-slice, refl)), (tt, (tt, tt)))))))))))))))))))))))))))))))))))))))) $
+        does ! 9 (stored os0 19 u1) refl dec lengths-first tt (room-sh .0, (some-slice, (refl, (room-t .0, (some-slice, (refl, (room-fix .0, (some-slice, (refl, (room-fla .0, (some-slice, (refl, (room-smo .0, (some-slice, (refl, (room-des .0, (some-slice, (refl, (room-ats .0, (some-slice, (refl, (room-lin .0, (some-slice, (refl, (room-e .0, (some-slice, (refl, (room-v .0, (some-slice, (refl, tt)))))))))))))))))))))))))))))) $
         use0 W (raw (Lens 𝓤 H A at-mem run .pre to-lengths)) goes-lengths $
-        calls-at ! fm (Lens 𝓤 H A at-mem run) known-lengths-of to-lengths (args ! 10 (os1 u1) refl dec (1 ∷ 2 ∷ 23 ∷ 24 ∷ 25 ∷ 26 ∷ 27 ∷ 28 ∷ 29 ∷ 30 ∷ 31 ∷ 32 ∷ []) _ (tt, (tt, (tt, (tt, (tt, (tt, (tt, (tt, (tt, (tt, (tt, (tt, tt)))))))))))) refl) (λ u2.
+        calls-at ! fm (Lens 𝓤 H A at-mem run) known-lengths-of to-lengths (args ! 10 (os1 u1) refl dec (1 ∷ 2 ∷ 23 ∷ 24 ∷ 25 ∷ 26 ∷ 27 ∷ 28 ∷ 29 ∷ 30 ∷ 31 ∷ 32 ∷ []) _ tt refl) (λ u2.
         use1 W (later (some (λ (r2 : Lengths). (‵ ftrue ⊛ ‵ (Lw .own r2 (u2 ∷ []))) ⊛ raw (ensured 𝓤 H A f-lengths.ended (f-lengths.clauses 𝓤 H A at-mem run) tt lengths-args tt r2)))) (id⊢ 𝓤 _) $ await ! tt $ pick ! (λ r2.
         split₁ ! $ move ! (1 ∷ []) $ use1 W (raw (fact 𝓤 (SaidLengths r2))) (said-lengths r2) $ heard ! (SaidLengths r2) (λ e2. split₁ ! $ drop ! $
         peeks ! Lw (Is Lw) (shows 𝓤 H A Lw) r2 (u2 ∷ []) (λ is2. drop ! $ lands-frame ! 9 (os1 u1) refl dec tt (LL.lawful Le.the-type Le′.the-laws 𝓤 H A W .typed r2 (u2 ∷ []) is2 .0) $
         -- the call of check_lists
         move ! (3 ∷ 2 ∷ []) $ use2 W (raw (Check 𝓤 H A at-mem run .pre (to-check r1 u1 r2 u2)) ⊛ Read) (goes-check r1 u1 r2 u2 is1 is2) $ split₁ ! $
-        calls-at ! fm (Check 𝓤 H A at-mem run) known-check-lists (to-check r1 u1 r2 u2) (args ! 9 (os2 u1 u2) refl dec (1 ∷ 2 ∷ 3 ∷ 4 ∷ 5 ∷ 6 ∷ 7 ∷ 19 ∷ 20 ∷ []) _ (tt, (tt, (tt, (tt, (tt, (tt, (tt, (tt, (tt, tt))))))))) refl) (λ u3.
+        calls-at ! fm (Check 𝓤 H A at-mem run) known-check-lists (to-check r1 u1 r2 u2) (args ! 9 (os2 u1 u2) refl dec (1 ∷ 2 ∷ 3 ∷ 4 ∷ 5 ∷ 6 ∷ 7 ∷ 19 ∷ 20 ∷ []) _ tt refl) (λ u3.
         use1 W (later (some (λ (r3 : Checked). (ReadTokens ⊛ ‵ (Ck .own r3 (u3 ∷ []))) ⊛ raw (ensured 𝓤 H A f-check.ended (f-check.clauses 𝓤 H A at-mem run) check-lfts (check-args r1 r2) tt r3)))) (id⊢ 𝓤 _) $ await ! tt $ pick ! (λ r3.
         split₁ ! $ move ! (1 ∷ []) $ use1 W (raw (fact 𝓤 (SaidCheck r1 r2 r3))) (said-check r1 r2 r3) $ heard ! (SaidCheck r1 r2 r3) (λ e3. split₁ ! $ move ! (1 ∷ []) $
         peeks ! Ck (Is Ck) (shows 𝓤 H A Ck) r3 (u3 ∷ []) (λ is3. drop ! $ lands-frame ! 9 (os2 u1 u2) refl dec tt (EL.lawful Ch.the-type Ch′.the-laws 𝓤 H A W tt .typed r3 (u3 ∷ []) is3 .0) $
         let ans : r3 ≡ checkLists (h .now) (pos .now) (nor .now) (fno .now) (ref .now) (sh .now) (t .now) (fix .now) (fla .now) (smo .now) (des .now) (ats .now) (lin .now) es vs n p = is-answer (h .now) (pos .now) (nor .now) (fno .now) (ref .now) (sh .now) (t .now) (fix .now) (fla .now) (smo .now) (des .now) (ats .now) (lin .now) es vs n p r1 e1 r2 e2 r3 e3 in
         -- the call of count_of
-        does ! 9 (os3 u1 u2 u3) refl dec (len 23 8 (sh .ptr) (length (sh .now)) ∷ []) (room-sh .0, ((tt, (some-slice, refl)), (tt, (tt, tt)))) $
+        does ! 9 (os3 u1 u2 u3) refl dec (len 23 8 (sh .ptr) (length (sh .now)) ∷ []) tt (room-sh .0, (some-slice, (refl, tt))) $
         use0 W (raw (Count 𝓤 H A at-mem run .pre (to-count r3 u3))) (goes-count r3 u3 is3) $
-        calls-at ! fm (Count 𝓤 H A at-mem run) known-count-of (to-count r3 u3) (args ! 10 (stored (os3 u1 u2 u3) 23 (vint w64 (length (sh .now)))) refl dec (21 ∷ 23 ∷ []) _ (tt, (tt, tt)) refl) (λ u4.
+        calls-at ! fm (Count 𝓤 H A at-mem run) known-count-of (to-count r3 u3) (args ! 10 (stored (os3 u1 u2 u3) 23 (vint w64 (length (sh .now)))) refl dec (21 ∷ 23 ∷ []) _ tt refl) (λ u4.
         use1 W (later (some (λ (r4 : ℕ). (‵ ftrue ⊛ ‵ (usize .own r4 (u4 ∷ []))) ⊛ raw (ensured 𝓤 H A f-count.ended (f-count.clauses 𝓤 H A at-mem run) tt (r3, ((length (sh .now)), tt)) tt r4)))) (id⊢ 𝓤 _) $ await ! tt $ pick ! (λ r4.
         split₁ ! $ move ! (1 ∷ []) $ use1 W (raw (fact 𝓤 (SaidCount r3 r4))) (said-count r3 r4) $ heard ! (SaidCount r3 r4) (λ e4. split₁ ! $ drop ! $
         peeks ! usize (Is usize) (shows 𝓤 H A usize) r4 (u4 ∷ []) (λ is4. drop ! $ lands-frame ! 9 (stored (os3 u1 u2 u3) 23 (vint w64 (length (sh .now)))) refl dec tt (uint-lawful 𝓤 H A W w64 .typed r4 _ is4 .0) $
         -- the two lists are lent again, each for a lifetime of the call
-        does ! 9 (stored (stored (os3 u1 u2 u3) 23 (vint w64 (length (sh .now)))) 22 u4) refl dec two-lent (room-e .0, ((tt, (is-slice, refl)), ((tt, (is-slice, refl)), (tt, (tt, (tt, (tt, (room-v .0, ((tt, (is-slice, refl)), ((tt, (is-slice, refl)), (tt, (tt, (tt, (tt, tt)))))))))))))) $
+        does ! 9 (stored (stored (os3 u1 u2 u3) 23 (vint w64 (length (sh .now)))) 22 u4) refl dec two-lent tt (room-e .0, (is-slice, (refl, (room-v .0, (is-slice, (refl, tt)))))) $
         lft-new ! tt (λ νe. move ! (6 ∷ 8 ∷ []) $
         use2 W (later (some (λ (δ : GName). ‵ (MutSlice (named 1) (νe ∷ []) usize .own (xe δ es) (ve ∷ [])) ⊛ ‵ (LentAgain usize κ13 (νe ∷ []) q13 γe be oe δ es)))) (lends-again usize κ13 (νe ∷ []) q13 γe be oe 𝓤 H A W (named 13) (named 1) es) $ await ! tt $ pick ! (λ δe.
         split₁ ! $ lft-new ! tt (λ νv. move ! (9 ∷ 10 ∷ []) $
@@ -506,7 +506,7 @@ module _ {M : Type 1} (𝓤 : URA M) (H : Heap 𝓤) (A : Atoms 𝓤) (W : Given
         -- the call of split
         move ! (8 ∷ 5 ∷ 2 ∷ 9 ∷ 3 ∷ 0 ∷ []) $ group ! 6 $
         use1 W (raw (Split 𝓤 H A at-mem run .pre (to-split r4 u4 νe νv δe δv)) ⊛ Sharp) (goes-split r4 u4 νe νv δe δv is4 (counted (h .now) (pos .now) (nor .now) (fno .now) (ref .now) (sh .now) (t .now) (fix .now) (fla .now) (smo .now) (des .now) (ats .now) (lin .now) es vs n p r3 ans r4 e4)) $ split₁ ! $
-        calls-at ! fm (Split 𝓤 H A at-mem run) known-split (to-split r4 u4 νe νv δe δv) (args ! 7 (os4 u1 u2 u3 u4) refl dec (22 ∷ 8 ∷ 35 ∷ 37 ∷ []) _ (tt, (tt, (tt, (tt, tt)))) refl) (λ u5.
+        calls-at ! fm (Split 𝓤 H A at-mem run) known-split (to-split r4 u4 νe νv δe δv) (args ! 7 (os4 u1 u2 u3 u4) refl dec (22 ∷ 8 ∷ 35 ∷ 37 ∷ []) _ tt refl) (λ u5.
         use1 W (later (some (λ (r5 : Unit {0}). ((‵ (flft κ5 q5) ⊛ ‵ (flft (νe ∷ []) fullShare) ⊛ ‵ (flft (νv ∷ []) fullShare) ⊛ ‵ ftrue) ⊛ ‵ (unit .own r5 (u5 ∷ []))) ⊛ raw (ensured 𝓤 H A f-split.ended (f-split.clauses 𝓤 H A at-mem run) (split-lfts νe νv) (split-args r4 δe δv) tt r5)))) (id⊢ 𝓤 _) $ await ! tt $ pick ! (λ r5.
         split₁ ! $ move ! (1 ∷ []) $
         use1 W (some (λ (zs : Lasts f-split.ended (split-lfts νe νv) (split-args r4 δe δv)). ‵ (lasts f-split.ended (split-lfts νe νv) (split-args r4 δe δv) zs) ⊛ raw (fact 𝓤 (SaidSplit r4 (zs .1 .1 .0) (zs .1 .1 .1 .0))))) (id⊢ 𝓤 _) $ pick ! (λ zs.
@@ -521,10 +521,10 @@ module _ {M : Type 1} (𝓤 : URA M) (H : Heap 𝓤) (A : Atoms 𝓤) (W : Given
         split₁ ! $
         -- all lists that are written are given to create_when for good
         let same-e : (zs .1 .1 .0) ≡ whenAccepted r3 (halfedgesOf (sh .now)) es = e5 .0 ∙ flat-halfedges (h .now) (pos .now) (nor .now) (fno .now) (ref .now) (sh .now) (t .now) (fix .now) (fla .now) (smo .now) (des .now) (ats .now) (lin .now) es vs n p r3 ans r4 e4 in let same-v : (zs .1 .1 .1 .0) ≡ whenAccepted r3 (smoothnessOf (sh .now)) vs = e5 .1 ∙ flat-smoothness (h .now) (pos .now) (nor .now) (fno .now) (ref .now) (sh .now) (t .now) (fix .now) (fla .now) (smo .now) (des .now) (ats .now) (lin .now) es vs n p r3 ans r4 e4 in
-        does ! 9 (stored (os4 u1 u2 u3 u4) 33 u5) refl dec all-lent (room-t .0, ((tt, (is-slice, refl)), ((tt, (is-slice, refl)), (tt, (tt, (tt, (tt, (room-fix .0, ((tt, (is-slice, refl)), ((tt, (is-slice, refl)), (tt, (tt, (tt, (tt, (room-fla .0, ((tt, (is-slice, refl)), ((tt, (is-slice, refl)), (tt, (tt, (tt, (tt, (room-smo .0, ((tt, (is-slice, refl)), ((tt, (is-slice, refl)), (tt, (tt, (tt, (tt, (room-des .0, ((tt, (is-slice, refl)), ((tt, (is-slice, refl)), (tt, (tt, (tt, (tt, (room-ats .0, ((tt, (is-slice, refl)), ((tt, (is-slice, refl)), (tt, (tt, (tt, (tt, (room-lin .0, ((tt, (is-slice, refl)), ((tt, (is-slice, refl)), (tt, (tt, (tt, (tt, (room-e .0, ((tt, (is-slice, refl)), ((tt, (is-slice, refl)), (tt, (tt, (tt, (tt, (room-v .0, ((tt, (is-slice, refl)), ((tt, (is-slice, refl)), (tt, (tt, (tt, (tt, tt))))))))))))))))))))))))))))))))))))))))))))))))))))))))))))))) $
+        does ! 9 (stored (os4 u1 u2 u3 u4) 33 u5) refl dec all-lent tt (room-t .0, (is-slice, (refl, (room-fix .0, (is-slice, (refl, (room-fla .0, (is-slice, (refl, (room-smo .0, (is-slice, (refl, (room-des .0, (is-slice, (refl, (room-ats .0, (is-slice, (refl, (room-lin .0, (is-slice, (refl, (room-e .0, (is-slice, (refl, (room-v .0, (is-slice, (refl, tt))))))))))))))))))))))))))) $
         move ! (6 ∷ 7 ∷ 8 ∷ 2 ∷ 0 ∷ 3 ∷ 1 ∷ []) $ group ! 7 $
         use1 W (raw (Create 𝓤 H A at-mem run .pre (to-create r3 u3 (zs .1 .1 .0) (zs .1 .1 .1 .0))) ⊛ Read) (goes-create r3 u3 (zs .1 .1 .0) (zs .1 .1 .1 .0) is3 (len .0) (len .1) (lists-when (h .now) (pos .now) (nor .now) (fno .now) (ref .now) (sh .now) (t .now) (fix .now) (fla .now) (smo .now) (des .now) (ats .now) (lin .now) es vs n p r3 ans (zs .1 .1 .0) (zs .1 .1 .1 .0) same-e same-v)) $ split₁ ! $
-        calls-at ! fm (Create 𝓤 H A at-mem run) known-create-when (to-create r3 u3 (zs .1 .1 .0) (zs .1 .1 .1 .0)) (args ! 4 (os5 u1 u2 u3 u4 u5) refl dec (21 ∷ 1 ∷ 2 ∷ 3 ∷ 4 ∷ 5 ∷ 6 ∷ 7 ∷ 9 ∷ 39 ∷ 41 ∷ 43 ∷ 45 ∷ 47 ∷ 49 ∷ 51 ∷ 53 ∷ 55 ∷ []) _ (tt, (tt, (tt, (tt, (tt, (tt, (tt, (tt, (tt, (tt, (tt, (tt, (tt, (tt, (tt, (tt, (tt, (tt, tt)))))))))))))))))) refl) (λ u6.
+        calls-at ! fm (Create 𝓤 H A at-mem run) known-create-when (to-create r3 u3 (zs .1 .1 .0) (zs .1 .1 .1 .0)) (args ! 4 (os5 u1 u2 u3 u4 u5) refl dec (21 ∷ 1 ∷ 2 ∷ 3 ∷ 4 ∷ 5 ∷ 6 ∷ 7 ∷ 9 ∷ 39 ∷ 41 ∷ 43 ∷ 45 ∷ 47 ∷ 49 ∷ 51 ∷ 53 ∷ 55 ∷ []) _ tt refl) (λ u6.
         use1 W (later (some (λ (r6 : Checked). (CreateTokens ⊛ ‵ (Ck .own r6 (u6 ∷ []))) ⊛ raw (ensured 𝓤 H A f-create.ended (f-create.clauses 𝓤 H A at-mem run) create-lfts (create-args r3 (zs .1 .1 .0) (zs .1 .1 .1 .0)) tt r6)))) (id⊢ 𝓤 _) $ await ! tt $ pick ! (λ r6.
         split₁ ! $ move ! (1 ∷ []) $
         use1 W (some (λ (ws : CreateLasts r3 (zs .1 .1 .0) (zs .1 .1 .1 .0)). ‵ (lasts f-create.ended create-lfts (create-args r3 (zs .1 .1 .0) (zs .1 .1 .1 .0)) ws) ⊛ raw (fact 𝓤 (SaidCreate r3 (zs .1 .1 .0) (zs .1 .1 .1 .0) r6 ws)))) (said-create r3 (zs .1 .1 .0) (zs .1 .1 .1 .0) r6) $ pick ! (λ ws.
