@@ -9,7 +9,7 @@ pub struct Tally {
     pub differ: u64,
 }
 
-fn byte(s: &[u8], at: usize) -> u64
+pub fn byte(s: &[u8], at: usize) -> u64
     ensures { λ r. ⌜ r < 256 ⌝ }
 {
     if at < s.len() { s[at] as u64 } else { 0 }

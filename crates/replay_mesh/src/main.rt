@@ -1,18 +1,14 @@
 // Replays the oracle's answers to calls on meshes, read from standard input, and writes how many were compared and how many
 // differ. README.md beside src/ says what a case holds and how the file was made.
-mod calls;
-mod leaves;
-mod questions;
-
-use calls::check;
-use calls::crease;
-use calls::straighten;
-use leaves::flat;
-use leaves::quad;
-use leaves::tfn;
-use questions::questions;
 use replay::Tally;
 use replay_cases::Case;
+use replay_mesh_calls::check;
+use replay_mesh_calls::crease;
+use replay_mesh_calls::straighten;
+use replay_mesh_faces::flat;
+use replay_mesh_leaves::quad;
+use replay_mesh_leaves::tfn;
+use replay_mesh_questions::questions;
 
 // Does the unit answer as the oracle did?
 fn agrees(s: &[u8], op: usize, c: Case) -> bool {

@@ -1,2 +1,0 @@
--- The specs of `replay_mesh`.
-pub mod Points

@@ -1,0 +1,2 @@
+-- The laws that the proofs of `replay_mesh_faces` share.
+mod Lent
