@@ -5,10 +5,26 @@ use replay_cases::Case;
 use replay_cases::floats;
 use replay_cases::numbers;
 use replay_cases::signed;
+use replay_makings::Ends;
 
-// Puts the parts of the lists of a case, whose ends stand at its beginning, to its call. At s[at..] are the tangents as
-// the Rust left them.
-fn lists(
+// Puts the lists of a case to its call.
+fn lists_agree(
+    op: usize,
+    c: Case,
+    e: Ends,
+    xs: &[f64],
+    is: &[i32],
+    entries: &[usize],
+    t: &mut [f64],
+) -> bool {
+    if op == 8 {
+        return replay_create_sharp::agrees(c, e, xs, is, entries, t);
+    }
+    replay_create_from_normals::agrees(c, e, xs, is, entries, t)
+}
+
+// And compares the tangents with those at s[at..], which the Rust left.
+fn all_agree(
     s: &[u8],
     at: usize,
     c: Case,
@@ -17,47 +33,9 @@ fn lists(
     entries: &[usize],
     t: &mut [f64],
 ) -> bool {
-    let old = replay::half_word(s, c.at) == 1;
-    let a = replay::half_word(s, replay::after(c.at, 4));
-    let b = replay::half_word(s, replay::after(c.at, 8));
-    let d = replay::half_word(s, replay::after(c.at, 12));
-    let e = replay::half_word(s, replay::after(c.at, 16));
-    let pos = replay_cases::float_part(xs, 0, a);
-    let normals = replay_cases::float_part(xs, a, b);
-    let face_normals = replay_cases::float_part(xs, b, d);
-    let values = replay_cases::float_part(xs, d, xs.len());
-    let h = replay_cases::signed_part(is, 0, e);
-    let refs = replay_cases::signed_part(is, e, is.len());
-    if replay::half_word(s, 4) == 8 {
-        return replay_makings::sharp(
-            s,
-            at,
-            c,
-            old,
-            h,
-            pos,
-            normals,
-            face_normals,
-            refs,
-            entries,
-            values,
-            t,
-        );
-    }
-    replay_makings::from_normals(
-        s,
-        at,
-        c,
-        old,
-        h,
-        pos,
-        normals,
-        face_normals,
-        refs,
-        entries,
-        values,
-        t,
-    )
+    let e = replay_makings::ends_at(s, c.at);
+    let same = lists_agree(replay::half_word(s, 4), c, e, xs, is, entries, t);
+    mesh::both(same, replay::same_floats(s, at, t, t.len()))
 }
 
 // Reads the lists of a case, and puts them to its call.
@@ -74,7 +52,7 @@ fn agrees(s: &[u8], c: Case) -> bool {
     let bl = b.len;
     let dl = d.len;
     let tl = replay_cases::length_in(s, e.next, &t);
-    lists(
+    all_agree(
         s,
         replay::after(e.next, 4),
         c,

@@ -1,8 +1,34 @@
-// A call of either making on the lists of a case, compared with the oracle's answer.
+// What the replays of both makings share: the lists of a case, and the scratch lists.
 ghost use Prim.Native.Nat.{_≤_};
-use mesh::Checked;
 use mesh::both;
 use replay_cases::Case;
+
+// Are there old tangents, and where the positions, the point normals and the face normals end in the list of floats, and
+// the halfedges in that of signed numbers.
+pub struct Ends {
+    pub old: bool,
+    pub positions: usize,
+    pub normals: usize,
+    pub face_normals: usize,
+    pub halfedges: usize,
+}
+
+pub fn ends_at(s: &[u8], at: usize) -> Ends {
+    Ends {
+        old: replay::half_word(s, at) == 1,
+        positions: replay::half_word(s, replay::after(at, 4)),
+        normals: replay::half_word(s, replay::after(at, 8)),
+        face_normals: replay::half_word(s, replay::after(at, 12)),
+        halfedges: replay::half_word(s, replay::after(at, 16)),
+    }
+}
+
+// The places of a scratch list: at most 32, more than a mesh of the file needs.
+pub fn places(count: usize) -> usize
+    ensures { λ r. ⌜ r ≤ 32 ⌝ }
+{
+    if count <= 32 { count } else { 32 }
+}
 
 // A number of each scratch list after the call: 0 where it was accepted, else as it was lent.
 struct Scratch {
@@ -26,13 +52,9 @@ fn scratch_after(c: Case) -> Scratch {
     }
 }
 
-// Is this the answer of the case, whose tangents after the call stand at s[at..]?
-fn same_answer(
-    s: &[u8],
-    at: usize,
+// Are the scratch lists as the call of the case has to leave them?
+pub fn same_scratch(
     c: Case,
-    checked: Checked,
-    t: &[f64],
     fixed: &[u8],
     flags: &[u8],
     smooth: &[f64],
@@ -41,10 +63,6 @@ fn same_answer(
     link: &[usize],
 ) -> bool {
     let after = scratch_after(c);
-    let answer = both(
-        replay_cases::same_checked(checked, c),
-        replay::same_floats(s, at, t, t.len()),
-    );
     let bytes = both(
         replay::all_bytes(fixed, after.flag),
         replay::all_bytes(flags, after.flag),
@@ -57,123 +75,5 @@ fn same_answer(
         replay::all_numbers(halfedges, after.halfedge),
         replay::all_numbers(link, after.halfedge),
     );
-    both(both(answer, bytes), both(angles, numbers))
-}
-
-// The places of a scratch list: at most 32, more than a mesh of the file needs.
-fn places(count: usize) -> usize
-    ensures { λ r. ⌜ r ≤ 32 ⌝ }
-{
-    if count <= 32 { count } else { 32 }
-}
-
-// Making from sharp edges, of lists that were read.
-pub fn sharp(
-    s: &[u8],
-    at: usize,
-    c: Case,
-    old: bool,
-    h: &[i32],
-    pos: &[f64],
-    normals: &[f64],
-    face_normals: &[f64],
-    refs: &[i32],
-    entries: &[usize],
-    values: &[f64],
-    t: &mut [f64],
-) -> bool {
-    let n = places(c.n);
-    let p = places(c.p);
-    let fixed = &mut [7u8; 32][..n];
-    let flat = &mut [7u8; 32][..n];
-    let smooth = &mut [0.5f64; 32][..n];
-    let desired = &mut [0.5f64; 32][..n];
-    let halfedges = &mut [77usize; 32][..p];
-    let link = &mut [77usize; 32][..n];
-    let checked = create::create_tangents(
-        c.n,
-        c.p,
-        h,
-        pos,
-        normals,
-        face_normals,
-        refs,
-        entries,
-        values,
-        old,
-        t,
-        fixed,
-        flat,
-        smooth,
-        desired,
-        halfedges,
-        link,
-    );
-    same_answer(
-        s,
-        at,
-        c,
-        checked,
-        t,
-        fixed,
-        flat,
-        smooth,
-        desired,
-        halfedges,
-        link,
-    )
-}
-
-// Making from normals, of lists that were read. `none` is an empty list: there is one list of halfedges less.
-pub fn from_normals(
-    s: &[u8],
-    at: usize,
-    c: Case,
-    old: bool,
-    h: &[i32],
-    pos: &[f64],
-    normals: &[f64],
-    face_normals: &[f64],
-    refs: &[i32],
-    none: &[usize],
-    halfedge_normals: &[f64],
-    t: &mut [f64],
-) -> bool {
-    let n = places(c.n);
-    let p = places(c.p);
-    let fixed = &mut [7u8; 32][..n];
-    let inside = &mut [7u8; 32][..n];
-    let current = &mut [0.5f64; 32][..n];
-    let desired = &mut [0.5f64; 32][..n];
-    let first = &mut [77usize; 32][..p];
-    let checked = create_from_normals::create_tangents_from_normals(
-        c.n,
-        c.p,
-        h,
-        pos,
-        normals,
-        face_normals,
-        refs,
-        halfedge_normals,
-        old,
-        t,
-        fixed,
-        inside,
-        current,
-        desired,
-        first,
-    );
-    same_answer(
-        s,
-        at,
-        c,
-        checked,
-        t,
-        fixed,
-        inside,
-        current,
-        desired,
-        first,
-        none,
-    )
+    both(bytes, both(angles, numbers))
 }

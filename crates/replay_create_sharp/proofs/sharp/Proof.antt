@@ -1,8 +1,8 @@
--- `replay_makings::sharp` is safe and ends. Assumes nothing.
+-- `replay_create_sharp::sharp` is safe and ends. Assumes nothing.
 use Rattle.little_endian.proofs.Fronts.{front}
 use borrow.Author.Needs.{needs}
-use Rattle.replay_makings.proofs.sharp.Statement.{statement}
-use Rattle.replay_makings.proofs.sharp.Tie as tie
+use Rattle.replay_create_sharp.proofs.sharp.Statement.{statement}
+use Rattle.replay_create_sharp.proofs.sharp.Tie as tie
 
 places-requires : tie.Need-places-requires
 places-requires c κs = search needs
@@ -49,8 +49,14 @@ slice-aggregate-link c = front _ _ (c .before .before .before .before .before .b
 create-tangents-requires : tie.Need-create-tangents-requires
 create-tangents-requires c κs = search needs
 
-same-answer-requires : tie.Need-same-answer-requires
-same-answer-requires c κs = search needs
+same-scratch-requires : tie.Need-same-scratch-requires
+same-scratch-requires c κs = search needs
+
+same-checked-requires : tie.Need-same-checked-requires
+same-checked-requires c κs = search needs
+
+both-requires : tie.Need-both-requires
+both-requires c κs = search needs
 
 same-length : tie.Need-same-length
 same-length c = search needs
@@ -77,6 +83,8 @@ sharp-spec =
     array-borrow-prefix-link
     slice-aggregate-link
     create-tangents-requires
-    same-answer-requires
+    same-scratch-requires
+    same-checked-requires
+    both-requires
     same-length
     returns)

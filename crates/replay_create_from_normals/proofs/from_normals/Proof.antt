@@ -1,8 +1,8 @@
--- `replay_makings::from_normals` is safe and ends. Assumes nothing.
+-- `replay_create_from_normals::from_normals` is safe and ends. Assumes nothing.
 use Rattle.little_endian.proofs.Fronts.{front}
 use borrow.Author.Needs.{needs}
-use Rattle.replay_makings.proofs.from_normals.Statement.{statement}
-use Rattle.replay_makings.proofs.from_normals.Tie as tie
+use Rattle.replay_create_from_normals.proofs.from_normals.Statement.{statement}
+use Rattle.replay_create_from_normals.proofs.from_normals.Tie as tie
 
 places-requires : tie.Need-places-requires
 places-requires c κs = search needs
@@ -43,8 +43,14 @@ slice-aggregate-first c = front _ _ (c .before .before .before .before .before .
 create-tangents-from-normals-requires : tie.Need-create-tangents-from-normals-requires
 create-tangents-from-normals-requires c κs = search needs
 
-same-answer-requires : tie.Need-same-answer-requires
-same-answer-requires c κs = search needs
+same-scratch-requires : tie.Need-same-scratch-requires
+same-scratch-requires c κs = search needs
+
+same-checked-requires : tie.Need-same-checked-requires
+same-checked-requires c κs = search needs
+
+both-requires : tie.Need-both-requires
+both-requires c κs = search needs
 
 same-length : tie.Need-same-length
 same-length c = search needs
@@ -69,6 +75,8 @@ from-normals-spec =
     array-borrow-prefix-first
     slice-aggregate-first
     create-tangents-from-normals-requires
-    same-answer-requires
+    same-scratch-requires
+    same-checked-requires
+    both-requires
     same-length
     returns)

@@ -1,0 +1,71 @@
+// A call of making from normals on the lists of a case.
+use replay_cases::Case;
+use replay_cases::float_part;
+use replay_cases::signed_part;
+use replay_makings::Ends;
+use replay_makings::places;
+use replay_makings::same_scratch;
+
+// Calls it with scratch lists of its own. Are the answer and the scratch lists those of the case? `none` is an empty list:
+// there is one list of halfedges less.
+fn from_normals(
+    c: Case,
+    old: bool,
+    h: &[i32],
+    pos: &[f64],
+    normals: &[f64],
+    face_normals: &[f64],
+    refs: &[i32],
+    none: &[usize],
+    halfedge_normals: &[f64],
+    t: &mut [f64],
+) -> bool {
+    let n = places(c.n);
+    let p = places(c.p);
+    let fixed = &mut [7u8; 32][..n];
+    let inside = &mut [7u8; 32][..n];
+    let current = &mut [0.5f64; 32][..n];
+    let desired = &mut [0.5f64; 32][..n];
+    let first = &mut [77usize; 32][..p];
+    let checked = create_from_normals::create_tangents_from_normals(
+        c.n,
+        c.p,
+        h,
+        pos,
+        normals,
+        face_normals,
+        refs,
+        halfedge_normals,
+        old,
+        t,
+        fixed,
+        inside,
+        current,
+        desired,
+        first,
+    );
+    let scratch = same_scratch(c, fixed, inside, current, desired, first, none);
+    mesh::both(replay_cases::same_checked(checked, c), scratch)
+}
+
+// The call, whose lists of floats are the parts of xs and whose lists of signed numbers are the parts of `is`.
+pub fn agrees(c: Case, e: Ends, xs: &[f64], is: &[i32], none: &[usize], t: &mut [f64]) -> bool {
+    let pos = float_part(xs, 0, e.positions);
+    let normals = float_part(xs, e.positions, e.normals);
+    let face_normals = float_part(xs, e.normals, e.face_normals);
+    let halfedge_normals = float_part(xs, e.face_normals, xs.len());
+    let h = signed_part(is, 0, e.halfedges);
+    let refs = signed_part(is, e.halfedges, is.len());
+    from_normals(
+        c,
+        e.old,
+        h,
+        pos,
+        normals,
+        face_normals,
+        refs,
+        none,
+        halfedge_normals,
+        t,
+    )
+}

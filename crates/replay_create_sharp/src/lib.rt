@@ -1,0 +1,73 @@
+// A call of making from sharp edges on the lists of a case.
+use replay_cases::Case;
+use replay_cases::float_part;
+use replay_cases::signed_part;
+use replay_makings::Ends;
+use replay_makings::places;
+use replay_makings::same_scratch;
+
+// Calls it with scratch lists of its own. Are the answer and the scratch lists those of the case?
+fn sharp(
+    c: Case,
+    old: bool,
+    h: &[i32],
+    pos: &[f64],
+    normals: &[f64],
+    face_normals: &[f64],
+    refs: &[i32],
+    entries: &[usize],
+    values: &[f64],
+    t: &mut [f64],
+) -> bool {
+    let n = places(c.n);
+    let p = places(c.p);
+    let fixed = &mut [7u8; 32][..n];
+    let flat = &mut [7u8; 32][..n];
+    let smooth = &mut [0.5f64; 32][..n];
+    let desired = &mut [0.5f64; 32][..n];
+    let halfedges = &mut [77usize; 32][..p];
+    let link = &mut [77usize; 32][..n];
+    let checked = create::create_tangents(
+        c.n,
+        c.p,
+        h,
+        pos,
+        normals,
+        face_normals,
+        refs,
+        entries,
+        values,
+        old,
+        t,
+        fixed,
+        flat,
+        smooth,
+        desired,
+        halfedges,
+        link,
+    );
+    let scratch = same_scratch(c, fixed, flat, smooth, desired, halfedges, link);
+    mesh::both(replay_cases::same_checked(checked, c), scratch)
+}
+
+// The call, whose lists of floats are the parts of xs and whose lists of signed numbers are the parts of `is`.
+pub fn agrees(c: Case, e: Ends, xs: &[f64], is: &[i32], entries: &[usize], t: &mut [f64]) -> bool {
+    let pos = float_part(xs, 0, e.positions);
+    let normals = float_part(xs, e.positions, e.normals);
+    let face_normals = float_part(xs, e.normals, e.face_normals);
+    let values = float_part(xs, e.face_normals, xs.len());
+    let h = signed_part(is, 0, e.halfedges);
+    let refs = signed_part(is, e.halfedges, is.len());
+    sharp(
+        c,
+        e.old,
+        h,
+        pos,
+        normals,
+        face_normals,
+        refs,
+        entries,
+        values,
+        t,
+    )
+}
