@@ -5,26 +5,9 @@ use replay_cases::Case;
 use replay_cases::floats;
 use replay_cases::numbers;
 use replay_cases::signed;
-use replay_makings::Ends;
 
-// Puts the lists of a case to its call.
+// Puts the lists of a case to its call. At s[at..] are the tangents as the Rust left them.
 fn lists_agree(
-    op: usize,
-    c: Case,
-    e: Ends,
-    xs: &[f64],
-    is: &[i32],
-    entries: &[usize],
-    t: &mut [f64],
-) -> bool {
-    if op == 8 {
-        return replay_create_sharp::agrees(c, e, xs, is, entries, t);
-    }
-    replay_create_from_normals::agrees(c, e, xs, is, entries, t)
-}
-
-// And compares the tangents with those at s[at..], which the Rust left.
-fn all_agree(
     s: &[u8],
     at: usize,
     c: Case,
@@ -33,9 +16,10 @@ fn all_agree(
     entries: &[usize],
     t: &mut [f64],
 ) -> bool {
-    let e = replay_makings::ends_at(s, c.at);
-    let same = lists_agree(replay::half_word(s, 4), c, e, xs, is, entries, t);
-    mesh::both(same, replay::same_floats(s, at, t, t.len()))
+    if replay::half_word(s, 4) == 8 {
+        return replay_create_sharp::agrees(s, at, c, xs, is, entries, t);
+    }
+    replay_create_from_normals::agrees(s, at, c, xs, is, entries, t)
 }
 
 // Reads the lists of a case, and puts them to its call.
@@ -52,7 +36,7 @@ fn agrees(s: &[u8], c: Case) -> bool {
     let bl = b.len;
     let dl = d.len;
     let tl = replay_cases::length_in(s, e.next, &t);
-    all_agree(
+    lists_agree(
         s,
         replay::after(e.next, 4),
         c,

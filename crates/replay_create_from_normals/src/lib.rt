@@ -2,7 +2,7 @@
 use replay_cases::Case;
 use replay_cases::float_part;
 use replay_cases::signed_part;
-use replay_makings::Ends;
+use replay_makings::ends_at;
 use replay_makings::places;
 use replay_makings::same_scratch;
 
@@ -48,15 +48,25 @@ fn from_normals(
     mesh::both(replay_cases::same_checked(checked, c), scratch)
 }
 
-// The call, whose lists of floats are the parts of xs and whose lists of signed numbers are the parts of `is`.
-pub fn agrees(c: Case, e: Ends, xs: &[f64], is: &[i32], none: &[usize], t: &mut [f64]) -> bool {
+// The call, whose lists of floats are the parts of xs and whose lists of signed numbers are the parts of `is`. At s[at..]
+// are the tangents as the Rust left them.
+pub fn agrees(
+    s: &[u8],
+    at: usize,
+    c: Case,
+    xs: &[f64],
+    is: &[i32],
+    none: &[usize],
+    t: &mut [f64],
+) -> bool {
+    let e = ends_at(s, c.at);
     let pos = float_part(xs, 0, e.positions);
     let normals = float_part(xs, e.positions, e.normals);
     let face_normals = float_part(xs, e.normals, e.face_normals);
     let halfedge_normals = float_part(xs, e.face_normals, xs.len());
     let h = signed_part(is, 0, e.halfedges);
     let refs = signed_part(is, e.halfedges, is.len());
-    from_normals(
+    let same = from_normals(
         c,
         e.old,
         h,
@@ -67,5 +77,6 @@ pub fn agrees(c: Case, e: Ends, xs: &[f64], is: &[i32], none: &[usize], t: &mut 
         none,
         halfedge_normals,
         t,
-    )
+    );
+    mesh::both(same, replay::same_floats(s, at, t, t.len()))
 }
