@@ -1,5 +1,4 @@
 // The three public calls: straightening, the mark check and the crease listing.
-ghost use Prim.Native.Nat.{_≤_};
 use replay_cases::Case;
 use replay_cases::floats;
 use replay_cases::same_checked;
@@ -114,18 +113,17 @@ fn same_listing(
     }
 }
 
-// The places that are lent to a listing: at most 256, more than a mesh of the file needs.
-fn places(count: usize) -> usize
-    ensures { λ r. ⌜ r ≤ 256 ⌝ }
-{
-    if count <= 256 { count } else { 0 }
-}
-
 // The listing of lists that were read. At s[at..] stand the angle and the smoothness of the case, a list of two.
 fn listed(s: &[u8], at: usize, c: Case, h: &[i32], normals: &[f64]) -> bool {
+    if replay::half_word(s, at) != 2 {
+        return false;
+    }
+    let room = replay::half_word(s, replay::after(at, 20));
+    if 256 < room {
+        return false;
+    }
     let angle = replay::float_at(s, replay::after(at, 4));
     let smoothness = replay::float_at(s, replay::after(at, 12));
-    let room = places(replay::half_word(s, replay::after(at, 20)));
     let list = &mut [77usize; 256][..room];
     let smooth = &mut [0.5f64; 256][..room];
     let listing = sharpen::sharpen_edges(c.n, c.p, h, normals, angle, smoothness, list, smooth);
