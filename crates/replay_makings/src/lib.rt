@@ -3,8 +3,8 @@ ghost use Prim.Native.Nat.{_≤_};
 use mesh::both;
 use replay_cases::Case;
 
-// Are there old tangents, and where the positions, the point normals and the face normals end in the list of floats, and
-// the halfedges in that of signed numbers.
+// Whether there are old tangents, and where the parts of the lists end: the positions, the point normals and the face
+// normals in the list of floats, the halfedges in that of signed numbers.
 pub struct Ends {
     pub old: bool,
     pub positions: usize,
