@@ -11,7 +11,7 @@ use Rattle.mesh.specs.Mesh.{numberAt, indexOf, field, nextHalfedge, prevHalfedg
 use Rattle.mesh.specs.Lowest.{lowestFrom, lowest}
 use Rattle.mesh.specs.Fold.{foldTo}
 use Rattle.mesh.specs.Check.{checkMesh}
-use Rattle.smoothing.specs.Directions.{vec3FromVec4, isDegenerate, safeNormalize, circularTangent}
+use Rattle.smoothing.specs.Directions.{vec3FromVec4, isDegenerate, directionBy, safeNormalize, circularTangent}
 use Rattle.smoothing.specs.Lists.{pointAt, tangentAt, putTangent, weightAt}
 use Rattle.smoothing.specs.Edges.{edgeVec}
 use Rattle.linearize.specs.Linearize.{withUnitWeight, linearized, linearizeEnd, linearizeEdge, linearizeAt, linearizeFlatTangents}
@@ -34,7 +34,7 @@ unfolding numberAt indexOf field nextHalfedge prevHalfedge lowestFrom lowest fol
 meshes = tt
 
 unfoldable pub calls : Unit {0}
-unfolding add3 sub3 neg3 div3 dotOf length2Of lengthOf vec3FromVec4 isDegenerate safeNormalize circularTangent pointAt tangentAt putTangent weightAt edgeVec withUnitWeight linearized linearizeEnd linearizeEdge linearizeAt linearizeFlatTangents noMarkedNeighbor validAt validTangents
+unfolding add3 sub3 neg3 div3 dotOf length2Of lengthOf vec3FromVec4 isDegenerate directionBy safeNormalize circularTangent pointAt tangentAt putTangent weightAt edgeVec withUnitWeight linearized linearizeEnd linearizeEdge linearizeAt linearizeFlatTangents noMarkedNeighbor validAt validTangents
 calls = tt
 
 unfoldable pub spreads : Unit {0}

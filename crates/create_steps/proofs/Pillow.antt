@@ -19,7 +19,8 @@ use Rattle.edges.specs.Smoothness.{addEntry, addEntryAt, entrySmoothness, isFla
 use Rattle.creases.specs.Creases.{addHalfedge, addCrease, creasesFrom, creasesAt, creaseOf}
 use Rattle.first.specs.First.{firstTangent, putFirstTangent, firstTangents}
 use Rattle.shapes.specs.Sharpen.{sharpened, sharpenTangent, meetingSmoothness, sharpenMeetingAt, sharpenMeeting}
-use Rattle.shapes.specs.Shapes.{tangentsOf, fixHalfedge, shapeCrease, shapeVert, shapeVerts}
+use Rattle.smoothing.specs.Makings.{tangentsOf}
+use Rattle.shapes.specs.Shapes.{fixHalfedge, shapeCrease, shapeVert, shapeVerts}
 use Rattle.create_steps.specs.Shape.{shapedTangents}
 
 -- start, end and pair of the halfedges 0 to 5

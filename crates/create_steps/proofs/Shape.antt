@@ -9,7 +9,8 @@ use lib.Ieee.{Float}
 use Rattle.faces.specs.Faces.{flatFaces}
 use Rattle.edges.specs.Smoothness.{smoothness}
 use Rattle.first.specs.First.{firstTangents}
-use Rattle.shapes.specs.Shapes.{tangentsOf, shapeVerts}
+use Rattle.smoothing.specs.Makings.{tangentsOf}
+use Rattle.shapes.specs.Shapes.{shapeVerts}
 use Rattle.create_steps.specs.Shape.{shapedTangents}
 
 pub shaped-is : (H R : List ℤ) (P N A : List Float) (I : List ℕ) (Q O : List Float) (old : Bool) (n p : ℕ) (F : List ℕ) (S T : List Float) (X : List ℕ) (m k : ℕ)

@@ -10,7 +10,8 @@ use Rattle.mesh.specs.Sound.{Sound}
 use Rattle.faces.specs.Faces.{flatFaces}
 use Rattle.edges.specs.Smoothness.{EntriesIn, smoothness}
 use Rattle.first.specs.First.{firstTangents}
-use Rattle.shapes.specs.Shapes.{Tangents, tangentsOf, shapeVerts}
+use Rattle.smoothing.specs.Makings.{Tangents, tangentsOf}
+use Rattle.shapes.specs.Shapes.{shapeVerts}
 
 -- What the lists must be for a call: T the tangents, X the fixed flags, F, S, C and L scratch. C has a place for each point, the other three one for each of the n halfedges.
 pub record CreateLists (H : List ℤ) (P N A : List Float) (I : List ℕ) (Q T : List Float) (X F : List ℕ) (S : List Float) (C L : List ℕ) (n : ℕ) : Type 0 where

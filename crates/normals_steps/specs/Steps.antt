@@ -15,8 +15,7 @@ use Rattle.smoothing.specs.Directions.{vec3FromVec4, equalNormals, circularTang
 use Rattle.smoothing.specs.Lists.{tangentAt, putTangent, weightAt, isMarkedInsideQuad}
 use Rattle.smoothing.specs.Edges.{edgeVec, tangentFromNormal}
 use Rattle.cycles.specs.Cycles.{nextAround}
-use Rattle.shapes.specs.Sharpen.{putCircularTangent}
-use Rattle.shapes.specs.Shapes.{Tangents, tangentsOf}
+use Rattle.smoothing.specs.Makings.{Tangents, alignTangents}
 use Rattle.normals_state.specs.declared.FaceEdges.{FaceEdges}
 use Rattle.normals_state.specs.declared.FaceEdges.the-variants.{NoEdge, OneEdge, TwoEdges, Spoiled}
 use Rattle.normals_state.specs.declared.StartHalfedge.{StartHalfedge}
@@ -149,13 +148,8 @@ fillStep H P A G last m e =
 unfoldable pub faceTangent : List ℤ → List Float → ℕ → ℕ → Vec3
 faceTangent H P a b = sub3 (normalizeOf (edgeVec H P a)) (normalizeOf (edgeVec H P b))
 
-unfoldable pub alignEdges : List ℤ → List Float → List Float → ℕ → ℕ → List Float
-alignEdges H P T a b =
-    let dir = faceTangent H P a b in
-    putCircularTangent H P (putCircularTangent H P T a dir) b (neg3 dir)
-
 unfoldable pub fixFaceEdges : List ℤ → List Float → Tangents → ℕ → ℕ → Tangents
-fixFaceEdges H P m a b = tangentsOf (alignEdges H P (m .tangents) a b) (set (set (m .fixed) a 1) b 1)
+fixFaceEdges H P m a b = alignTangents H P m a b (faceTangent H P a b)
 
 unfoldable pub alignFaceEdges : List ℤ → List Float → Tangents → FaceEdges → Tangents
 alignFaceEdges H P m NoEdge = m

@@ -7,10 +7,9 @@ ghost use lib.ListN.{length};
 ghost use lib.Ieee.{Float};
 ghost use Rattle.smoothing.specs.Edges.{EdgeIn, FacesIn};
 ghost use Rattle.cycles.specs.Cycles.{nextAround};
-ghost use Rattle.shapes.specs.Sharpen.{AlignIn};
-ghost use Rattle.shapes.specs.Shapes.{ShapeIn, tangentsOf};
+ghost use Rattle.smoothing.specs.Makings.{MakingIn, tangentsOf};
 ghost use Rattle.normals_state.specs.State.{halfedgeNormal};
-ghost use Rattle.normals_steps.specs.Steps.{FaceEdgesIn, signedDir, tangentBetween, withWeight, insideQuadWeight, missingNormalWeight, walkOf, tangentStep, normalStep, vertNormalStep, fillOf, fillTangent, putFillTangent, fillStep, faceTangent, alignEdges, fixFaceEdges, alignFaceEdges};
+ghost use Rattle.normals_steps.specs.Steps.{FaceEdgesIn, signedDir, tangentBetween, withWeight, insideQuadWeight, missingNormalWeight, walkOf, tangentStep, normalStep, vertNormalStep, fillOf, fillTangent, putFillTangent, fillStep, faceTangent, fixFaceEdges, alignFaceEdges};
 use linalg::Vec3;
 use linalg::Vec4;
 use normals_state::CycleState;
@@ -84,7 +83,7 @@ fn tangent_step(
     next: HalfedgeNormal,
     e: usize,
 ) -> CycleState
-    requires { ⌜ (e < n) × ShapeIn (now h) (now pos) (now t) (now fixed) n × (length (now «face_normals») ≡ n) ⌝ }
+    requires { ⌜ (e < n) × MakingIn (now h) (now pos) (now t) (now fixed) n × (length (now «face_normals») ≡ n) ⌝ }
     ensures { λ r. ⌜ ((G : List Float) → here ≡ halfedgeNormal (now («face_normals» .entry)) G e → next ≡ halfedgeNormal (now («face_normals» .entry)) G (nextAround (now (h .entry)) e) → walkOf (now (t .exit)) (now (fixed .exit)) r ≡ tangentStep (now (h .entry)) (now (pos .entry)) (now («face_normals» .entry)) G (walkOf (now (t .entry)) (now (fixed .entry)) state) e) ⌝ }
 {
     let equal = smoothing::equal_units(next.unit, here.unit);
@@ -112,7 +111,7 @@ pub fn normal_step(
     next: HalfedgeNormal,
     e: usize,
 ) -> CycleState
-    requires { ⌜ (e < n) × ShapeIn (now h) (now pos) (now t) (now fixed) n × (length (now «face_normals») ≡ n) × (length (now inside) ≡ n) ⌝ }
+    requires { ⌜ (e < n) × MakingIn (now h) (now pos) (now t) (now fixed) n × (length (now «face_normals») ≡ n) × (length (now inside) ≡ n) ⌝ }
     ensures { λ r. ⌜ ((G : List Float) → here ≡ halfedgeNormal (now («face_normals» .entry)) G e → next ≡ halfedgeNormal (now («face_normals» .entry)) G (nextAround (now (h .entry)) e) → walkOf (now (t .exit)) (now (fixed .exit)) r ≡ normalStep (now (h .entry)) (now (pos .entry)) (now («face_normals» .entry)) G (now (inside .entry)) (walkOf (now (t .entry)) (now (fixed .entry)) state) e) ⌝ }
 {
     let after = normals_state::next_state(state, here, next, e);
@@ -213,17 +212,7 @@ fn face_tangent(h: &[i32], pos: &[f64], a: usize, b: usize) -> Vec3
     linalg::sub(first, second)
 }
 
-// Both edges along one line.
-fn align_edges(h: &[i32], pos: &[f64], t: &mut [f64], a: usize, b: usize)
-    requires { ⌜ AlignIn (now h) (now pos) (now t) a b ⌝ }
-    ensures { λ _. ⌜ now (t .exit) ≡ alignEdges (now (h .entry)) (now (pos .entry)) (now (t .entry)) a b ⌝ }
-{
-    let dir = face_tangent(h, pos, a, b);
-    shapes::put_circular_tangent(h, pos, t, a, dir);
-    shapes::put_circular_tangent(h, pos, t, b, linalg::neg(dir));
-}
-
-// The same, and both are fixed.
+// Both edges along one line, and fixed.
 fn fix_face_edges(
     n: usize,
     h: &[i32],
@@ -233,12 +222,11 @@ fn fix_face_edges(
     a: usize,
     b: usize,
 )
-    requires { ⌜ (a < n) × (b < n) × ShapeIn (now h) (now pos) (now t) (now fixed) n ⌝ }
+    requires { ⌜ (a < n) × (b < n) × MakingIn (now h) (now pos) (now t) (now fixed) n ⌝ }
     ensures { λ _. ⌜ tangentsOf (now (t .exit)) (now (fixed .exit)) ≡ fixFaceEdges (now (h .entry)) (now (pos .entry)) (tangentsOf (now (t .entry)) (now (fixed .entry))) a b ⌝ }
 {
-    align_edges(h, pos, t, a, b);
-    fixed[a] = 1;
-    fixed[b] = 1;
+    let dir = face_tangent(h, pos, a, b);
+    smoothing::align_tangents(n, h, pos, t, fixed, a, b, dir);
 }
 
 // The same where there are two.
@@ -250,7 +238,7 @@ pub fn align_face_edges(
     fixed: &mut [u8],
     face_edges: FaceEdges,
 )
-    requires { ⌜ FaceEdgesIn n «face_edges» × ShapeIn (now h) (now pos) (now t) (now fixed) n ⌝ }
+    requires { ⌜ FaceEdgesIn n «face_edges» × MakingIn (now h) (now pos) (now t) (now fixed) n ⌝ }
     ensures { λ _. ⌜ tangentsOf (now (t .exit)) (now (fixed .exit)) ≡ alignFaceEdges (now (h .entry)) (now (pos .entry)) (tangentsOf (now (t .entry)) (now (fixed .entry))) «face_edges» ⌝ }
 {
     match face_edges {

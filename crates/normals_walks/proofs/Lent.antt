@@ -6,8 +6,7 @@ use mathlib.Core.List.{List}
 use lib.ListN.{length}
 use lib.IntN.{ℤ}
 use lib.Ieee.{Float}
-use Rattle.shapes.specs.Sharpen.{TangentsIn}
-use Rattle.shapes.specs.Shapes.{ShapeIn}
+use Rattle.smoothing.specs.Makings.{TangentsIn, MakingIn}
 use Rattle.normals_steps.specs.Steps.{NormalsIn, StepIn}
 use Rattle.normals_walks.specs.Walks.{FacesLists, VertsLists}
 
@@ -19,8 +18,8 @@ module _ {H : List ℤ} {P A G T : List Float} {n : ℕ} (w : NormalsIn H P A G 
   pub faces-lists : FacesLists H P A T n
   faces-lists = record { tangents = tangents-in refl; positions = w .positions; face-normals = w .state .face-normals }
 
-  pub shape-in : {T′ : List Float} {X : List ℕ} → length T′ ≡ length T → length X ≡ n → ShapeIn H P T′ X n
-  shape-in q x = record { tangents = tangents-in q; positions = w .positions; fixed = x }
+  pub making-in : {T′ : List Float} {X : List ℕ} → length T′ ≡ length T → length X ≡ n → MakingIn H P T′ X n
+  making-in q x = record { tangents = tangents-in q; positions = w .positions; fixed = x }
 
 -- what a point asks
 module _ {H : List ℤ} {P N A G : List Float} {Q F : List ℕ} {T : List Float} {X : List ℕ} {n : ℕ} (w : VertsLists H P N A G Q F T X n) where

@@ -11,10 +11,9 @@ use Rattle.linalg.specs.declared.Vec3.{Vec3}
 use Rattle.mesh.specs.Fold.{foldTo}
 use Rattle.mesh.specs.Sound.{Sound}
 use Rattle.smoothing.specs.Lists.{pointAt}
+use Rattle.smoothing.specs.Makings.{TangentsIn, Tangents, tangentsOf}
 use Rattle.cycles.specs.Cycles.{nextAround, vertexCycle, vertexCycleBack}
 use Rattle.faces.specs.Faces.{vertHalfedge}
-use Rattle.shapes.specs.Sharpen.{TangentsIn}
-use Rattle.shapes.specs.Shapes.{Tangents, tangentsOf}
 use Rattle.normals_state.specs.declared.StartHalfedge.{StartHalfedge}
 use Rattle.normals_state.specs.declared.StartHalfedge.the-variants.{NoneMissing, SomeMissing, StartAt}
 use Rattle.normals_state.specs.State.{getNormal, isZero, someMissing, startState}

@@ -16,12 +16,11 @@ use Rattle.smoothing.specs.Lists.{tangentAt, putTangent, weightAt, isMarkedInsi
 use Rattle.smoothing.specs.Edges.{edgeVec, tangentFromNormal}
 use Rattle.smoothing.proofs.Tangents.{length-put, weight-put-same, weight-put-other}
 use Rattle.cycles.specs.Cycles.{nextAround}
-use Rattle.shapes.specs.Sharpen.{putCircularTangent}
-use Rattle.shapes.specs.Shapes.{Tangents}
+use Rattle.smoothing.specs.Makings.{Tangents, putCircularTangent, alignTangents}
 use Rattle.normals_state.specs.declared.FaceEdges.{FaceEdges}
 use Rattle.normals_state.specs.declared.FaceEdges.the-variants.{NoEdge, OneEdge, TwoEdges, Spoiled}
 use Rattle.normals_state.specs.State.{getNormal, isZero, isMissing, nextStart, nextLast, nextState, spoilFaceEdges}
-use Rattle.normals_steps.specs.Steps.{tangentBetween, insideQuadWeight, missingNormalWeight, flagTangent, isInside, Walk, walkOf, tangentStep, normalStep, vertNormalStep, Fill, fillTangent, putFillTangent, fillStep, alignEdges, fixFaceEdges, alignFaceEdges}
+use Rattle.normals_steps.specs.Steps.{tangentBetween, insideQuadWeight, missingNormalWeight, flagTangent, isInside, Walk, walkOf, tangentStep, normalStep, vertNormalStep, Fill, fillTangent, putFillTangent, fillStep, fixFaceEdges, alignFaceEdges}
 use Rattle.normals_weights.specs.Weights.{MadeWeight, inside, circular}
 
 -- ---- a write at halfedge e
@@ -157,14 +156,14 @@ module _ (H : List ℤ) (P : List Float) where
   put-length T e dir = length-put T e _
 
   pub align-length : (m : Tangents) (f : FaceEdges) → length (alignFaceEdges H P m f .tangents) ≡ length (m .tangents)
-  unfolding alignFaceEdges fixFaceEdges alignEdges
+  unfolding alignFaceEdges fixFaceEdges alignTangents
   align-length m NoEdge = refl
   align-length m (OneEdge a) = refl
   align-length m (TwoEdges a b) = put-length _ b _ ∙ put-length (m .tangents) a _
   align-length m Spoiled = refl
 
   pub align-keeps : (m : Tangents) (f : FaceEdges) (d : ℕ) → d * 4 + 4 ≤ length (m .tangents) → Made (m .tangents) d → Made (alignFaceEdges H P m f .tangents) d
-  unfolding alignFaceEdges fixFaceEdges alignEdges
+  unfolding alignFaceEdges fixFaceEdges alignTangents
   align-keeps m NoEdge d h k = k
   align-keeps m (OneEdge a) d h k = k
   align-keeps m (TwoEdges a b) d h k =

@@ -7,15 +7,14 @@ use lib.ListN.{length}
 use lib.IntN.{ℤ}
 use lib.Ieee.{Float}
 use Rattle.mesh.specs.Sound.{Sound}
-use Rattle.smoothing.proofs.Edges.{edge-in}
+use Rattle.smoothing.specs.Makings.{MakingIn}
 use Rattle.creases.specs.declared.Crease.{Crease}
 use Rattle.creases.specs.declared.Crease.the-variants.{NoCrease, OneEnd, Through, Meeting}
 use Rattle.creases.specs.Creases.{creasesAt, firstCrease, creaseOf}
 use Rattle.creases.specs.Linked.{LinkedAll}
 use Rattle.creases.proofs.Lent.{crease-lists-in}
 use Rattle.creases.proofs.Points.{through-in, meeting-in}
-use Rattle.shapes.specs.Sharpen.{TangentsIn, AlignIn}
-use Rattle.shapes.specs.Shapes.{ShapeIn, CreaseIn, VertIn}
+use Rattle.shapes.specs.Shapes.{CreaseIn, VertIn}
 
 module _ {H : List ℤ} {n p : ℕ} (s : Sound H n p) where
   pub vert-in : {P : List Float} {F : List ℕ} {S : List Float} {A L : List ℕ} {T : List Float} {X : List ℕ} → length P ≡ p * 3 → length F ≡ n → length S ≡ n → length A ≡ p → length L ≡ n → length T ≡ n * 4 → length X ≡ n → LinkedAll H S A L n → VertIn H P F S A L T X n
@@ -29,28 +28,12 @@ module _ {H : List ℤ} {n p : ℕ} (s : Sound H n p) where
   crease-in S v first (Meeting m) q e = subst (λ (z : ℕ). z < n) (sym q) (meeting-in s S v m (sym e) .0)
 
 -- lists that keep their lengths
-pub tangents-still : {H : List ℤ} {T T′ : List Float} {n : ℕ} → length T′ ≡ length T → TangentsIn H T n → TangentsIn H T′ n
-tangents-still q w = record { points = w .points; sound = w .sound; tangents = q ∙ w .tangents }
-
 pub vert-still : {H : List ℤ} {P : List Float} {F : List ℕ} {S : List Float} {A L : List ℕ} {T T′ : List Float} {X X′ : List ℕ} {n : ℕ} → length T′ ≡ length T → length X′ ≡ length X → VertIn H P F S A L T X n → VertIn H P F S A L T′ X′ n
 vert-still q r w = record { creases = w .creases; positions = w .positions; flat = w .flat; tangents = q ∙ w .tangents; fixed = r ∙ w .fixed }
 
--- what a walk asks at each halfedge
-pub tangent-in : {H : List ℤ} {T : List Float} {n : ℕ} → TangentsIn H T n → (T′ : List Float) → length T′ ≡ length T → (e : ℕ) → e < n → e * 4 + 4 ≤ length T′
-tangent-in w T′ q e h = omega (arith, w .tangents)
-
--- what `align_tangents` asks
-pub align-in : {H : List ℤ} {P T : List Float} {X : List ℕ} {n : ℕ} → ShapeIn H P T X n → (a b : ℕ) → a < n → b < n → AlignIn H P T a b
-align-in w a b h k = record {
-  first-edge = edge-in _ _ _ _ (w .tangents .sound) (w .positions) a h;
-  second-edge = edge-in _ _ _ _ (w .tangents .sound) (w .positions) b k;
-  first-in = omega (arith, w .tangents .tangents);
-  second-in = omega (arith, w .tangents .tangents);
-}
-
 -- what the cases ask at a point
-pub shape-in : {H : List ℤ} {P : List Float} {F : List ℕ} {S : List Float} {A L : List ℕ} {T : List Float} {X : List ℕ} {n : ℕ} → VertIn H P F S A L T X n → ShapeIn H P T X n
-shape-in w = record {
+pub making-in : {H : List ℤ} {P : List Float} {F : List ℕ} {S : List Float} {A L : List ℕ} {T : List Float} {X : List ℕ} {n : ℕ} → VertIn H P F S A L T X n → MakingIn H P T X n
+making-in w = record {
   tangents = record { points = _; sound = w .creases .lists .sound; tangents = w .tangents };
   positions = w .positions;
   fixed = w .fixed;

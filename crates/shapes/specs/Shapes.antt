@@ -12,15 +12,10 @@ use Rattle.creases.specs.declared.Crease.{Crease}
 use Rattle.creases.specs.declared.Crease.the-variants.{NoCrease, OneEnd, Through, Meeting}
 use Rattle.creases.specs.Creases.{creasesAt, firstCrease, creaseOf}
 use Rattle.creases.specs.Linked.{CreaseLists}
-use Rattle.shapes.specs.Sharpen.{TangentsIn, alignTangents, sharpenSides, sharpenMeeting}
+use Rattle.smoothing.specs.Makings.{Tangents, tangentsOf, alignTangents}
+use Rattle.shapes.specs.Sharpen.{newTangent, sharpenSides, sharpenMeeting}
 
 -- ---- what the lists must be for a call: `vert-in` of `proofs/Lent.antt` gives it on an accepted mesh
-
--- a position for each point, a tangent and a fixed flag for each halfedge
-pub record ShapeIn (H : List ℤ) (P T : List Float) (X : List ℕ) (n : ℕ) : Type 0 where
-  pub tangents : TangentsIn H T n
-  pub positions : length P ≡ tangents .points * 3
-  pub fixed : length X ≡ n
 
 -- the halfedges that a case names are halfedges
 abbrev pub CreaseIn : ℕ → ℕ → Crease → Type 0
@@ -37,15 +32,6 @@ pub record VertIn (H : List ℤ) (P : List Float) (F : List ℕ) (S : List Float
   pub tangents : length T ≡ n * 4
   pub fixed : length X ≡ n
 
--- ---- what the loop over the points changes: `halfedge_tangent`, and `fixed_halfedge` with a 1 for each halfedge that is fixed
-
-pub record Tangents : Type 0 where
-  pub tangents : List Float
-  pub fixed : List ℕ
-
-abbrev pub tangentsOf : List Float → List ℕ → Tangents
-tangentsOf T X = record { tangents = T; fixed = X }
-
 -- ---- the cases
 
 -- no crease: the flags with halfedge e fixed, the point's lowest; n stands for none
@@ -55,7 +41,8 @@ fixHalfedge n X e = cond (ltb e n) (set X e 1) X
 -- a crease through the point: both halfedges are fixed and aligned, the others of the vertex cycle sharpened by side
 unfoldable pub shapeThrough : List ℤ → List Float → ℕ → Tangents → ℕ → ℕ → Float → Float → Tangents
 shapeThrough H P n m first second between beyond =
-    tangentsOf (sharpenSides H n (alignTangents H P (m .tangents) first second) first second between beyond) (set (set (m .fixed) first 1) second 1)
+    let aligned = alignTangents H P m first second (newTangent (m .tangents) first second) in
+    tangentsOf (sharpenSides H n (aligned .tangents) first second between beyond) (aligned .fixed)
 
 -- a meeting: the vertex cycle of the first crease is sharpened
 unfoldable pub shapeMeeting : List ℤ → List ℕ → ℕ → Tangents → ℕ → Float → Tangents

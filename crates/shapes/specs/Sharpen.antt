@@ -10,34 +10,20 @@ use lib.Ieee.{Float, eq}
 use Rattle.float.specs.Ops.{_⊗_, zero}
 use Rattle.linalg.specs.declared.Vec3.{Vec3}
 use Rattle.linalg.specs.declared.Vec4.{Vec4}
-use Rattle.linalg.specs.Vec.{sub3, neg3, normalizeOf}
+use Rattle.linalg.specs.Vec.{sub3, normalizeOf}
 use Rattle.mesh.specs.Mesh.{pairedHalfedge}
-use Rattle.mesh.specs.Sound.{Sound}
-use Rattle.smoothing.specs.Directions.{vec3FromVec4, circularTangent}
+use Rattle.smoothing.specs.Directions.{vec3FromVec4}
 use Rattle.smoothing.specs.Lists.{tangentAt, putTangent, isMarkedInsideQuad}
-use Rattle.smoothing.specs.Edges.{EdgeIn, edgeVec}
+use Rattle.smoothing.specs.Makings.{TangentsIn}
 use Rattle.cycles.specs.Cycles.{vertexCycle}
 use Rattle.faces.specs.Faces.{isFlat}
 
--- ---- what the lists must be for a call: `shape-in` and `align-in` of `proofs/Lent.antt` give it from `VertIn`
+-- ---- what the lists must be for a call: `making-in` of `proofs/Lent.antt` give it from `VertIn`
 
--- a sound mesh, and a tangent for each of its n halfedges
-pub record TangentsIn (H : List ℤ) (T : List Float) (n : ℕ) : Type 0 where
-  pub points : ℕ
-  pub sound : Sound H n points
-  pub tangents : length T ≡ n * 4
-
--- and a flag for each triangle, in a list with a place for each halfedge
+-- a sound mesh, a tangent for each of its n halfedges, and a flag for each triangle, in a list with a place for each halfedge
 pub record MeetingIn (H : List ℤ) (F : List ℕ) (T : List Float) (n : ℕ) : Type 0 where
   pub tangents : TangentsIn H T n
   pub flat : length F ≡ n
-
--- two halfedges with both ends and a tangent each
-pub record AlignIn (H : List ℤ) (P T : List Float) (first second : ℕ) : Type 0 where
-  pub first-edge : EdgeIn H P first
-  pub second-edge : EdgeIn H P second
-  pub first-in : first * 4 + 4 ≤ length T
-  pub second-in : second * 4 + 4 ≤ length T
 
 -- ---- `sharpen_tangent`
 
@@ -50,19 +36,9 @@ sharpenTangent T e s = putTangent T e (sharpened s (tangentAt T e))
 
 -- ---- a crease through a point, of the halfedges `first` and `second`
 
--- `circular_tangent` with the edge of halfedge e, stored at e
-unfoldable pub putCircularTangent : List ℤ → List Float → List Float → ℕ → Vec3 → List Float
-putCircularTangent H P T e dir = putTangent T e (circularTangent dir (edgeVec H P e))
-
 -- `new_tangent`
 unfoldable pub newTangent : List Float → ℕ → ℕ → Vec3
 newTangent T first second = normalizeOf (sub3 (vec3FromVec4 (tangentAt T first)) (vec3FromVec4 (tangentAt T second)))
-
--- Both halfedges along one line. The Rust takes both edges from `pos`, the start of `first`: each starts at the point, so its own edge vector is the same.
-unfoldable pub alignTangents : List ℤ → List Float → List Float → ℕ → ℕ → List Float
-alignTangents H P T first second =
-    let dir = newTangent T first second in
-    putCircularTangent H P (putCircularTangent H P T first dir) second (neg3 dir)
 
 -- what the loop round the vertex cycle changes: the tangents, and `smoothness`, which is that of the side it is on
 pub record Sides : Type 0 where

@@ -3,9 +3,9 @@ ghost use mathlib.Core.Path.{_≡_};
 ghost use Prim.Native.Nat.{_+_, _*_, _≤_, _<_};
 ghost use lib.ListN.{length};
 ghost use Rattle.faces.specs.Faces.{FlatIn};
-ghost use Rattle.smoothing.specs.Edges.{EdgeIn};
-ghost use Rattle.shapes.specs.Sharpen.{TangentsIn, MeetingIn, AlignIn, sharpened, sharpenTangent, putCircularTangent, newTangent, alignTangents, sidesOf, sharpenSide, sharpenSides, meetingSmoothness, sharpenMeetingAt, sharpenMeeting};
-ghost use Rattle.shapes.specs.Shapes.{ShapeIn, CreaseIn, VertIn, tangentsOf, fixHalfedge, shapeThrough, shapeCrease, shapeVert, shapeVerts};
+ghost use Rattle.smoothing.specs.Makings.{TangentsIn, MakingIn, tangentsOf};
+ghost use Rattle.shapes.specs.Sharpen.{MeetingIn, sharpened, sharpenTangent, newTangent, sidesOf, sharpenSide, sharpenSides, meetingSmoothness, sharpenMeetingAt, sharpenMeeting};
+ghost use Rattle.shapes.specs.Shapes.{CreaseIn, VertIn, fixHalfedge, shapeThrough, shapeCrease, shapeVert, shapeVerts};
 use creases::Crease;
 use linalg::Vec3;
 use linalg::Vec4;
@@ -31,15 +31,6 @@ fn sharpen_tangent(t: &mut [f64], e: usize, s: f64)
 {
     let old = smoothing::tangent_at(t, e);
     smoothing::put_tangent(t, e, sharpened(old, s));
-}
-
-// The circular tangent of halfedge e that leaves in the direction `dir`.
-pub fn put_circular_tangent(h: &[i32], pos: &[f64], t: &mut [f64], e: usize, dir: Vec3)
-    requires { ⌜ (e * 4 + 4 ≤ length (now t)) × EdgeIn (now h) (now pos) e ⌝ }
-    ensures { λ _. ⌜ now (t .exit) ≡ putCircularTangent (now (h .entry)) (now (pos .entry)) (now (t .entry)) e dir ⌝ }
-{
-    let tangent = smoothing::circular_tangent(dir, smoothing::edge_vec(h, pos, e));
-    smoothing::put_tangent(t, e, tangent);
 }
 
 // The line of a crease through a point, in the direction of `first`.
@@ -141,16 +132,6 @@ fn sharpen_meeting(n: usize, h: &[i32], flat: &[u8], t: &mut [f64], first: usize
 
 // ---- a point
 
-// Both halfedges of a crease through a point along one line.
-fn align_tangents(h: &[i32], pos: &[f64], t: &mut [f64], first: usize, second: usize)
-    requires { ⌜ AlignIn (now h) (now pos) (now t) first second ⌝ }
-    ensures { λ _. ⌜ now (t .exit) ≡ alignTangents (now (h .entry)) (now (pos .entry)) (now (t .entry)) first second ⌝ }
-{
-    let dir = new_tangent(t, first, second);
-    put_circular_tangent(h, pos, t, first, dir);
-    put_circular_tangent(h, pos, t, second, linalg::neg(dir));
-}
-
 // A crease through a point.
 fn shape_through(
     n: usize,
@@ -163,12 +144,11 @@ fn shape_through(
     between: f64,
     beyond: f64,
 )
-    requires { ⌜ (first < n) × (second < n) × ShapeIn (now h) (now pos) (now t) (now fixed) n ⌝ }
+    requires { ⌜ (first < n) × (second < n) × MakingIn (now h) (now pos) (now t) (now fixed) n ⌝ }
     ensures { λ _. ⌜ tangentsOf (now (t .exit)) (now (fixed .exit)) ≡ shapeThrough (now (h .entry)) (now (pos .entry)) n (tangentsOf (now (t .entry)) (now (fixed .entry))) first second between beyond ⌝ }
 {
-    fixed[first] = 1;
-    fixed[second] = 1;
-    align_tangents(h, pos, t, first, second);
+    let dir = new_tangent(t, first, second);
+    smoothing::align_tangents(n, h, pos, t, fixed, first, second, dir);
     sharpen_sides(n, h, t, first, second, between, beyond);
 }
 
@@ -194,7 +174,7 @@ fn shape_crease(
     first: usize,
     crease: Crease,
 )
-    requires { ⌜ CreaseIn n first crease × (length (now flat) ≡ n) × ShapeIn (now h) (now pos) (now t) (now fixed) n ⌝ }
+    requires { ⌜ CreaseIn n first crease × (length (now flat) ≡ n) × MakingIn (now h) (now pos) (now t) (now fixed) n ⌝ }
     ensures { λ _. ⌜ tangentsOf (now (t .exit)) (now (fixed .exit)) ≡ shapeCrease (now (h .entry)) (now (pos .entry)) (now (flat .entry)) n first (tangentsOf (now (t .entry)) (now (fixed .entry))) crease ⌝ }
 {
     match crease {

@@ -4,5 +4,5 @@ use Rattle.linalg.specs.declared.Vec3.{Vec3}
 use Rattle.smoothing.specs.Directions.{safeNormalize, equalNormals, equalUnits}
 
 pub equal-by-units : (a b : Vec3) → equalNormals a b ≡ equalUnits (safeNormalize a) (safeNormalize b)
-unfolding equalNormals equalUnits
+unfolding equalNormals
 equal-by-units a b = refl

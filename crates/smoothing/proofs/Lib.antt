@@ -2,3 +2,4 @@
 pub mod Directions
 pub mod Tangents
 pub mod Edges
+pub mod Makings

@@ -17,15 +17,13 @@ vec3FromVec4 v = record { x = v .x; y = v .y; z = v .z }
 unfoldable pub isDegenerate : Float → Bool
 isDegenerate len2 = le len2 zero || not (isFinite len2)
 
--- `safe_normalize`
-unfoldable pub safeNormalize : Vec3 → Vec3
-safeNormalize v =
-    let len2 = dotOf v v in
-    cond (isDegenerate len2) (record { x = zero; y = zero; z = zero }) (div3 v (sqrtOf len2))
-
--- the direction of v by its squared length and its length: `safeNormalize v` where these are `dotOf v v` and the root of that
+-- the end of `safe_normalize`: the direction of v, by its squared length and its length
 unfoldable pub directionBy : Vec3 → Float → Float → Vec3
 directionBy v len2 len = cond (isDegenerate len2) (record { x = zero; y = zero; z = zero }) (div3 v len)
+
+-- `safe_normalize`
+unfoldable pub safeNormalize : Vec3 → Vec3
+safeNormalize v = let len2 = dotOf v v in directionBy v len2 (sqrtOf len2)
 
 -- `wrap`
 unfoldable pub wrapOf : Float → Float
@@ -37,13 +35,13 @@ angleBetween a b =
     let d = dotOf a b in
     cond (le one d) zero (cond (le d (neg one)) pi (acosOf d))
 
--- `equal_normals`, with the bound 0.9999
-unfoldable pub equalNormals : Vec3 → Vec3 → Bool
-equalNormals a b = lt (lit 0x3fef_ff2e_48e8_a71e) (dotOf (safeNormalize a) (safeNormalize b))
-
--- the comparison of `equal_normals` on two unit vectors: `equalNormals a b` where these are `safeNormalize a` and `safeNormalize b`
+-- the comparison of `equal_normals`, of the unit vectors, with the bound 0.9999
 unfoldable pub equalUnits : Vec3 → Vec3 → Bool
 equalUnits u v = lt (lit 0x3fef_ff2e_48e8_a71e) (dotOf u v)
+
+-- `equal_normals`
+unfoldable pub equalNormals : Vec3 → Vec3 → Bool
+equalNormals a b = equalUnits (safeNormalize a) (safeNormalize b)
 
 -- `circular_tangent`
 unfoldable pub circularTangent : Vec3 → Vec3 → Vec4

@@ -1,11 +1,12 @@
 // The leaves of src/smoothing.rs: directions, angles and circular tangents, each the Rust's, operation by operation; and
-// tangents, points and normals as values of flat lists.
+// tangents, points and normals as values of flat lists; and what both makings do to two halfedges of a point.
 ghost use mathlib.Core.Path.{_≡_};
 ghost use Prim.Native.Nat.{_+_, _*_, _≤_, _<_, _^_};
 ghost use lib.ListN.{length};
 ghost use Rattle.smoothing.specs.Directions.{vec3FromVec4, isDegenerate, directionBy, safeNormalize, wrapOf, angleBetween, equalNormals, equalUnits, circularTangent};
 ghost use Rattle.smoothing.specs.Lists.{pointAt, tangentAt, putTangent, weightAt, isMarkedInsideQuad};
 ghost use Rattle.smoothing.specs.Edges.{EdgeIn, FacesIn, QuadIn, edgeVec, biTangent, tangentFromNormal, sameFaceAcross, noOtherNeighbor, isInsideQuad};
+ghost use Rattle.smoothing.specs.Makings.{MakingIn, tangentsOf, putCircularTangent, alignTangents};
 use linalg::Vec3;
 use linalg::Vec4;
 
@@ -33,21 +34,7 @@ fn is_degenerate(len2: f64) -> bool
     !float::is_finite(len2)
 }
 
-pub fn safe_normalize(v: Vec3) -> Vec3
-    ensures { λ r. ⌜ r ≡ safeNormalize v ⌝ }
-{
-    let len2 = linalg::dot(v, v);
-    if is_degenerate(len2) {
-        return Vec3 {
-            x: 0.0,
-            y: 0.0,
-            z: 0.0,
-        };
-    }
-    linalg::divide(v, sqrt::sqrt(len2))
-}
-
-// The direction of v, as `safe_normalize` gives it, where its squared length and its length are known.
+// The direction of v, where its squared length and its length are known.
 fn direction_by(v: Vec3, len2: f64, len: f64) -> Vec3
     ensures { λ r. ⌜ r ≡ directionBy v len2 len ⌝ }
 {
@@ -59,6 +46,13 @@ fn direction_by(v: Vec3, len2: f64, len: f64) -> Vec3
         };
     }
     linalg::divide(v, len)
+}
+
+pub fn safe_normalize(v: Vec3) -> Vec3
+    ensures { λ r. ⌜ r ≡ safeNormalize v ⌝ }
+{
+    let len2 = linalg::dot(v, v);
+    direction_by(v, len2, sqrt::sqrt(len2))
 }
 
 pub fn wrap(radians: f64) -> f64
@@ -86,18 +80,17 @@ pub fn angle_between(a: Vec3, b: Vec3) -> f64
     }
 }
 
-// The two normals agree within a tolerance, about 0.81 degrees.
-pub fn equal_normals(a: Vec3, b: Vec3) -> bool
-    ensures { λ r. ⌜ r ≡ equalNormals a b ⌝ }
-{
-    linalg::dot(safe_normalize(a), safe_normalize(b)) > 0.9999
-}
-
-// The same, where the unit vectors of the two normals are known.
+// Do two normals agree within a tolerance, about 0.81 degrees? Of their unit vectors.
 pub fn equal_units(u: Vec3, v: Vec3) -> bool
     ensures { λ r. ⌜ r ≡ equalUnits u v ⌝ }
 {
     linalg::dot(u, v) > 0.9999
+}
+
+pub fn equal_normals(a: Vec3, b: Vec3) -> bool
+    ensures { λ r. ⌜ r ≡ equalNormals a b ⌝ }
+{
+    equal_units(safe_normalize(a), safe_normalize(b))
 }
 
 // The length of the edge is worked out once, for its direction and for itself.
@@ -255,4 +248,33 @@ pub fn is_inside_quad(h: &[i32], refs: &[i32], t: &[f64], old: bool, e: usize) -
         return false;
     }
     no_other_neighbor(h, refs, mesh::paired_halfedge(h, e))
+}
+
+// The circular tangent of halfedge e that leaves in the direction `dir`.
+fn put_circular_tangent(h: &[i32], pos: &[f64], t: &mut [f64], e: usize, dir: Vec3)
+    requires { ⌜ (e * 4 + 4 ≤ length (now t)) × EdgeIn (now h) (now pos) e ⌝ }
+    ensures { λ _. ⌜ now (t .exit) ≡ putCircularTangent (now (h .entry)) (now (pos .entry)) (now (t .entry)) e dir ⌝ }
+{
+    let tangent = circular_tangent(dir, edge_vec(h, pos, e));
+    put_tangent(t, e, tangent);
+}
+
+// Two halfedges of a point along one line, the first in the direction `dir`, and fixed.
+pub fn align_tangents(
+    n: usize,
+    h: &[i32],
+    pos: &[f64],
+    t: &mut [f64],
+    fixed: &mut [u8],
+    first: usize,
+    second: usize,
+    dir: Vec3,
+)
+    requires { ⌜ (first < n) × (second < n) × MakingIn (now h) (now pos) (now t) (now fixed) n ⌝ }
+    ensures { λ _. ⌜ tangentsOf (now (t .exit)) (now (fixed .exit)) ≡ alignTangents (now (h .entry)) (now (pos .entry)) (tangentsOf (now (t .entry)) (now (fixed .entry))) first second dir ⌝ }
+{
+    put_circular_tangent(h, pos, t, first, dir);
+    put_circular_tangent(h, pos, t, second, linalg::neg(dir));
+    fixed[first] = 1;
+    fixed[second] = 1;
 }

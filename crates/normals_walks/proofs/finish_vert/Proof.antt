@@ -1,6 +1,6 @@
 -- `normals_walks::finish_vert` meets its contract: each way is what the test picks. Assumes nothing.
 use Rattle.normals_walks.specs.Walks.{finishVert}
-use Rattle.normals_walks.proofs.Lent.{faces-lists, shape-in}
+use Rattle.normals_walks.proofs.Lent.{faces-lists, making-in}
 use mathlib.Core.Path.{_∙_}
 use Rattle.normals_walks.proofs.finish_vert.Statement.{statement}
 use Rattle.normals_walks.proofs.finish_vert.Tie as tie
@@ -31,7 +31,7 @@ fill-missing-requires : tie.Need-fill-missing-requires
 fill-missing-requires c κs = let p = c .before .before .before .before .before .before .before .before .before .before .before .before .pre in (p .2 .start-halfedge, p .3)
 
 align-face-edges-requires : tie.Need-align-face-edges-requires
-align-face-edges-requires c κs = let p = c .before .before .before .before .before .before .before .before .before .before .before .before .before .before .before .before .before .pre in (p .2 .face-edges, shape-in (p .3) (c .before .before .before .before .fill-missing .kept .1 .1 .1 .1 .1 .1 .0) (p .4))
+align-face-edges-requires c κs = let p = c .before .before .before .before .before .before .before .before .before .before .before .before .before .before .before .before .before .pre in (p .2 .face-edges, making-in (p .3) (c .before .before .before .before .fill-missing .kept .1 .1 .1 .1 .1 .1 .0) (p .4))
 
 same-length-2 : tie.Need-same-length-2
 same-length-2 c = c .before .before .before .before .align-face-edges .kept .1 .1 .1 .0 ∙ c .before .before .before .before .before .before .before .before .before .fill-missing .kept .1 .1 .1 .1 .1 .1 .0

@@ -1,6 +1,6 @@
 -- `normals_walks::normal_walk` meets its contract: a walk once round a vertex cycle. The invariant: what is left of the fold gives the whole, and the normal that is carried is the current halfedge's. Assumes nothing.
 use Rattle.normals_walks.specs.Walks.{normalWalk}
-use Rattle.normals_walks.proofs.Lent.{shape-in}
+use Rattle.normals_walks.proofs.Lent.{making-in}
 use Rattle.normals_steps.specs.Steps.{StateIn, walkOf, normalStep}
 use Rattle.normals_steps.proofs.Lent.{state-start, state-after}
 use Rattle.normals_state.specs.State.{halfedgeNormal, startState}
@@ -68,7 +68,7 @@ normal-step-requires : tie.Need-normal-step-requires Inv-loop μ-loop
 normal-step-requires c κs =
     let l = c .before .before .before .before .loop in
     let w = c .before .before .before .before .before .before .before .before .before .before .before .before .before .pre .1 in
-    (l .inv .0 .below, shape-in (w .lists) (l .inv .1) (l .inv .2 ∙ w .fixed), w .lists .state .face-normals, w .inside)
+    (l .inv .0 .below, making-in (w .lists) (l .inv .1) (l .inv .2 ∙ w .fixed), w .lists .state .face-normals, w .inside)
 
 loop-less : tie.Need-loop-less Inv-loop μ-loop
 loop-less c = around-less (next-permutes (c .before .before .before .before .before .before .before .before .before .before .before .before .before .before .before .before .before .before .before .pre .1 .lists .state .missing .sound)) (c .before .before .before .before .before .before .before .before .before .before .loop .inv .0) (c .before .before .before .before .before .before .before .before .before .next-around .ensures) (c .if1 .left)

@@ -1,5 +1,5 @@
 -- `shapes::shape_vert` meets its contract: three calls in a row. Assumes nothing.
-use Rattle.shapes.proofs.Lent.{shape-in, crease-in}
+use Rattle.shapes.proofs.Lent.{making-in, crease-in}
 use Rattle.shapes.specs.Shapes.{shapeVert}
 use Rattle.creases.proofs.Points.{first-is}
 use native.Mathlib.Omega.{arith}
@@ -19,7 +19,7 @@ shape-crease-requires c κs =
     let w = z .pre .1 in (
       crease-in (w .creases .lists .sound) (z .args .smooth .now) (z .args .v) _ _ (c .before .before .before .first-crease .ensures ∙ first-is (w .creases) (z .args .v) (z .pre .0)) (c .before .before .crease-at .ensures),
       w .flat,
-      shape-in w,
+      making-in w,
     )
 
 same-length : tie.Need-same-length

@@ -12,7 +12,7 @@ unfolding lengthOf length2Of
 length-is v = refl
 
 direction-is : (v : Vec3) → safeNormalize v ≡ directionBy v (dotOf v v) (sqrtOf (dotOf v v))
-unfolding safeNormalize directionBy
+unfolding safeNormalize
 direction-is v = refl
 
 returns : tie.Need-returns

@@ -1,8 +1,8 @@
--- `shapes::put_circular_tangent` meets its contract: the code is the definition. Assumes nothing.
-use Rattle.shapes.specs.Sharpen.{putCircularTangent}
+-- `smoothing::put_circular_tangent` meets its contract: the code is the definition. Assumes nothing.
+use Rattle.smoothing.specs.Makings.{putCircularTangent}
 use borrow.Author.Needs.{needs}
-use Rattle.shapes.proofs.put_circular_tangent.Statement.{statement}
-use Rattle.shapes.proofs.put_circular_tangent.Tie as tie
+use Rattle.smoothing.proofs.put_circular_tangent.Statement.{statement}
+use Rattle.smoothing.proofs.put_circular_tangent.Tie as tie
 
 edge-vec-requires : tie.Need-edge-vec-requires
 edge-vec-requires c κs = search needs
