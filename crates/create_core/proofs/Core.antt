@@ -6,7 +6,7 @@ use mathlib.Core.Bool.{Bool}
 use lib.ListN.{replicate}
 use lib.IntN.{ℤ}
 use lib.Ieee.{Float}
-use Rattle.smoothing.specs.Makings.{Tangents, tangentsOf}
+use Rattle.makings.specs.Makings.{Tangents, tangentsOf}
 use Rattle.create_steps.specs.Shape.{shapedTangents}
 use Rattle.linearize.specs.Linearize.{linearizeFlatTangents}
 use Rattle.distribute.specs.Distribute.{spreadTangents}

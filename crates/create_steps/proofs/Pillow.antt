@@ -19,7 +19,7 @@ use Rattle.edges.specs.Smoothness.{addEntry, addEntryAt, entrySmoothness, isFla
 use Rattle.creases.specs.Creases.{addHalfedge, addCrease, creasesFrom, creasesAt, creaseOf}
 use Rattle.first.specs.First.{firstTangent, putFirstTangent, firstTangents}
 use Rattle.shapes.specs.Sharpen.{sharpened, sharpenTangent, meetingSmoothness, sharpenMeetingAt, sharpenMeeting}
-use Rattle.smoothing.specs.Makings.{tangentsOf}
+use Rattle.makings.specs.Makings.{tangentsOf}
 use Rattle.shapes.specs.Shapes.{fixHalfedge, shapeCrease, shapeVert, shapeVerts}
 use Rattle.create_steps.specs.Shape.{shapedTangents}
 

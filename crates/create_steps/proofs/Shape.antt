@@ -9,7 +9,7 @@ use lib.Ieee.{Float}
 use Rattle.faces.specs.Faces.{flatFaces}
 use Rattle.edges.specs.Smoothness.{smoothness}
 use Rattle.first.specs.First.{firstTangents}
-use Rattle.smoothing.specs.Makings.{tangentsOf}
+use Rattle.makings.specs.Makings.{tangentsOf}
 use Rattle.shapes.specs.Shapes.{shapeVerts}
 use Rattle.create_steps.specs.Shape.{shapedTangents}
 

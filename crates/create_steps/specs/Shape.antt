@@ -10,7 +10,7 @@ use Rattle.mesh.specs.Sound.{Sound}
 use Rattle.faces.specs.Faces.{flatFaces}
 use Rattle.edges.specs.Smoothness.{EntriesIn, smoothness}
 use Rattle.first.specs.First.{firstTangents}
-use Rattle.smoothing.specs.Makings.{Tangents, tangentsOf}
+use Rattle.makings.specs.Makings.{Tangents, tangentsOf}
 use Rattle.shapes.specs.Shapes.{shapeVerts}
 
 -- What the lists must be for a call: T the tangents, X the fixed flags, F, S, C and L scratch. C has a place for each point, the other three one for each of the n halfedges.

@@ -1,7 +1,7 @@
 // `create_tangents` up to straightening and spreading: the first tangents, the creases, and what they do at each point.
 ghost use mathlib.Core.Path.{_≡_};
 ghost use lib.ListN.{length};
-ghost use Rattle.smoothing.specs.Makings.{tangentsOf};
+ghost use Rattle.makings.specs.Makings.{tangentsOf};
 ghost use Rattle.create_steps.specs.Shape.{CreateLists, shapedTangents};
 
 // The tangents and the fixed flags, whatever the flags and the scratch lists held: `flat`, `smooth` and `link` with a place for

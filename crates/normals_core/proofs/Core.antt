@@ -8,7 +8,7 @@ use lib.IntN.{ℤ}
 use lib.Ieee.{Float}
 use Rattle.float.specs.Ops.{zero}
 use Rattle.mesh.specs.Fold.{foldTo}
-use Rattle.smoothing.specs.Makings.{Tangents, tangentsOf}
+use Rattle.makings.specs.Makings.{Tangents, tangentsOf}
 use Rattle.normals_walks.specs.Walks.{normalsVerts}
 use Rattle.distribute.specs.Distribute.{spreadTangents}
 use Rattle.normals_core.specs.Core.{insideQuadAt, insideQuads, normalTangents, createTangentsFromNormals}

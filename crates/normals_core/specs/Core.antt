@@ -10,7 +10,7 @@ use Rattle.float.specs.Ops.{zero}
 use Rattle.mesh.specs.Fold.{foldTo}
 use Rattle.mesh.specs.Sound.{Sound}
 use Rattle.smoothing.specs.Edges.{isInsideQuad}
-use Rattle.smoothing.specs.Makings.{Tangents, tangentsOf}
+use Rattle.makings.specs.Makings.{Tangents, tangentsOf}
 use Rattle.normals_walks.specs.Walks.{normalsVerts}
 use Rattle.distribute.specs.Distribute.{spreadTangents}
 

@@ -4,7 +4,7 @@ ghost use Prim.Native.Nat.{_<_};
 ghost use lib.ListN.{length, replicate};
 ghost use Rattle.float.specs.Ops.{zero};
 ghost use Rattle.smoothing.specs.Edges.{QuadIn};
-ghost use Rattle.smoothing.specs.Makings.{tangentsOf};
+ghost use Rattle.makings.specs.Makings.{tangentsOf};
 ghost use Rattle.distribute_walks.specs.Walks.{Lists as SpreadLists};
 ghost use Rattle.distribute.specs.Distribute.{spreadTangents};
 ghost use Rattle.normals_core.specs.Core.{InsideIn, TangentLists, Lists, insideQuadAt, insideQuads, normalTangents, createTangentsFromNormals};

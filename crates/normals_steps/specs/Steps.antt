@@ -15,7 +15,7 @@ use Rattle.smoothing.specs.Directions.{vec3FromVec4, equalNormals, circularTang
 use Rattle.smoothing.specs.Lists.{tangentAt, putTangent, weightAt, isMarkedInsideQuad}
 use Rattle.smoothing.specs.Edges.{edgeVec, tangentFromNormal}
 use Rattle.cycles.specs.Cycles.{nextAround}
-use Rattle.smoothing.specs.Makings.{Tangents, alignTangents}
+use Rattle.makings.specs.Makings.{Tangents, alignTangents}
 use Rattle.normals_state.specs.declared.FaceEdges.{FaceEdges}
 use Rattle.normals_state.specs.declared.FaceEdges.the-variants.{NoEdge, OneEdge, TwoEdges, Spoiled}
 use Rattle.normals_state.specs.declared.StartHalfedge.{StartHalfedge}

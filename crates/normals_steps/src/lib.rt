@@ -7,7 +7,7 @@ ghost use lib.ListN.{length};
 ghost use lib.Ieee.{Float};
 ghost use Rattle.smoothing.specs.Edges.{EdgeIn, FacesIn};
 ghost use Rattle.cycles.specs.Cycles.{nextAround};
-ghost use Rattle.smoothing.specs.Makings.{MakingIn, tangentsOf};
+ghost use Rattle.makings.specs.Makings.{MakingIn, tangentsOf};
 ghost use Rattle.normals_state.specs.State.{halfedgeNormal};
 ghost use Rattle.normals_steps.specs.Steps.{FaceEdgesIn, signedDir, tangentBetween, withWeight, insideQuadWeight, missingNormalWeight, walkOf, tangentStep, normalStep, vertNormalStep, fillOf, fillTangent, putFillTangent, fillStep, faceTangent, fixFaceEdges, alignFaceEdges};
 use linalg::Vec3;
@@ -226,7 +226,7 @@ fn fix_face_edges(
     ensures { λ _. ⌜ tangentsOf (now (t .exit)) (now (fixed .exit)) ≡ fixFaceEdges (now (h .entry)) (now (pos .entry)) (tangentsOf (now (t .entry)) (now (fixed .entry))) a b ⌝ }
 {
     let dir = face_tangent(h, pos, a, b);
-    smoothing::align_tangents(n, h, pos, t, fixed, a, b, dir);
+    makings::align_tangents(n, h, pos, t, fixed, a, b, dir);
 }
 
 // The same where there are two.

@@ -11,7 +11,7 @@ use Rattle.linalg.specs.declared.Vec3.{Vec3}
 use Rattle.mesh.specs.Fold.{foldTo}
 use Rattle.mesh.specs.Sound.{Sound}
 use Rattle.smoothing.specs.Lists.{pointAt}
-use Rattle.smoothing.specs.Makings.{TangentsIn, Tangents, tangentsOf}
+use Rattle.makings.specs.Makings.{TangentsIn, Tangents, tangentsOf}
 use Rattle.cycles.specs.Cycles.{nextAround, vertexCycle, vertexCycleBack}
 use Rattle.faces.specs.Faces.{vertHalfedge}
 use Rattle.normals_state.specs.declared.StartHalfedge.{StartHalfedge}

@@ -3,7 +3,7 @@
 ghost use mathlib.Core.Path.{_≡_};
 ghost use Prim.Native.Nat.{_+_, _*_, _≤_, _<_};
 ghost use lib.ListN.{length};
-ghost use Rattle.smoothing.specs.Makings.{tangentsOf};
+ghost use Rattle.makings.specs.Makings.{tangentsOf};
 ghost use Rattle.normals_steps.specs.Steps.{NormalsIn, StepIn, StartIn, StateIn, walkOf};
 ghost use Rattle.normals_walks.specs.Walks.{FacesLists, VertsLists, normalWalk, vertNormalWalk, fillWalk, fillMissing, finishVert, normalsVert, normalsVerts};
 use linalg::Vec3;

@@ -20,7 +20,7 @@ use Rattle.smoothing.specs.Edges.{edgeVec}
 use Rattle.smoothing.proofs.Tangents.{weight-of}
 use Rattle.spread.proofs.Own.{own}
 use Rattle.spread.proofs.Order.{order-free}
-use Rattle.smoothing.specs.Makings.{tangentsOf}
+use Rattle.makings.specs.Makings.{tangentsOf}
 use Rattle.normals_steps.specs.Steps.{insideQuadWeight, missingNormalWeight}
 use Rattle.normals_walks.specs.Walks.{normalsVert, normalsVerts}
 use Rattle.distribute_steps.specs.FloatSteps.{floatSteps}

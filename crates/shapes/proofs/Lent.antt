@@ -1,5 +1,5 @@
 -- On an accepted mesh the lent lists hold what `shapes` reads and writes. Assumes nothing.
-use Prim.Native.Nat.{ℕ, _*_, _+_, _<_, _≤_}
+use Prim.Native.Nat.{ℕ, _*_, _<_}
 use native.Mathlib.Omega.{arith}
 use mathlib.Core.Path.{_≡_, sym, _∙_, subst}
 use mathlib.Core.List.{List}
@@ -7,7 +7,7 @@ use lib.ListN.{length}
 use lib.IntN.{ℤ}
 use lib.Ieee.{Float}
 use Rattle.mesh.specs.Sound.{Sound}
-use Rattle.smoothing.specs.Makings.{MakingIn}
+use Rattle.makings.specs.Makings.{MakingIn}
 use Rattle.creases.specs.declared.Crease.{Crease}
 use Rattle.creases.specs.declared.Crease.the-variants.{NoCrease, OneEnd, Through, Meeting}
 use Rattle.creases.specs.Creases.{creasesAt, firstCrease, creaseOf}

@@ -12,7 +12,7 @@ use Rattle.creases.specs.declared.Crease.{Crease}
 use Rattle.creases.specs.declared.Crease.the-variants.{NoCrease, OneEnd, Through, Meeting}
 use Rattle.creases.specs.Creases.{creasesAt, firstCrease, creaseOf}
 use Rattle.creases.specs.Linked.{CreaseLists}
-use Rattle.smoothing.specs.Makings.{Tangents, tangentsOf, alignTangents}
+use Rattle.makings.specs.Makings.{Tangents, tangentsOf, alignTangents}
 use Rattle.shapes.specs.Sharpen.{newTangent, sharpenSides, sharpenMeeting}
 
 -- ---- what the lists must be for a call: `vert-in` of `proofs/Lent.antt` gives it on an accepted mesh

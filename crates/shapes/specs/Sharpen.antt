@@ -1,5 +1,5 @@
 -- What a crease through a point, and a meeting of creases, do to the tangents of a vertex cycle. H are the halfedges, P the positions, F the result of `flat_faces`, T the tangents, n how many halfedges there are.
-use Prim.Native.Nat.{ℕ, _+_, _*_, _/_, _≤_}
+use Prim.Native.Nat.{ℕ, _/_}
 use mathlib.Core.Path.{_≡_}
 use mathlib.Core.List.{List, foldl}
 use mathlib.Core.Bool.{cond, _||_}
@@ -14,7 +14,7 @@ use Rattle.linalg.specs.Vec.{sub3, normalizeOf}
 use Rattle.mesh.specs.Mesh.{pairedHalfedge}
 use Rattle.smoothing.specs.Directions.{vec3FromVec4}
 use Rattle.smoothing.specs.Lists.{tangentAt, putTangent, isMarkedInsideQuad}
-use Rattle.smoothing.specs.Makings.{TangentsIn}
+use Rattle.makings.specs.Makings.{TangentsIn}
 use Rattle.cycles.specs.Cycles.{vertexCycle}
 use Rattle.faces.specs.Faces.{isFlat}
 

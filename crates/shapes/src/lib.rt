@@ -3,7 +3,7 @@ ghost use mathlib.Core.Path.{_≡_};
 ghost use Prim.Native.Nat.{_+_, _*_, _≤_, _<_};
 ghost use lib.ListN.{length};
 ghost use Rattle.faces.specs.Faces.{FlatIn};
-ghost use Rattle.smoothing.specs.Makings.{TangentsIn, MakingIn, tangentsOf};
+ghost use Rattle.makings.specs.Makings.{TangentsIn, MakingIn, tangentsOf};
 ghost use Rattle.shapes.specs.Sharpen.{MeetingIn, sharpened, sharpenTangent, newTangent, sidesOf, sharpenSide, sharpenSides, meetingSmoothness, sharpenMeetingAt, sharpenMeeting};
 ghost use Rattle.shapes.specs.Shapes.{CreaseIn, VertIn, fixHalfedge, shapeThrough, shapeCrease, shapeVert, shapeVerts};
 use creases::Crease;
@@ -148,7 +148,7 @@ fn shape_through(
     ensures { λ _. ⌜ tangentsOf (now (t .exit)) (now (fixed .exit)) ≡ shapeThrough (now (h .entry)) (now (pos .entry)) n (tangentsOf (now (t .entry)) (now (fixed .entry))) first second between beyond ⌝ }
 {
     let dir = new_tangent(t, first, second);
-    smoothing::align_tangents(n, h, pos, t, fixed, first, second, dir);
+    makings::align_tangents(n, h, pos, t, fixed, first, second, dir);
     sharpen_sides(n, h, t, first, second, between, beyond);
 }
 

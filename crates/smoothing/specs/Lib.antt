@@ -2,4 +2,3 @@
 pub mod Directions
 pub mod Lists
 pub mod Edges
-pub mod Makings

@@ -1,12 +1,11 @@
 // The leaves of src/smoothing.rs: directions, angles and circular tangents, each the Rust's, operation by operation; and
-// tangents, points and normals as values of flat lists; and what both makings do to two halfedges of a point.
+// tangents, points and normals as values of flat lists.
 ghost use mathlib.Core.Path.{_≡_};
 ghost use Prim.Native.Nat.{_+_, _*_, _≤_, _<_, _^_};
 ghost use lib.ListN.{length};
 ghost use Rattle.smoothing.specs.Directions.{vec3FromVec4, isDegenerate, directionBy, safeNormalize, wrapOf, angleBetween, equalNormals, equalUnits, circularTangent};
 ghost use Rattle.smoothing.specs.Lists.{pointAt, tangentAt, putTangent, weightAt, isMarkedInsideQuad};
 ghost use Rattle.smoothing.specs.Edges.{EdgeIn, FacesIn, QuadIn, edgeVec, biTangent, tangentFromNormal, sameFaceAcross, noOtherNeighbor, isInsideQuad};
-ghost use Rattle.smoothing.specs.Makings.{MakingIn, tangentsOf, putCircularTangent, alignTangents};
 use linalg::Vec3;
 use linalg::Vec4;
 
@@ -248,33 +247,4 @@ pub fn is_inside_quad(h: &[i32], refs: &[i32], t: &[f64], old: bool, e: usize) -
         return false;
     }
     no_other_neighbor(h, refs, mesh::paired_halfedge(h, e))
-}
-
-// The circular tangent of halfedge e that leaves in the direction `dir`.
-fn put_circular_tangent(h: &[i32], pos: &[f64], t: &mut [f64], e: usize, dir: Vec3)
-    requires { ⌜ (e * 4 + 4 ≤ length (now t)) × EdgeIn (now h) (now pos) e ⌝ }
-    ensures { λ _. ⌜ now (t .exit) ≡ putCircularTangent (now (h .entry)) (now (pos .entry)) (now (t .entry)) e dir ⌝ }
-{
-    let tangent = circular_tangent(dir, edge_vec(h, pos, e));
-    put_tangent(t, e, tangent);
-}
-
-// Two halfedges of a point along one line, the first in the direction `dir`, and fixed.
-pub fn align_tangents(
-    n: usize,
-    h: &[i32],
-    pos: &[f64],
-    t: &mut [f64],
-    fixed: &mut [u8],
-    first: usize,
-    second: usize,
-    dir: Vec3,
-)
-    requires { ⌜ (first < n) × (second < n) × MakingIn (now h) (now pos) (now t) (now fixed) n ⌝ }
-    ensures { λ _. ⌜ tangentsOf (now (t .exit)) (now (fixed .exit)) ≡ alignTangents (now (h .entry)) (now (pos .entry)) (tangentsOf (now (t .entry)) (now (fixed .entry))) first second dir ⌝ }
-{
-    put_circular_tangent(h, pos, t, first, dir);
-    put_circular_tangent(h, pos, t, second, linalg::neg(dir));
-    fixed[first] = 1;
-    fixed[second] = 1;
 }

@@ -21,7 +21,7 @@ add-result-2 c = search needs
 
 returns : tie.Need-returns
 unfolding faceNeighbors
-returns c = cc
+returns c = simp (← c .before .before .before .before .before .is-face-neighbor .ensures, ← c .before .before .before .before .one-if .ensures .0, ← c .before .before .before .is-face-neighbor2 .ensures, ← c .before .before .one-if2 .ensures .0, ← c .before .is-face-neighbor3 .ensures, ← c .one-if3 .ensures .0)
 
 pub face-neighbors-spec : {M : Type 1} → statement M
 face-neighbors-spec =

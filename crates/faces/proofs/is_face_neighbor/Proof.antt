@@ -9,7 +9,7 @@ neighbor-tri-requires c κs = search needs
 
 returns : tie.Need-returns
 unfolding isFaceNeighbor
-returns c = cc
+returns c = simp (← c .before .neighbor-tri .ensures, ← c .same-face .ensures)
 
 pub is-face-neighbor-spec : {M : Type 1} → statement M
 is-face-neighbor-spec = tie.close (tie.spec neighbor-tri-requires (λ c κs. tt) returns)

@@ -5,7 +5,7 @@ use Rattle.linalg.proofs.length2.Tie as tie
 
 returns : tie.Need-returns
 unfolding length2Of
-returns c = cc
+returns c = c .dot .ensures
 
 pub length2-spec : {M : Type 1} → statement M
 length2-spec = tie.close (tie.spec (λ c κs. tt) returns)

@@ -5,7 +5,7 @@ use Rattle.linalg.proofs.normalize.Tie as tie
 
 returns : tie.Need-returns
 unfolding normalizeOf
-returns c = cc
+returns c = simp (← c .before .length .ensures, ← c .divide .ensures)
 
 pub normalize-spec : {M : Type 1} → statement M
 normalize-spec = tie.close (tie.spec (λ c κs. tt) (λ c κs. tt) returns)

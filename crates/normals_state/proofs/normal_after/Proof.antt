@@ -30,7 +30,7 @@ unfolding halfedgeNormal hasFaceNormal
 returns c =
     let a = c .before .before .before .before .before .before .before .before .args in
     let q = equal-by-units (getNormal (a .halfedge-normals .now) (a .e)) (pointAt (a .face-normals .now) (a .e / 3)) in
-    cc
+    simp (q, ← c .before .before .before .before .before .get-normal .ensures, ← c .before .before .before .before .unit-after .ensures, ← c .before .before .before .point-at .ensures, ← c .before .before .safe-normalize .ensures, ← c .before .is-zero .ensures, ← c .equal-units .ensures)
 
 pub normal-after-spec : {M : Type 1} → statement M
 normal-after-spec =

@@ -20,7 +20,7 @@ sub-requires c κs = tt
 
 returns : tie.Need-returns
 unfolding faceTangent
-returns c = cc
+returns c = simp (← c .before .before .before .before .edge-vec .ensures, ← c .before .before .before .normalize .ensures, ← c .before .before .edge-vec2 .ensures, ← c .before .normalize2 .ensures, ← c .sub .ensures)
 
 pub face-tangent-spec : {M : Type 1} → statement M
 face-tangent-spec =

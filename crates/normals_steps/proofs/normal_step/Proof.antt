@@ -14,7 +14,7 @@ use Rattle.smoothing.specs.Directions.{vec3FromVec4}
 use Rattle.smoothing.specs.Lists.{tangentAt, putTangent}
 use Rattle.smoothing.proofs.Tangents.{weight-put-same, put-put}
 use Rattle.cycles.specs.Cycles.{nextAround}
-use Rattle.smoothing.proofs.Makings.{tangent-in}
+use Rattle.makings.proofs.Makings.{tangent-in}
 use Rattle.normals_state.specs.declared.HalfedgeNormal.{HalfedgeNormal}
 use Rattle.normals_state.specs.declared.CycleState.{CycleState}
 use Rattle.normals_state.specs.State.{halfedgeNormal, isMissing, nextState}

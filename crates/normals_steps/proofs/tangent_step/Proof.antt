@@ -13,7 +13,7 @@ use Rattle.smoothing.specs.Lists.{putTangent}
 use Rattle.smoothing.proofs.Directions.{equal-by-units}
 use Rattle.smoothing.proofs.Edges.{faces-in}
 use Rattle.cycles.specs.Cycles.{nextAround}
-use Rattle.smoothing.proofs.Makings.{tangent-in}
+use Rattle.makings.proofs.Makings.{tangent-in}
 use Rattle.normals_state.specs.declared.HalfedgeNormal.{HalfedgeNormal}
 use Rattle.normals_state.specs.declared.CycleState.{CycleState}
 use Rattle.normals_state.specs.State.{getNormal, halfedgeNormal, spoilFaceEdges}

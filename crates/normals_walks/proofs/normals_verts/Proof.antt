@@ -1,7 +1,7 @@
 -- `normals_walks::normals_verts` meets its contract. The invariant: both lists are the fold over the points passed. Assumes nothing.
 use Rattle.normals_walks.specs.Walks.{normalsVert, normalsVerts}
 use Rattle.normals_walks.proofs.Lent.{verts-still}
-use Rattle.smoothing.specs.Makings.{tangentsOf}
+use Rattle.makings.specs.Makings.{tangentsOf}
 use Rattle.mesh.proofs.Fold.{fold-none}
 use Rattle.faces.proofs.Loops.{fold-turn}
 use Rattle.mesh.specs.Fold.{foldTo}

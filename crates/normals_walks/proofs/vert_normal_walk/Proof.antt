@@ -2,7 +2,7 @@
 use Rattle.normals_walks.specs.Walks.{vertNormalWalk}
 use Rattle.normals_steps.specs.Steps.{vertNormalStep}
 use Rattle.smoothing.proofs.Edges.{faces-in}
-use Rattle.smoothing.proofs.Makings.{tangent-in}
+use Rattle.makings.proofs.Makings.{tangent-in}
 use Rattle.cycles.proofs.Around.{next-permutes, next-fits}
 use Rattle.cycles.proofs.Loops.{Walking, around-start, around-step, around-less, around-fold-step, around-fold-stop}
 use Rattle.cycles.proofs.Paths.{isAt, stepsLeft}

@@ -24,7 +24,7 @@ normalize-requires c κs = search needs
 
 returns : tie.Need-returns
 unfolding newTangent
-returns c = cc
+returns c = simp (← c .before .before .before .before .before .tangent-at .ensures, ← c .before .before .before .before .vec3-from-vec4 .ensures, ← c .before .before .before .tangent-at2 .ensures, ← c .before .before .vec3-from-vec42 .ensures, ← c .before .sub .ensures, ← c .normalize .ensures)
 
 pub new-tangent-spec : {M : Type 1} → statement M
 new-tangent-spec =

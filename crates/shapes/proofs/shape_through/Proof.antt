@@ -1,6 +1,6 @@
 -- `shapes::shape_through` meets its contract: the code is the definition. Assumes nothing.
 use mathlib.Core.Path.{refl, _∙_}
-use Rattle.smoothing.proofs.Makings.{tangents-still, tangent-in}
+use Rattle.makings.proofs.Makings.{tangents-still, tangent-in}
 use Rattle.shapes.specs.Shapes.{shapeThrough}
 use Rattle.shapes.proofs.shape_through.Statement.{statement}
 use Rattle.shapes.proofs.shape_through.Tie as tie

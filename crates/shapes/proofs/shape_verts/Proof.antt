@@ -1,6 +1,6 @@
 -- `shapes::shape_verts` meets its contract. The invariant: both lists are the fold over the points passed. Assumes nothing.
 use Rattle.shapes.proofs.Lent.{vert-still}
-use Rattle.smoothing.specs.Makings.{tangentsOf}
+use Rattle.makings.specs.Makings.{tangentsOf}
 use Rattle.shapes.specs.Shapes.{shapeVert, shapeVerts}
 use Rattle.mesh.proofs.Fold.{fold-none}
 use Rattle.faces.proofs.Loops.{fold-turn}

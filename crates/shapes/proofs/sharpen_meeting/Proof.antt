@@ -1,7 +1,7 @@
 -- `shapes::sharpen_meeting` meets its contract: a walk once round a vertex cycle. The invariant: what is left of the fold gives the whole. Assumes nothing.
 use Rattle.faces.proofs.Lent.{flat-in, flat-still}
 use Rattle.shapes.specs.Sharpen.{sharpenMeetingAt, sharpenMeeting}
-use Rattle.smoothing.proofs.Makings.{tangent-in}
+use Rattle.makings.proofs.Makings.{tangent-in}
 use Rattle.cycles.proofs.Around.{next-permutes, next-fits}
 use Rattle.cycles.proofs.Loops.{Walking, around-start, around-step, around-less, around-fold-step, around-fold-stop}
 use Rattle.cycles.proofs.Paths.{isAt, stepsLeft}

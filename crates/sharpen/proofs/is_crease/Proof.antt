@@ -15,7 +15,7 @@ dihedral-requires c κs = search needs
 
 returns-2 : tie.Need-returns-2
 unfolding isCrease
-returns-2 c = rw (sym (c .before .before .is-forward .ensures) ∙ not-false _ (c .before .if1 .left)) (cc)
+returns-2 c = rw (sym (c .before .before .is-forward .ensures) ∙ not-false _ (c .before .if1 .left)) (simp (← c .dihedral .ensures))
 
 pub is-crease-spec : {M : Type 1} → statement M
 is-crease-spec = tie.close (tie.spec (λ c κs. tt) returns dihedral-requires returns-2)

@@ -12,7 +12,7 @@ point-at-requires-2 c κs = search needs
 
 returns : tie.Need-returns
 unfolding edgeVec
-returns c = cc
+returns c = simp (← c .before .before .before .before .end-vert .ensures, ← c .before .before .before .point-at .ensures, ← c .before .before .start-vert .ensures, ← c .before .point-at2 .ensures, ← c .sub .ensures)
 
 pub edge-vec-spec : {M : Type 1} → statement M
 edge-vec-spec =

@@ -5,7 +5,7 @@ use Rattle.smoothing.proofs.equal_normals.Tie as tie
 
 returns : tie.Need-returns
 unfolding equalNormals
-returns c = cc
+returns c = simp (← c .before .before .safe-normalize .ensures, ← c .before .safe-normalize2 .ensures, ← c .equal-units .ensures)
 
 pub equal-normals-spec : {M : Type 1} → statement M
 equal-normals-spec =

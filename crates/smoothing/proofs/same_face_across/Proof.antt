@@ -5,7 +5,7 @@ use Rattle.smoothing.proofs.same_face_across.Tie as tie
 
 returns : tie.Need-returns
 unfolding sameFaceAcross
-returns c = cc
+returns c = simp (← c .before .paired-halfedge .ensures, ← c .same-face .ensures)
 
 pub same-face-across-spec : {M : Type 1} → statement M
 same-face-across-spec = tie.close (tie.spec (λ c κs. tt) (λ c κs. tt) returns)

@@ -15,7 +15,7 @@ point-at-requires-2 c κs = search needs
 
 returns : tie.Need-returns
 unfolding tangentFromNormal
-returns c = cc
+returns c = simp (← c .before .before .before .before .before .before .before .edge-vec .ensures, ← c .before .before .before .before .before .before .paired-halfedge .ensures, ← c .before .before .before .before .before .point-at .ensures, ← c .before .before .before .before .point-at2 .ensures, ← c .before .before .before .add .ensures, ← c .before .before .bi-tangent .ensures, ← c .before .cross .ensures, ← c .circular-tangent .ensures)
 
 pub tangent-from-normal-spec : {M : Type 1} → statement M
 tangent-from-normal-spec =

@@ -6,9 +6,9 @@ use mathlib.Core.List.{List}
 use lib.ListN.{length}
 use lib.IntN.{ℤ}
 use lib.Ieee.{Float}
 use Rattle.smoothing.specs.Edges.{EdgeIn}
-use Rattle.smoothing.specs.Makings.{TangentsIn, MakingIn}
+use Rattle.makings.specs.Makings.{TangentsIn, MakingIn}
 use Rattle.smoothing.proofs.Edges.{edge-in}
 
 -- a list that keeps its length
 pub tangents-still : {H : List ℤ} {T T′ : List Float} {n : ℕ} → length T′ ≡ length T → TangentsIn H T n → TangentsIn H T′ n

@@ -1,8 +1,8 @@
--- `smoothing::put_circular_tangent` meets its contract: the code is the definition. Assumes nothing.
-use Rattle.smoothing.specs.Makings.{putCircularTangent}
+-- `makings::put_circular_tangent` meets its contract: the code is the definition. Assumes nothing.
+use Rattle.makings.specs.Makings.{putCircularTangent}
 use borrow.Author.Needs.{needs}
-use Rattle.smoothing.proofs.put_circular_tangent.Statement.{statement}
-use Rattle.smoothing.proofs.put_circular_tangent.Tie as tie
+use Rattle.makings.proofs.put_circular_tangent.Statement.{statement}
+use Rattle.makings.proofs.put_circular_tangent.Tie as tie
 
 edge-vec-requires : tie.Need-edge-vec-requires
 edge-vec-requires c κs = search needs

@@ -1,11 +1,11 @@
--- `smoothing::align_tangents` meets its contract: two calls and two stores. Assumes nothing.
+-- `makings::align_tangents` meets its contract: two calls and two stores. Assumes nothing.
 use mathlib.Core.Path.{refl, _∙_}
 use native.Mathlib.Omega.{arith}
 use borrow.Author.Needs.{needs, below-set}
-use Rattle.smoothing.specs.Makings.{alignTangents}
-use Rattle.smoothing.proofs.Makings.{circular-in}
-use Rattle.smoothing.proofs.align_tangents.Statement.{statement}
-use Rattle.smoothing.proofs.align_tangents.Tie as tie
+use Rattle.makings.specs.Makings.{alignTangents}
+use Rattle.makings.proofs.Makings.{circular-in}
+use Rattle.makings.proofs.align_tangents.Statement.{statement}
+use Rattle.makings.proofs.align_tangents.Tie as tie
 
 put-circular-tangent-requires : tie.Need-put-circular-tangent-requires
 put-circular-tangent-requires c κs = let a = c .before .before .before .before in circular-in (a .pre .2) (a .args .t .now) refl _ (a .pre .0)

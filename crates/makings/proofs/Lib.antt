@@ -1,0 +1,2 @@
+-- The laws of `makings` that the crates above cite.
+pub mod Makings

@@ -1,0 +1,2 @@
+-- The specs of `makings`.
+pub mod Makings
