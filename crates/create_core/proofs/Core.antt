@@ -3,7 +3,6 @@ use Prim.Native.Nat.{ℕ}
 use mathlib.Core.Path.{_≡_, ap, _∙_}
 use mathlib.Core.List.{List}
 use mathlib.Core.Bool.{Bool}
-use lib.ListN.{replicate}
 use lib.IntN.{ℤ}
 use lib.Ieee.{Float}
 use Rattle.makings.specs.Makings.{Tangents, tangentsOf}
@@ -19,7 +18,3 @@ pub created : (H : List ℤ) (P N A : List Float) (R : List ℤ) (I : List ℕ) 
 unfolding createTangents
 created H P N A R I Q O old n p T X U k e q u =
     u ∙ ap (λ (m : Tangents). spreadTangents H P N (m .fixed) (linearizeFlatTangents H P (m .tangents) n) n .tangents) (e ∙ ap (λ (j : ℕ). shapedTangents H R P N A I Q O old n j) q)
-
--- a list that was cleared, whose length is k
-pub cleared : {A : Type 0} (a : List A) (x : A) (m k : ℕ) → a ≡ replicate m x → m ≡ k → a ≡ replicate k x
-cleared a x m k e q = e ∙ ap (λ (j : ℕ). replicate j x) q

@@ -7,6 +7,7 @@ use lib.ListN.{length}
 use lib.IntN.{ℤ}
 use lib.Ieee.{Float}
 use Rattle.mesh.specs.Sound.{Sound}
+use Rattle.distribute_walks.specs.Walks.{Lists as SpreadLists}
 use Rattle.create_core.specs.Core.{Lists}
 
 -- with the tangents T′, the fixed flags X′ and the scratch list S′ that stand there then

@@ -26,12 +26,10 @@ fn finish_tangents(
     ensures desired { λ _. ⌜ now (desired .exit) ≡ replicate n zero ⌝ }
 {
     linearize::linearize_all(n, p, h, pos, t);
-    distribute::spread_all(n, p, h, pos, normals, fixed, t, smooth, desired);
-    distribute::clear(smooth);
-    distribute::clear(desired);
+    distribute::spread_tangents(n, p, h, pos, normals, fixed, t, smooth, desired);
 }
 
-// Zeros in the other scratch lists.
+// Zeros in the scratch lists that spreading does not have.
 fn clear_scratch(fixed: &mut [u8], flat: &mut [u8], at: &mut [usize], link: &mut [usize])
     ensures fixed { λ _. ⌜ now (fixed .exit) ≡ replicate (length (now (fixed .entry))) 0 ⌝ }
     ensures flat { λ _. ⌜ now (flat .exit) ≡ replicate (length (now (flat .entry))) 0 ⌝ }

@@ -1,4 +1,5 @@
 -- The laws of `distribute`, for the crates above.
 mod Pass
+pub mod Cleared
 pub mod Accepted
 pub mod Order

@@ -64,7 +64,7 @@ pub fn turned_of(spreading: Spreading) -> usize
 }
 
 // The loop over the halfedges of an accepted mesh.
-pub fn spread_all(
+fn spread_all(
     n: usize,
     p: usize,
     h: &[i32],
@@ -108,6 +108,29 @@ pub fn clear(list: &mut [f64])
     for i in 0..n {
         list[i] = 0.0;
     }
+}
+
+// Spreading of an accepted mesh: the loop, and then zeros in both scratch lists.
+pub fn spread_tangents(
+    n: usize,
+    p: usize,
+    h: &[i32],
+    pos: &[f64],
+    normals: &[f64],
+    fixed: &[u8],
+    t: &mut [f64],
+    current: &mut [f64],
+    desired: &mut [f64],
+) -> Counts
+    requires { ⌜ Lists (now h) (now pos) (now normals) (now fixed) (now t) (now current) (now desired) n p ⌝ }
+    ensures report { λ r. ⌜ Reports (floatSteps (now (h .entry)) (now (pos .entry)) (now (normals .entry)) (now (fixed .entry)) n) (spreadTangents (now (h .entry)) (now (pos .entry)) (now (normals .entry)) (now (fixed .entry)) (now (t .entry)) n) (now (t .exit)) r ⌝ }
+    ensures current { λ _. ⌜ now (current .exit) ≡ replicate n zero ⌝ }
+    ensures desired { λ _. ⌜ now (desired .exit) ≡ replicate n zero ⌝ }
+{
+    let counts = spread_all(n, p, h, pos, normals, fixed, t, current, desired);
+    clear(current);
+    clear(desired);
+    counts
 }
 
 // Question 2 of the lists that the call is lent.
@@ -203,8 +226,6 @@ pub fn distribute_tangents(
             },
         );
     };
-    let counts = spread_all(n, p, h, pos, normals, fixed, t, current, desired);
-    clear(current);
-    clear(desired);
+    let counts = spread_tangents(n, p, h, pos, normals, fixed, t, current, desired);
     answer(checked, counts)
 }

@@ -13,10 +13,6 @@ use Rattle.normals_walks.specs.Walks.{normalsVerts}
 use Rattle.distribute.specs.Distribute.{spreadTangents}
 use Rattle.normals_core.specs.Core.{insideQuadAt, insideQuads, normalTangents, createTangentsFromNormals}
 
--- a list that was cleared, whose length is k
-pub cleared : {A : Type 0} (a : List A) (x : A) (m k : ℕ) → a ≡ replicate m x → m ≡ k → a ≡ replicate k x
-cleared a x m k e q = e ∙ ap (λ (j : ℕ). replicate j x) q
-
 -- the loop over e halfedges, all of them, from a list that was cleared
 pub inside-ended : (H R : List ℤ) (T : List Float) (old : Bool) (Q Q₀ : List ℕ) (n e : ℕ) → Q₀ ≡ replicate n 0 → e ≡ n → Q ≡ foldTo (insideQuadAt H R T old) Q₀ e → Q ≡ insideQuads H R T old n
 unfolding insideQuads

@@ -68,29 +68,7 @@ fn normal_tangents(
     );
 }
 
-// Spreading, and zeros in the lists of angles.
-fn finish_tangents(
-    n: usize,
-    p: usize,
-    h: &[i32],
-    pos: &[f64],
-    normals: &[f64],
-    fixed: &[u8],
-    t: &mut [f64],
-    current: &mut [f64],
-    desired: &mut [f64],
-)
-    requires { ⌜ SpreadLists (now h) (now pos) (now normals) (now fixed) (now t) (now current) (now desired) n p ⌝ }
-    ensures tangents { λ _. ⌜ now (t .exit) ≡ spreadTangents (now (h .entry)) (now (pos .entry)) (now (normals .entry)) (now (fixed .entry)) (now (t .entry)) n .tangents ⌝ }
-    ensures current { λ _. ⌜ now (current .exit) ≡ replicate n zero ⌝ }
-    ensures desired { λ _. ⌜ now (desired .exit) ≡ replicate n zero ⌝ }
-{
-    distribute::spread_all(n, p, h, pos, normals, fixed, t, current, desired);
-    distribute::clear(current);
-    distribute::clear(desired);
-}
-
-// Zeros in the other scratch lists.
+// Zeros in the scratch lists that spreading does not have.
 fn clear_scratch(fixed: &mut [u8], inside: &mut [u8], first: &mut [usize])
     ensures fixed { λ _. ⌜ now (fixed .exit) ≡ replicate (length (now (fixed .entry))) 0 ⌝ }
     ensures inside { λ _. ⌜ now (inside .exit) ≡ replicate (length (now (inside .entry))) 0 ⌝ }
@@ -141,6 +119,6 @@ pub fn make_tangents(
         inside,
         first,
     );
-    finish_tangents(n, p, h, pos, normals, fixed, t, current, desired);
+    distribute::spread_tangents(n, p, h, pos, normals, fixed, t, current, desired);
     clear_scratch(fixed, inside, first);
 }

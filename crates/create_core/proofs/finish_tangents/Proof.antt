@@ -1,11 +1,9 @@
--- `create_core::finish_tangents` meets its contract: four calls in a row. Assumes nothing.
+-- `create_core::finish_tangents` meets its contract: two calls in a row. Assumes nothing.
 use mathlib.Core.Path.{ap, _∙_}
 use mathlib.Core.List.{List}
 use lib.Ieee.{Float}
 use denote.Ref.{now}
-use Rattle.float.specs.Ops.{zero}
 use Rattle.distribute.specs.Distribute.{spreadTangents}
-use Rattle.create_core.proofs.Core.{cleared}
 use Rattle.create_core.proofs.finish_tangents.Statement.{statement}
 use Rattle.create_core.proofs.finish_tangents.Tie as tie
 
@@ -14,8 +12,8 @@ linearize-all-requires c κs =
     let w = c .before .before .before .before .before .before .before .pre in
     record { sound = w .sound; positions = w .positions; tangents = w .tangents }
 
-spread-all-requires : tie.Need-spread-all-requires
-spread-all-requires c κs =
+spread-tangents-requires : tie.Need-spread-tangents-requires
+spread-tangents-requires c κs =
     let w = c .before .before .before .before .before .before .before .before .before .before .before .before .before .pre in
     record {
       sound = w .sound;
@@ -28,25 +26,21 @@ spread-all-requires c κs =
     }
 
 same-length : tie.Need-same-length
-same-length c = c .before .before .before .before .before .before .before .before .before .before .before .before .before .before .spread-all .kept .1 .1 .1 .1 .1 .1 .0 ∙ c .before .before .before .before .before .before .before .before .before .before .before .before .before .before .before .before .before .before .before .before .linearize-all .kept .1 .1 .1 .1 .0
+same-length c = c .before .before .before .before .before .before .spread-tangents .kept .1 .1 .1 .1 .1 .1 .0 ∙ c .before .before .before .before .before .before .before .before .before .before .before .before .linearize-all .kept .1 .1 .1 .1 .0
 
 same-length-2 : tie.Need-same-length-2
-same-length-2 c = c .before .before .before .before .before .before .clear .kept .0 ∙ c .before .before .before .before .before .before .before .before .before .before .before .before .before .before .spread-all .kept .1 .1 .1 .1 .1 .1 .1 .0
+same-length-2 c = c .before .before .before .before .before .before .spread-tangents .kept .1 .1 .1 .1 .1 .1 .1 .0
 
 same-length-3 : tie.Need-same-length-3
-same-length-3 c = c .before .before .clear2 .kept .0 ∙ c .before .before .before .before .before .before .before .before .before .before .before .before .before .before .spread-all .kept .1 .1 .1 .1 .1 .1 .1 .1 .0
+same-length-3 c = c .before .before .before .before .before .before .spread-tangents .kept .1 .1 .1 .1 .1 .1 .1 .1 .0
 
 returns : tie.Need-returns
 returns c =
-    let a = c .before .before .before .before .before .before .before .before .before .before .before .before .before .before .before .before .before .before .before .before .before .before .before .before .before .before .before .before .args in
-    let w = c .before .before .before .before .before .before .before .before .before .before .before .before .before .before .before .before .before .before .before .before .before .before .before .before .before .before .before .before .pre in
-    let s = c .before .before .before .before .before .before .before .before .before .before .before .before .before .before .spread-all in (
-      s .ensures .tangents-are
-          ∙ ap (λ (T : List Float). spreadTangents (now (a .h)) (now (a .pos)) (now (a .normals)) (now (a .fixed)) T (a .n) .tangents) (c .before .before .before .before .before .before .before .before .before .before .before .before .before .before .before .before .before .before .before .before .linearize-all .ensures),
-      (
-        cleared _ zero _ _ (c .before .before .before .before .before .before .clear .ensures) (s .kept .1 .1 .1 .1 .1 .1 .1 .0 ∙ w .current),
-        cleared _ zero _ _ (c .before .before .clear2 .ensures) (s .kept .1 .1 .1 .1 .1 .1 .1 .1 .0 ∙ w .desired),
-      ),
+    let a = c .before .before .before .before .before .before .before .before .before .before .before .before .before .before .before .before .before .before .before .before .args in
+    let s = c .before .before .before .before .before .before .spread-tangents in (
+      s .ensures .0 .tangents-are
+          ∙ ap (λ (T : List Float). spreadTangents (now (a .h)) (now (a .pos)) (now (a .normals)) (now (a .fixed)) T (a .n) .tangents) (c .before .before .before .before .before .before .before .before .before .before .before .before .linearize-all .ensures),
+      s .ensures .1,
     )
 
 pub finish-tangents-spec : {M : Type 1} → statement M
@@ -54,9 +48,7 @@ finish-tangents-spec =
     tie.close
     (tie.spec
     linearize-all-requires
-    spread-all-requires
-    (λ c κs. tt)
-    (λ c κs. tt)
+    spread-tangents-requires
     same-length
     same-length-2
     same-length-3

@@ -1,8 +1,5 @@
 -- `distribute::distribute_tangents` meets its contract. Demand 3 follows from the answer and the tangents.
-use mathlib.Core.Path.{_≡_, refl, sym, ap, _∙_}
-use Prim.Native.Nat.{ℕ}
-use lib.ListN.{replicate}
-use Rattle.float.specs.Ops.{zero}
+use mathlib.Core.Path.{_≡_, refl, sym, _∙_}
 use denote.Ref.{now}
 use mathlib.Core.List.{List}
 use lib.Ieee.{Float}
@@ -26,31 +23,20 @@ returns c =
     let r = rw (c .before .enum-told2 .given .1) at (c .answer .ensures) in
     (rw e r, (rw e, (rw e, (rw e, demand-3 (c .before .before .before .before .before .before .before .before .before .before .before .before .before) (now (c .before .before .before .before .before .before .before .before .before .before .before .before .before .args .t)) (c .answer .result) (rw e r) (rw e)))))
 
-spread-all-requires : tie.Need-spread-all-requires
-spread-all-requires c κs =
+spread-tangents-requires : tie.Need-spread-tangents-requires
+spread-tangents-requires c κs =
     let a = c .before .before .before .before .before .before .before .before .before .before .before .before .before .before .before .args in
     lists-of (now (a .h)) (now (a .pos)) (now (a .normals)) (now (a .fixed)) (now (a .t)) (now (a .current)) (now (a .desired)) (a .n) (a .p)
     (sym (c .before .before .before .before .before .check-lists .ensures) ∙ c .before .before .before .enum-told .given .1)
 
 returns-2 : tie.Need-returns-2
 returns-2 c =
-    let a = c .before .before .before .before .before .before .before .before .before .before .before .before .before .before .before .before .before .before .before .before .before .before .before .before .before .before .before .before .before .before .before .args in
-    let e = sym (c .before .before .before .before .before .before .before .before .before .before .before .before .before .before .before .before .before .before .before .before .before .check-lists .ensures) ∙ c .before .before .before .before .before .before .before .before .before .before .before .before .before .before .before .before .before .before .before .enum-told .given .1 in
-    let l = lists-of (now (a .h)) (now (a .pos)) (now (a .normals)) (now (a .fixed)) (now (a .t)) (now (a .current)) (now (a .desired)) (a .n) (a .p) e in
-    let s = c .before .before .before .before .before .before .before .before .before .before .before .before .before .before .before .spread-all in
-    let r = rw (c .before .before .before .before .before .before .before .before .before .before .before .before .before .before .before .before .before .before .before .enum-told .given .1, s .ensures .looked-is, s .ensures .turned-is) at (c .answer2 .ensures) in (
-      rw e r,
-      (
-        rw e (s .ensures .tangents-are),
-        (
-          rw e (c .before .before .before .before .before .before .before .clear .ensures ∙ ap (λ (k : ℕ). replicate k zero) (s .kept .1 .1 .1 .1 .1 .1 .1 .0 ∙ l .current)),
-          (
-            rw e (c .before .before .before .clear2 .ensures ∙ ap (λ (k : ℕ). replicate k zero) (s .kept .1 .1 .1 .1 .1 .1 .1 .1 .0 ∙ l .desired)),
-            demand-3 (c .before .before .before .before .before .before .before .before .before .before .before .before .before .before .before .before .before .before .before .before .before .before .before .before .before .before .before .before .before .before .before) (s .last .1 .1 .1 .1 .1 .1 .0) (c .answer2 .result) (rw e r) (rw e (s .ensures .tangents-are)),
-          ),
-        ),
-      ),
-    )
+    let s = c .before .before .before .before .before .before .before .spread-tangents in
+    let told = c .before .before .before .before .before .before .before .before .before .before .before .enum-told .given .1 in
+    let e = sym (c .before .before .before .before .before .before .before .before .before .before .before .before .before .check-lists .ensures) ∙ told in
+    let w = s .ensures .0 in
+    let r = rw (told, w .looked-is, w .turned-is) at (c .answer2 .ensures) in
+    (rw e r, (rw e (w .tangents-are), (rw e (s .ensures .1 .0), (rw e (s .ensures .1 .1), demand-3 (c .before .before .before .before .before .before .before .before .before .before .before .before .before .before .before .before .before .before .before .before .before .before .before) (s .last .1 .1 .1 .1 .1 .1 .0) (c .answer2 .result) (rw e r) (rw e (w .tangents-are))))))
 
 pub distribute-tangents-spec : {M : Type 1} → statement M
 distribute-tangents-spec =
@@ -64,11 +50,9 @@ distribute-tangents-spec =
     (λ c. refl)
     (λ c. refl)
     returns
-    spread-all-requires
+    spread-tangents-requires
     (λ c κs. tt)
-    (λ c κs. tt)
-    (λ c κs. tt)
-    (λ c. c .before .before .before .before .before .before .before .before .before .before .before .before .before .before .before .spread-all .kept .1 .1 .1 .1 .1 .1 .0)
-    (λ c. c .before .before .before .before .before .before .before .clear .kept .0 ∙ c .before .before .before .before .before .before .before .before .before .before .before .before .before .before .before .spread-all .kept .1 .1 .1 .1 .1 .1 .1 .0)
-    (λ c. c .before .before .before .clear2 .kept .0 ∙ c .before .before .before .before .before .before .before .before .before .before .before .before .before .before .before .spread-all .kept .1 .1 .1 .1 .1 .1 .1 .1 .0)
+    (λ c. c .before .before .before .before .before .before .before .spread-tangents .kept .1 .1 .1 .1 .1 .1 .0)
+    (λ c. c .before .before .before .before .before .before .before .spread-tangents .kept .1 .1 .1 .1 .1 .1 .1 .0)
+    (λ c. c .before .before .before .before .before .before .before .spread-tangents .kept .1 .1 .1 .1 .1 .1 .1 .1 .0)
     returns-2)

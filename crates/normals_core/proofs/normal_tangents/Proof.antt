@@ -2,7 +2,8 @@
 use mathlib.Core.Path.{_∙_}
 use Rattle.float.specs.Ops.{zero}
 use Rattle.faces.proofs.Lent.{verts-in}
-use Rattle.normals_core.proofs.Core.{cleared, made}
+use Rattle.distribute.proofs.Cleared.{cleared}
+use Rattle.normals_core.proofs.Core.{made}
 use Rattle.normals_core.proofs.Lent.{inside-in, verts-lists}
 use Rattle.normals_core.proofs.normal_tangents.Statement.{statement}
 use Rattle.normals_core.proofs.normal_tangents.Tie as tie
