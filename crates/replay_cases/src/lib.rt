@@ -86,6 +86,13 @@ pub fn signed_part(xs: &[i32], from: usize, to: usize) -> &[i32] {
     &xs[from..to]
 }
 
+// The places of a scratch list: at most 32, more than a mesh of the files needs.
+pub fn places(count: usize) -> usize
+    ensures { λ r. ⌜ r ≤ 32 ⌝ }
+{
+    if count <= 32 { count } else { 32 }
+}
+
 // Is this the refusal, or the acceptance, of the case?
 pub fn same_refusal(number: usize, place: usize, c: Case) -> bool {
     if number != c.number {

@@ -1,9 +1,9 @@
 // A call of making from sharp edges on the lists of a case.
 use replay_cases::Case;
 use replay_cases::float_part;
+use replay_cases::places;
 use replay_cases::signed_part;
 use replay_makings::ends_at;
-use replay_makings::places;
 use replay_makings::same_scratch;
 
 // Calls it with scratch lists of its own. Are the answer and the scratch lists those of the case?

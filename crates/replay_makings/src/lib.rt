@@ -1,5 +1,4 @@
 // What the replays of both makings share: the lists of a case, and the scratch lists.
-ghost use Prim.Native.Nat.{_≤_};
 use mesh::both;
 use replay_cases::Case;
 
@@ -21,13 +20,6 @@ pub fn ends_at(s: &[u8], at: usize) -> Ends {
         face_normals: replay::half_word(s, replay::after(at, 12)),
         halfedges: replay::half_word(s, replay::after(at, 16)),
     }
-}
-
-// The places of a scratch list: at most 32, more than a mesh of the file needs.
-pub fn places(count: usize) -> usize
-    ensures { λ r. ⌜ r ≤ 32 ⌝ }
-{
-    if count <= 32 { count } else { 32 }
 }
 
 // A number of each scratch list after the call: 0 where it was accepted, else as it was lent.
