@@ -2,7 +2,7 @@
 pub mod Squares
 mod StepLaws
 mod Normalization
-mod Table
+mod Ranges
 mod Rounding
 mod Encoding
 mod RootEncoding

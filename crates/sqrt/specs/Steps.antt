@@ -1,6 +1,6 @@
 -- The definitions that the contracts of the private functions cite. Definitions only; nothing here is part of what `sqrt::sqrt` promises.
 use mathlib.Core.Path.{_≡_}
-use Prim.Native.Nat.{ℕ, zero, suc, _+_, _*_, _/_, _%_, _^_, _≤_, _<_}
+use Prim.Native.Nat.{ℕ, zero, suc, _+_, _-_, _*_, _/_, _%_, _^_, _≤_, _<_}
 
 -- s is the integer square root of n
 pub record FloorSqrt (n s : ℕ) : Type 0 where
@@ -11,6 +11,13 @@ pub record FloorSqrt (n s : ℕ) : Type 0 where
 pub record IsSqrtRem (n s r : ℕ) : Type 0 where
   pub same : s * s + r ≡ n
   pub remainder : r ≤ 2 * s
+
+-- g is the integer square root of each number from 16 * i to 16 * i + 15, or one more, and has 7 bits
+pub record Estimate (i g : ℕ) : Type 0 where
+  pub least : 64 ≤ g
+  pub most : g ≤ 127
+  pub low : (g - 1) * (g - 1) ≤ 16 * i
+  pub high : 16 * i + 15 < (g + 1) * (g + 1)
 
 -- what Zimmermann's step takes: s * s + r by its root and remainder, and two further digits a1 and a0 in the base b
 abbrev pub StepInput : ℕ → ℕ → ℕ → ℕ → ℕ → Type 0

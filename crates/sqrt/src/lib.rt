@@ -2,8 +2,8 @@
 ghost use mathlib.Core.Path.{_≡_};
 ghost use Prim.Native.Nat.{_+_, _*_, _^_, _≤_, _<_};
 ghost use lib.Ieee.{ofBits, binary64};
-ghost use Rattle.sqrt.specs.Sqrt.{isqrt, sqrtOf};
-ghost use Rattle.sqrt.specs.Steps.{FloorSqrt, IsSqrtRem, StepInput, IsNormalized, infinityBits};
+ghost use Rattle.sqrt.specs.Sqrt.{sqrtOf};
+ghost use Rattle.sqrt.specs.Steps.{FloorSqrt, IsSqrtRem, Estimate, StepInput, IsNormalized, infinityBits};
 
 // The bits of positive infinity: those of finite positive values are below it.
 const INFINITY_BITS: u64 = 0x7ff0_0000_0000_0000;
@@ -39,14 +39,12 @@ fn sqrtrem_step(s: u64, r: u64, b: u64, a1: u64, a0: u64) -> SqrtRem
     }
 }
 
-// The integer square root of 64 * (i + 64) + 63, from a table of bytes: the first is 64 ('@'), the last 127.
-fn sqrt_estimate(i: usize) -> u64
-    requires { ⌜ i < 192 ⌝ }
-    ensures { λ g. ⌜ g ≡ isqrt (64 * (i + 64) + 63) ⌝ }
+// The integer square root of each h from 16 * i to 16 * i + 15, or one more: a parabola close to the root of 16 * i.
+fn sqrt_estimate(i: u64) -> u64
+    requires { ⌜ (256 ≤ i) × (i < 1024) ⌝ }
+    ensures { λ g. ⌜ Estimate i g ⌝ }
 {
-    let table =
-        b"@@AABBCCDDEEFFGGGHHIIJJKKKLLMMMNNOOOPPQQQRRSSSTTUUUVVVWWWXXYYYZZZ[[[\\\\\\]]]^^^___```aaabbbcccdddeeefffgggghhhiiijjjkkkklllmmmmnnnoooopppqqqqrrrsssstttuuuuvvvvwwwwxxxyyyyzzzz{{{{||||}}}}~~~~\x7f\x7f\x7f\x7f";
-    table[i] as u64
+    (72018276 + i * (270466 - 77 * i)) / 0x20_0000
 }
 
 // The integer square root of an h of 13 or 14 bits: the estimate, or one less.
@@ -54,7 +52,7 @@ fn sqrtrem_14(h: u64) -> SqrtRem
     requires { ⌜ (2 ^ 12 ≤ h) × (h < 2 ^ 14) ⌝ }
     ensures { λ x. ⌜ IsSqrtRem h (x .s) (x .r) ⌝ }
 {
-    let g = sqrt_estimate((h / 64 - 64) as usize);
+    let g = sqrt_estimate(h / 16);
     let p = g * g;
     if h < p {
         SqrtRem {
@@ -66,7 +64,7 @@ fn sqrtrem_14(h: u64) -> SqrtRem
     }
 }
 
-// The integer square root of m * 2 ^ 54, for an m of 53 or 54 bits: 7 bits of it by the table, then 14, 27 and 54.
+// The integer square root of m * 2 ^ 54, for an m of 53 or 54 bits: 7 bits of it by the estimate, then 14, 27 and 54.
 fn sqrt_54(m: u64) -> u64
     requires { ⌜ (2 ^ 52 ≤ m) × (m < 2 ^ 54) ⌝ }
     ensures { λ s. ⌜ FloorSqrt (m * 2 ^ 54) s ⌝ }
