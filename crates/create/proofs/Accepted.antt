@@ -1,13 +1,11 @@
 -- What an accepted call establishes of its lists. Assumes nothing.
-use Prim.Native.Nat.{ℕ, _*_, _/_, _%_}
-use native.Mathlib.Omega.{arith}
+use Prim.Native.Nat.{ℕ, _*_}
 use mathlib.Core.Path.{_≡_}
 use mathlib.Core.Bool.{true, _&&_}
 use mathlib.Core.List.{List}
 use lib.ListN.{length}
 use lib.IntN.{ℤ}
 use lib.Ieee.{Float}
-use Rattle.mesh.specs.Mesh.{halfedgeStride, refStride}
 use Rattle.mesh.specs.Questions.{hasLength}
 use Rattle.mesh.specs.Check.{checkMesh, checkRefs}
 use Rattle.mesh.specs.declared.Checked.the-variants.{Accepted}
@@ -16,13 +14,12 @@ use Rattle.mesh.proofs.Accepted.{accepted, refs-accepted, entries-accepted}
 use Rattle.edges.proofs.Lent.{entries-in}
 use Rattle.create_steps.proofs.Lent.{create-lists-in}
 use Rattle.create_core.specs.Core.{Lists}
+use Rattle.makings.proofs.Lengths.{MeshListsFit, mesh-lists-fit}
 use Rattle.create.specs.Create.{listsFit, scratchFits, checkCreate, checkLists}
 
 -- question 2 of the lists read and of the tangents
 pub record ListsFit (h l m a r i q t n p : ℕ) : Type 0 where
-  pub positions : l ≡ p * 3
-  pub normals : m ≡ p * 3
-  pub face-normals : a ≡ n / 3 * 3
+  pub mesh-lists : MeshListsFit l m a n p
   pub values : q ≡ i
   pub tangents : t ≡ n * 4
 
@@ -30,14 +27,8 @@ lists-fit : (h l m a r i q t n p : ℕ) → listsFit h l m a r i q t n p ≡ tru
 lists-fit h l m a r i q t n p e =
     let e₇ = and-true _ (hasLength t n 4) e in
     let e₆ = and-true _ (hasLength q i 1) (e₇ .0) in
-    let e₅ = and-true _ (hasLength r (n / 3) refStride) (e₆ .0) in
-    let e₄ = and-true _ (hasLength a (n / 3) 3) (e₅ .0) in
-    let e₃ = and-true _ (hasLength m p 3) (e₄ .0) in
-    let e₂ = and-true (hasLength h n halfedgeStride) (hasLength l p 3) (e₃ .0) in
     record {
-      positions = has-length l p 3 (e₂ .1);
-      normals = has-length m p 3 (e₃ .1);
-      face-normals = has-length a (n / 3) 3 (e₄ .1);
+      mesh-lists = mesh-lists-fit h l m a r n p (e₆ .0);
       values = has-one q i (e₆ .1);
       tangents = has-length t n 4 (e₇ .1);
     }
@@ -67,10 +58,6 @@ scratch-fits x f s d c l n p e =
       links = has-one l n (e₆ .1);
     }
 
--- three numbers for each triangle are one for each halfedge
-three-each : (a n : ℕ) → n % 3 ≡ 0 → a ≡ n / 3 * 3 → a ≡ n
-three-each a n d e = omega arith
-
 -- the lists of an accepted call
 pub lists-of : (H : List ℤ) (P N A : List Float) (R : List ℤ) (I : List ℕ) (Q T : List Float) (X F : List ℕ) (S D : List Float) (C L : List ℕ) (n p : ℕ)
     → checkLists H P N A R I Q T X F S D C L n p ≡ Accepted → Lists H P N A I Q T X F S D C L n p
@@ -82,9 +69,8 @@ lists-of H P N A R I Q T X F S D C L n p e =
     let q = and-true _ _ (b .0) in
     let l = lists-fit _ _ _ _ _ _ _ _ n p (q .0) in
     let s = scratch-fits _ _ _ _ _ _ n p (q .1) in
-    let whole = three-each (length A) n (b .1 .triangles) (l .face-normals) in
     record {
-      lists = create-lists-in (b .1) (l .positions) (l .normals) whole (entries-in I Q n (l .values) (a .1)) (l .tangents) (s .fixed) (s .flat) (s .smooth) (s .points) (s .links);
+      lists = create-lists-in (b .1) (l .mesh-lists .positions) (l .mesh-lists .normals) (l .mesh-lists .face-normals (b .1 .triangles)) (entries-in I Q n (l .values) (a .1)) (l .tangents) (s .fixed) (s .flat) (s .smooth) (s .points) (s .links);
       desired = s .desired;
       points = s .points;
     }

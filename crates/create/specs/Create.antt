@@ -1,14 +1,14 @@
 -- Making from sharp edges as a public call: `create_tangents` of src/smoothing_tangents.rs, with its questions. H are the halfedges, P the positions, N the point normals, A the face normals, R the face references, I and Q the halfedges and the smoothness of the sharp entries, T the tangents, `old` whether these are old tangents, X, F, S, D, C and L the scratch lists `fixed`, `flat`, `smooth`, `desired`, `at` and `link`, n and p the counts of halfedges and points.
-use Prim.Native.Nat.{ℕ, _/_}
+use Prim.Native.Nat.{ℕ}
 use mathlib.Core.List.{List}
 use mathlib.Core.Bool.{Bool, _&&_}
 use lib.ListN.{length}
 use lib.IntN.{ℤ}
 use lib.Ieee.{Float}
-use Rattle.mesh.specs.Mesh.{halfedgeStride, refStride}
 use Rattle.mesh.specs.Questions.{hasLength}
 use Rattle.mesh.specs.Check.{checkMesh, checkRefs, checkEntries, whenAccepted}
 use Rattle.mesh.specs.declared.Checked.{Checked}
+use Rattle.makings.specs.Lengths.{meshListsFit}
 use Rattle.create_core.specs.Core.{createTangents}
 
 -- ---- the questions
@@ -16,9 +16,7 @@ use Rattle.create_core.specs.Core.{createTangents}
 -- question 2 of the lists that the call reads, and of the tangents: what their lengths must be
 abbrev pub listsFit : ℕ → ℕ → ℕ → ℕ → ℕ → ℕ → ℕ → ℕ → ℕ → ℕ → Bool
 listsFit halfedges positions normals faceNormals refs entries values tangents n p =
-    hasLength halfedges n halfedgeStride && hasLength positions p 3 && hasLength normals p 3
-    && hasLength faceNormals (n / 3) 3 && hasLength refs (n / 3) refStride
-    && hasLength values entries 1 && hasLength tangents n 4
+    meshListsFit halfedges positions normals faceNormals refs n p && hasLength values entries 1 && hasLength tangents n 4
 
 -- question 2 of scratch: `at` has a place for each point, each other list one for each halfedge
 abbrev pub scratchFits : ℕ → ℕ → ℕ → ℕ → ℕ → ℕ → ℕ → ℕ → Bool

@@ -1,5 +1,5 @@
 -- What an accepted call establishes of its lists. Assumes nothing.
-use Prim.Native.Nat.{ℕ, _*_, _/_, _%_}
+use Prim.Native.Nat.{ℕ, _*_}
 use native.Mathlib.Omega.{arith}
 use mathlib.Core.Path.{_≡_, sym, subst}
 use mathlib.Core.Bool.{true, _&&_}
@@ -7,7 +7,6 @@ use mathlib.Core.List.{List}
 use lib.ListN.{length}
 use lib.IntN.{ℤ}
 use lib.Ieee.{Float}
-use Rattle.mesh.specs.Mesh.{halfedgeStride, refStride}
 use Rattle.mesh.specs.Questions.{hasLength}
 use Rattle.mesh.specs.Check.{checkMesh}
 use Rattle.mesh.specs.Sound.{Sound}
@@ -15,13 +14,12 @@ use Rattle.mesh.specs.declared.Checked.the-variants.{Accepted}
 use Rattle.mesh.proofs.Tests.{and-true, has-length, has-one}
 use Rattle.mesh.proofs.Accepted.{accepted, refs-accepted}
 use Rattle.normals_core.specs.Core.{Lists}
+use Rattle.makings.proofs.Lengths.{MeshListsFit, mesh-lists-fit}
 use Rattle.create_from_normals.specs.FromNormals.{listsFit, scratchFits, checkNormals, checkLists}
 
 -- question 2 of the lists read and of the tangents
 record ListsFit (l m a g t n p : ℕ) : Type 0 where
-  positions : l ≡ p * 3
-  normals : m ≡ p * 3
-  face-normals : a ≡ n / 3 * 3
+  mesh-lists : MeshListsFit l m a n p
   halfedge-normals : g ≡ n * 3
   tangents : t ≡ n * 4
 
@@ -29,14 +27,8 @@ lists-fit : (h l m a r g t n p : ℕ) → listsFit h l m a r g t n p ≡ true �
 lists-fit h l m a r g t n p e =
     let e₇ = and-true _ (hasLength t n 4) e in
     let e₆ = and-true _ (hasLength g n 3) (e₇ .0) in
-    let e₅ = and-true _ (hasLength r (n / 3) refStride) (e₆ .0) in
-    let e₄ = and-true _ (hasLength a (n / 3) 3) (e₅ .0) in
-    let e₃ = and-true _ (hasLength m p 3) (e₄ .0) in
-    let e₂ = and-true (hasLength h n halfedgeStride) (hasLength l p 3) (e₃ .0) in
     record {
-      positions = has-length l p 3 (e₂ .1);
-      normals = has-length m p 3 (e₃ .1);
-      face-normals = has-length a (n / 3) 3 (e₄ .1);
+      mesh-lists = mesh-lists-fit h l m a r n p (e₆ .0);
       halfedge-normals = has-length g n 3 (e₆ .1);
       tangents = has-length t n 4 (e₇ .1);
     }
@@ -63,10 +55,6 @@ scratch-fits x q c d f n p e =
       points = has-one f p (e₅ .1);
     }
 
--- three numbers for each triangle are one for each halfedge
-three-each : (a n : ℕ) → n % 3 ≡ 0 → a ≡ n / 3 * 3 → a ≡ n
-three-each a n d e = omega arith
-
 -- the lists of an accepted call
 pub lists-of : (H : List ℤ) (P N A : List Float) (R : List ℤ) (G T : List Float) (X Q : List ℕ) (C D : List Float) (F : List ℕ) (n p : ℕ)
     → checkLists H P N A R G T X Q C D F n p ≡ Accepted → Lists H P N A G T X Q C D F n p
@@ -80,9 +68,9 @@ lists-of H P N A R G T X Q C D F n p e =
     record {
       lists = record {
         sound = subst (Sound H n) (sym (s .points)) (b .1);
-        positions = omega (arith, l .positions, s .points);
-        normals = omega (arith, l .normals, s .points);
-        face-normals = three-each (length A) n (b .1 .triangles) (l .face-normals);
+        positions = omega (arith, l .mesh-lists .positions, s .points);
+        normals = omega (arith, l .mesh-lists .normals, s .points);
+        face-normals = l .mesh-lists .face-normals (b .1 .triangles);
         halfedge-normals = l .halfedge-normals;
         tangents = l .tangents;
         fixed = s .fixed;

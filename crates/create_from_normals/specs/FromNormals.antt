@@ -1,14 +1,14 @@
 -- Making from normals as a public call: `create_tangents_from_normals` of src/smoothing_tangents.rs, with its questions. H are the halfedges, P the positions, N the point normals, A the face normals, R the face references, G the lent normals, T the tangents, `old` whether these are old tangents, X, Q, C, D and F the scratch lists `fixed`, `inside`, `current`, `desired` and `first`, n and p the counts of halfedges and points.
-use Prim.Native.Nat.{ℕ, _/_}
+use Prim.Native.Nat.{ℕ}
 use mathlib.Core.List.{List}
 use mathlib.Core.Bool.{Bool, _&&_}
 use lib.ListN.{length}
 use lib.IntN.{ℤ}
 use lib.Ieee.{Float}
-use Rattle.mesh.specs.Mesh.{halfedgeStride, refStride}
 use Rattle.mesh.specs.Questions.{hasLength}
 use Rattle.mesh.specs.Check.{checkMesh, checkRefs, whenAccepted}
 use Rattle.mesh.specs.declared.Checked.{Checked}
+use Rattle.makings.specs.Lengths.{meshListsFit}
 use Rattle.normals_core.specs.Core.{createTangentsFromNormals}
 
 -- ---- the questions
@@ -16,9 +16,7 @@ use Rattle.normals_core.specs.Core.{createTangentsFromNormals}
 -- question 2 of the lists that the call reads, and of the tangents: what their lengths must be
 abbrev pub listsFit : ℕ → ℕ → ℕ → ℕ → ℕ → ℕ → ℕ → ℕ → ℕ → Bool
 listsFit halfedges positions normals faceNormals refs halfedgeNormals tangents n p =
-    hasLength halfedges n halfedgeStride && hasLength positions p 3 && hasLength normals p 3
-    && hasLength faceNormals (n / 3) 3 && hasLength refs (n / 3) refStride
-    && hasLength halfedgeNormals n 3 && hasLength tangents n 4
+    meshListsFit halfedges positions normals faceNormals refs n p && hasLength halfedgeNormals n 3 && hasLength tangents n 4
 
 -- question 2 of scratch: `first` has a place for each point, each other list one for each halfedge
 abbrev pub scratchFits : ℕ → ℕ → ℕ → ℕ → ℕ → ℕ → ℕ → Bool

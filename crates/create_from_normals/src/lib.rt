@@ -21,19 +21,9 @@ fn lists_fit(
 ) -> bool
     ensures { λ r. ⌜ r ≡ listsFit halfedges positions normals «face_normals» refs «halfedge_normals» tangents n p ⌝ }
 {
-    let points = mesh::both(
-        mesh::both(
-            mesh::has_length(halfedges, n, mesh::HALFEDGE_STRIDE),
-            mesh::has_length(positions, p, 3),
-        ),
-        mesh::has_length(normals, p, 3),
-    );
-    let faces = mesh::both(
-        mesh::both(points, mesh::has_length(face_normals, n / 3, 3)),
-        mesh::has_length(refs, n / 3, mesh::REF_STRIDE),
-    );
+    let lists = makings::mesh_lists_fit(n, p, halfedges, positions, normals, face_normals, refs);
     mesh::both(
-        mesh::both(faces, mesh::has_length(halfedge_normals, n, 3)),
+        mesh::both(lists, mesh::has_length(halfedge_normals, n, 3)),
         mesh::has_length(tangents, n, 4),
     )
 }

@@ -1,2 +1,3 @@
 -- The laws of `makings` that the crates above cite.
+pub mod Lengths
 pub mod Makings

@@ -1,2 +1,3 @@
--- The specs of `makings`.
+-- The specs of `makings`, in the order of reading.
+pub mod Lengths
 pub mod Makings
