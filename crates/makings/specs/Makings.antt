@@ -41,7 +41,7 @@ tangentsOf T X = record { tangents = T; fixed = X }
 unfoldable pub putCircularTangent : List ℤ → List Float → List Float → ℕ → Vec3 → List Float
 putCircularTangent H P T e dir = putTangent T e (circularTangent dir (edgeVec H P e))
 
--- Both are fixed, the first with a tangent in the direction `dir`, which is `new_tangent`, the second in the opposite one. The Rust takes both edges from the start of the first: each starts at the point, so its own edge vector is the same.
+-- Both are fixed, the first with a tangent in the direction `dir`, which is `new_tangent`, the second in the opposite one. For a crease the Rust takes both edges from the start of the first: each starts at the point, so its own edge vector is the same.
 unfoldable pub alignTangents : List ℤ → List Float → Tangents → ℕ → ℕ → Vec3 → Tangents
 alignTangents H P m first second dir =
     tangentsOf

@@ -18,7 +18,7 @@ use Rattle.makings.specs.Makings.{TangentsIn}
 use Rattle.cycles.specs.Cycles.{vertexCycle}
 use Rattle.faces.specs.Faces.{isFlat}
 
--- ---- what the lists must be for a call: `making-in` of `proofs/Lent.antt` give it from `VertIn`
+-- ---- what the lists must be for a call: `making-in` of `proofs/Lent.antt` gives it from `VertIn`
 
 -- a sound mesh, a tangent for each of its n halfedges, and a flag for each triangle, in a list with a place for each halfedge
 pub record MeetingIn (H : List ℤ) (F : List ℕ) (T : List Float) (n : ℕ) : Type 0 where
