@@ -3,6 +3,7 @@ ghost use mathlib.Core.Path.{_≡_};
 ghost use Prim.Native.Nat.{_+_, _*_, _^_, _≤_, _<_};
 ghost use lib.Ieee.{ofBits, binary64};
 ghost use Rattle.sqrt.specs.Sqrt.{sqrtOf};
+ghost use Rattle.sqrt.specs.Nearest.{IsRoot};
 ghost use Rattle.sqrt.specs.Steps.{FloorSqrt, IsSqrtRem, Estimate, StepInput, IsNormalized, infinityBits};
 
 // The bits of positive infinity: those of finite positive values are below it.
@@ -114,7 +115,8 @@ fn sqrt_bits(b: u64) -> u64
 
 // IEEE 754-2019's squareRoot at binary64 with roundTiesToEven, for every f64.
 pub fn sqrt(x: f64) -> f64
-    ensures { λ r. ⌜ r ≡ sqrtOf x ⌝ }
+    ensures root { λ r. ⌜ r ≡ sqrtOf x ⌝ }
+    ensures ieee { λ r. ⌜ IsRoot x r ⌝ }
 {
     if x > 0.0 {
         let b = f64::to_bits(x);

@@ -5,7 +5,7 @@ use Rattle.linalg.proofs.length.Tie as tie
 
 returns : tie.Need-returns
 unfolding lengthOf
-returns c = simp (← c .before .length2 .ensures, ← c .sqrt .ensures)
+returns c = simp (← c .before .length2 .ensures, ← c .sqrt .ensures .0)
 
 pub length-spec : {M : Type 1} → statement M
 length-spec = tie.close (tie.spec (λ c κs. tt) (λ c κs. tt) returns)

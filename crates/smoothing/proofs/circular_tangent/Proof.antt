@@ -19,7 +19,7 @@ returns : tie.Need-returns
 unfolding circularTangent
 returns c =
     let edge = c .before .before .before .before .before .before .before .before .before .before .before .before .before .before .before .before .args .edge-vec in
-    simp (length-is edge, direction-is edge, ← c .before .before .before .before .before .before .before .before .before .before .before .before .before .before .before .safe-normalize .ensures, ← c .before .before .before .before .before .before .before .before .before .before .before .before .before .before .dot .ensures, ← c .before .before .before .before .before .before .before .before .before .before .before .before .before .sqrt .ensures, ← c .before .before .before .before .before .before .before .before .before .before .before .before .direction-by .ensures, ← c .before .before .before .before .before .before .before .before .before .before .before .dot2 .ensures, ← c .before .before .before .before .before .before .before .before .before .before .max .ensures)
+    simp (length-is edge, direction-is edge, ← c .before .before .before .before .before .before .before .before .before .before .before .before .before .before .before .safe-normalize .ensures, ← c .before .before .before .before .before .before .before .before .before .before .before .before .before .before .dot .ensures, ← c .before .before .before .before .before .before .before .before .before .before .before .before .before .sqrt .ensures .0, ← c .before .before .before .before .before .before .before .before .before .before .before .before .direction-by .ensures, ← c .before .before .before .before .before .before .before .before .before .before .before .dot2 .ensures, ← c .before .before .before .before .before .before .before .before .before .before .max .ensures)
 
 pub circular-tangent-spec : {M : Type 1} → statement M
 circular-tangent-spec =

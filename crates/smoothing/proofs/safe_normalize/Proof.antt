@@ -5,7 +5,7 @@ use Rattle.smoothing.proofs.safe_normalize.Tie as tie
 
 returns : tie.Need-returns
 unfolding safeNormalize
-returns c = simp (← c .before .before .dot .ensures, ← c .before .sqrt .ensures, ← c .direction-by .ensures)
+returns c = simp (← c .before .before .dot .ensures, ← c .before .sqrt .ensures .0, ← c .direction-by .ensures)
 
 pub safe-normalize-spec : {M : Type 1} → statement M
 safe-normalize-spec =
