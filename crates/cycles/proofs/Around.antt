@@ -1,11 +1,10 @@
 -- The walks around the points of a sound mesh: both steps take its halfedges one to one to themselves, and what follows of vertex cycles.
 use mathlib.Core.Path.{_≡_, refl, sym, ap, _∙_}
 use mathlib.Core.List.{List}
-use mathlib.Core.Bool.{Bool, true}
+use mathlib.Core.Bool.{Bool}
 use mathlib.Core.Logic.{_≢_}
 use Prim.Native.Nat.{ℕ, zero, suc, _+_, _^_, _≤_, _<_}
 use native.Mathlib.Omega.{arith}
-use borrow.Author.Tests.{eq-eqb}
 use lib.ListN.{length}
 use lib.IntN.{ℤ}
 use Rattle.mesh.specs.Mesh.{startVert, pairedHalfedge, nextHalfedge, prevHalfedge}
@@ -17,13 +16,9 @@ use Rattle.mesh.proofs.Halfedges as Halfedges
 use Rattle.cycles.specs.Count.{count, _∈_}
 use Rattle.cycles.specs.Walk.{iter, cycleOf, Reaches}
 use Rattle.cycles.specs.Orbits.{Permutes}
-use Rattle.cycles.specs.Cycles.{nextAround, prevAround, vertexCycle, vertexCycleBack, stopsAt, Cycles}
+use Rattle.cycles.specs.Cycles.{nextAround, prevAround, vertexCycle, vertexCycleBack, Cycles}
 use Rattle.cycles.proofs.Orbits.{undo-reaches, cycle-back, cycle-some, cycle-once, cycle-reached, cycle-all, orbits}
 use Rattle.cycles.proofs.Count.{at-most-one}
-
--- a walk by `stopsAt` stops where it comes back
-pub stops-start : (F : List ℕ) (s : ℕ) → stopsAt F s s ≡ true
-stops-start F s = rw (eq-eqb s s refl)
 
 module _ {H : List ℤ} {n p : ℕ} (S : Sound H n p) where
   -- what `next_around` and `prev_around` require

@@ -75,9 +75,6 @@ module _ {step : ℕ → ℕ} {n : ℕ} (P : Permutes step n) where
 
       -- ---- the same with the fuel of a guard that lets n + 1 steps pass
 
-      pub steps-within : stepsLeft step stop (suc n) s ≤ n
-      steps-within = path-within (suc n)
-
       pub steps-some : 1 ≤ stepsLeft step stop (suc n) s
       steps-some = path-some step stop (suc n) s (suc-le-suc zero-le)
 

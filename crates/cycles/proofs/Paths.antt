@@ -86,17 +86,6 @@ module _ (step : ℕ → ℕ) where
         go zero false e ih l = e
         go (suc i) false e ih l = ih i (le-of-suc-le-suc (rw e at l))
 
-    -- a walk that ends with fuel left ends at a stop
-    pub path-stop : (k h : ℕ) → length (path step stop k h) < k → stop (walkEnd step stop k h) ≡ true
-    unfolding path walkEnd
-    path-stop zero h l = absurd (not-suc-le-zero l)
-    path-stop (suc k) h l = go (stop (step h)) refl (path-stop k (step h))
-      where
-        go : (b : Bool) → stop (step h) ≡ b → (length (path step stop k (step h)) < k → stop (walkEnd step stop k (step h)) ≡ true)
-            → stop (walkEnd step stop (suc k) h) ≡ true
-        go true e ih = rw e e
-        go false e ih = rw e (ih (le-of-suc-le-suc (rw e at l)))
-
     -- a walk that has not come to a stop takes one step more with more fuel
     pub path-longer : (k h : ℕ) → stop (walkEnd step stop k h) ≡ false → length (path step stop (suc k) h) ≡ suc k
     unfolding path walkEnd
@@ -156,20 +145,6 @@ module _ (step : ℕ → ℕ) where
           go : (k : ℕ) → 1 ≤ k → stop (walkEnd step stop k h) ≡ true → walkEnd step stop k h ≡ walkEnd step stop k (step h)
           go zero p s = absurd (not-suc-le-zero p)
           go (suc m) p s = end-on m h e ∙ sym (end-more m (suc m) (step h) (fuel-left m h e s) (omega arith) (ap stop (sym (end-on m h e)) ∙ s))
-
-      pub path-final : stop (step h) ≡ true → path step stop k h ≡ step h ∷ []
-      path-final e = go k p
-        where
-          go : (k : ℕ) → 1 ≤ k → path step stop k h ≡ step h ∷ []
-          go zero p = absurd (not-suc-le-zero p)
-          go (suc m) p = path-last m h e
-
-      pub end-final : stop (step h) ≡ true → walkEnd step stop k h ≡ step h
-      end-final e = go k p
-        where
-          go : (k : ℕ) → 1 ≤ k → walkEnd step stop k h ≡ step h
-          go zero p = absurd (not-suc-le-zero p)
-          go (suc m) p = end-last m h e
 
   -- ---- cycles: the same walk, with the place that it leaves instead of the one that it steps onto
 

@@ -1,13 +1,10 @@
 -- Vertex cycles (document 01's rounds): the halfedges that leave one point, reached one from the other by going to the pair and then to the next in that triangle.
 use Prim.Native.Nat.{ℕ, _≤_, _<_}
 use mathlib.Core.Path.{_≡_}
-use mathlib.Core.Bool.{Bool, _||_}
 use mathlib.Core.List.{List}
-use lib.ListN.{length, getD}
+use lib.ListN.{length}
 use lib.IntN.{ℤ}
-use lib.Dec.{eqb}
 use Rattle.mesh.specs.Mesh.{startVert, pairedHalfedge, nextHalfedge, prevHalfedge}
-use Rattle.mesh.specs.Sound.{Sound}
 use Rattle.cycles.specs.Count.{count, _∈_}
 use Rattle.cycles.specs.Walk.{cycleOf}
 use Rattle.cycles.specs.Orbits.{Orbits}
@@ -27,10 +24,6 @@ vertexCycle H n e = cycleOf (nextAround H) n e
 abbrev pub vertexCycleBack : List ℤ → ℕ → ℕ → List ℕ
 vertexCycleBack H n e = cycleOf (prevAround H) n e
 
--- a walk from s stops at a halfedge with flag 1, and where it comes back to s
-abbrev pub stopsAt : List ℕ → ℕ → ℕ → Bool
-stopsAt F s y = eqb y s || eqb (getD F y 0) 1
-
 -- What is claimed of an accepted mesh. Its walks forward and backward have all that `Orbits` says; each step undoes the other and stays at the start point.
 pub record Cycles (H : List ℤ) (n : ℕ) : Type 0 where
   pub forward : Orbits (nextAround H) n
@@ -43,10 +36,3 @@ pub record Cycles (H : List ℤ) (n : ℕ) : Type 0 where
   pub cycle-start : (e x : ℕ) → e < n → x ∈ vertexCycle H n e → startVert H x ≡ startVert H e
   pub cycle-two : (e : ℕ) → e < n → 2 ≤ length (vertexCycle H n e)
   pub cycle-ways : (e x : ℕ) → e < n → count x (vertexCycleBack H n e) ≡ count x (vertexCycle H n e)
-
--- what a walk round a point is lent: a sound mesh, a flag for each halfedge, and a halfedge to start from
-pub record WalkInput (H : List ℤ) (F : List ℕ) (n s : ℕ) : Type 0 where
-  pub points : ℕ
-  pub sound : Sound H n points
-  pub flags : length F ≡ n
-  pub start : s < n

@@ -1,11 +1,10 @@
-// Walks around a point of the mesh: the Rust's `collect_vertex_cycle` and the loops of `distribute_tangents`.
+// The two steps around a point of the mesh, by which `collect_vertex_cycle` and the walks of `distribute_tangents` go. The
+// walks are loops of the crates above, which prove them by proofs/Loops.antt.
 ghost use mathlib.Core.Path.{_≡_};
 ghost use mathlib.Core.Bool.{_||_};
-ghost use Prim.Native.Nat.{suc, _+_, _<_, _^_};
-ghost use lib.ListN.{length};
+ghost use Prim.Native.Nat.{_+_, _<_, _^_};
 ghost use Rattle.mesh.specs.Mesh.{pairedHalfedge};
-ghost use Rattle.cycles.specs.Walk.{walkEnd};
-ghost use Rattle.cycles.specs.Cycles.{nextAround, prevAround, stopsAt, WalkInput};
+ghost use Rattle.cycles.specs.Cycles.{nextAround, prevAround};
 
 // The next halfedge around the start point of e: the next of the pair.
 pub fn next_around(h: &[i32], e: usize) -> usize
@@ -28,29 +27,4 @@ pub fn either(a: bool, b: bool) -> bool
     ensures { λ r. ⌜ r ≡ a || b ⌝ }
 {
     a || b
-}
-
-// Does a walk from `start` stop at e?
-pub fn stops_at(fixed: &[u8], start: usize, e: usize) -> bool
-    requires { ⌜ e < length (now fixed) ⌝ }
-    ensures { λ r. ⌜ r ≡ stopsAt (now (fixed .entry)) start e ⌝ }
-{
-    either(e == start, fixed[e] == 1)
-}
-
-// The halfedge where the walk around from `start` stops: the first fixed one after it, or `start` itself. The definition has the Rust's guard;
-// the loop needs none.
-pub fn walk_end(h: &[i32], fixed: &[u8], n: usize, start: usize) -> usize
-    requires { ⌜ WalkInput (now h) (now fixed) n start ⌝ }
-    ensures { λ r. ⌜ r ≡ walkEnd (nextAround (now (h .entry))) (stopsAt (now (fixed .entry)) start) (suc n) start ⌝ }
-{
-    let mut current = start;
-    let stopped = loop {
-        let next = next_around(h, current);
-        if stops_at(fixed, start, next) {
-            break next;
-        }
-        current = next;
-    };
-    stopped
 }

@@ -54,7 +54,8 @@ fn gather_at(
     distribute_steps::gather_edge(current, desired, approx, edge, e == start, v, g)
 }
 
-// The first walk: breaks with the halfedge where it stopped, the next one that is fixed and unmarked.
+// The first walk, document 01's "loop that yields the halfedge where it stopped": breaks with the next one that is fixed and
+// unmarked.
 fn first_walk(
     n: usize,
     p: usize,
