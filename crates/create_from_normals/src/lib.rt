@@ -3,7 +3,7 @@
 ghost use mathlib.Core.Path.{_≡_};
 ghost use lib.ListN.{length, replicate};
 ghost use Rattle.float.specs.Ops.{zero};
-ghost use Rattle.mesh.specs.Check.{whenAccepted};
+ghost use Rattle.mesh.specs.Check.{whenAccepted, Values};
 ghost use Rattle.create_from_normals.specs.FromNormals.{listsFit, scratchFits, checkNormals, checkLists, tangentsAfter};
 use mesh::Checked;
 
@@ -86,6 +86,7 @@ pub fn create_tangents_from_normals(
     ensures current { λ r. ⌜ now (current .exit) ≡ whenAccepted r (replicate n zero) (now (current .entry)) ⌝ }
     ensures desired { λ r. ⌜ now (desired .exit) ≡ whenAccepted r (replicate n zero) (now (desired .entry)) ⌝ }
     ensures first { λ r. ⌜ now (first .exit) ≡ whenAccepted r (replicate p 0) (now (first .entry)) ⌝ }
+    ensures values { λ r. ⌜ Values (checkLists (now (h .entry)) (now (pos .entry)) (now (normals .entry)) (now («face_normals» .entry)) (now (refs .entry)) (now («halfedge_normals» .entry)) (now (t .entry)) (now (fixed .entry)) (now (inside .entry)) (now (current .entry)) (now (desired .entry)) (now (first .entry)) n p) r ⌝ }
 {
     let lists = lists_fit(
         n,

@@ -9,6 +9,7 @@ use lib.Ieee.{Float}
 use Rattle.float.specs.Ops.{zero}
 use Rattle.mesh.specs.Mesh.{halfedgeStride}
 use Rattle.mesh.specs.Questions.{hasLength}
+use Rattle.mesh.specs.Check as mesh
 use Rattle.mesh.specs.Check.{checkMesh, checkFlags, whenAccepted}
 use Rattle.mesh.specs.declared.Checked.{Checked}
 use Rattle.mesh.specs.declared.Checked.the-variants.{Accepted, Refused}
@@ -86,3 +87,10 @@ abbrev pub AnyOrder : List ℤ → List Float → List Float → List ℕ → Li
 AnyOrder H P N F T C D n p after r =
     checkLists H P N F T C D n p ≡ Accepted → (starts : List ℕ) → NamesFixed (floatSteps H P N F n) starts
     → OrderFree (floatSteps H P N F n) starts T after (lookedOf r) (turnedOf r)
+
+-- what the definitions give of an answer `r`, after the answer `checked` of the questions, where spreading comes to the state `st`: number, place, looked and turned
+pub record Values (checked : Checked) (S : Steps) (st : State S) (r : Spreading) : Type 0 where
+  pub number : numberOf r ≡ mesh.numberOf checked
+  pub place : placeOf r ≡ mesh.placeOf checked
+  pub looked : lookedOf r ≡ whenAccepted checked (st .looked) 0
+  pub turned : turnedOf r ≡ whenAccepted checked (st .turned) 0

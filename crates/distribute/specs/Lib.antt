@@ -1,2 +1,3 @@
--- The specs of `distribute`.
+-- The specs of `distribute`, in the order of reading.
 pub mod Distribute
+pub mod Claims

@@ -5,7 +5,7 @@ ghost use lib.ListN.{length, replicate};
 ghost use Rattle.float.specs.Ops.{zero};
 ghost use Rattle.distribute_steps.specs.FloatSteps.{floatSteps};
 ghost use Rattle.distribute_walks.specs.Walks.{Lists};
-ghost use Rattle.distribute.specs.Distribute.{numberOf, placeOf, lookedOf, turnedOf, lengthsFit, checkLists, spreadTangents, Reports, answerOf, distributeTangents, tangentsAfter, scratchAfter, AnyOrder};
+ghost use Rattle.distribute.specs.Distribute.{numberOf, placeOf, lookedOf, turnedOf, lengthsFit, checkLists, spreadTangents, Reports, answerOf, distributeTangents, tangentsAfter, scratchAfter, AnyOrder, Values};
 use distribute_walks::Counts;
 use mesh::Checked;
 
@@ -215,6 +215,7 @@ pub fn distribute_tangents(
     ensures current { λ r. ⌜ now (current .exit) ≡ scratchAfter (checkLists (now (h .entry)) (now (pos .entry)) (now (normals .entry)) (now (fixed .entry)) (now (t .entry)) (now (current .entry)) (now (desired .entry)) n p) (now (current .entry)) n ⌝ }
     ensures desired { λ r. ⌜ now (desired .exit) ≡ scratchAfter (checkLists (now (h .entry)) (now (pos .entry)) (now (normals .entry)) (now (fixed .entry)) (now (t .entry)) (now (current .entry)) (now (desired .entry)) n p) (now (desired .entry)) n ⌝ }
     ensures order { λ r. ⌜ AnyOrder (now (h .entry)) (now (pos .entry)) (now (normals .entry)) (now (fixed .entry)) (now (t .entry)) (now (current .entry)) (now (desired .entry)) n p (now (t .exit)) r ⌝ }
+    ensures values { λ r. ⌜ Values (checkLists (now (h .entry)) (now (pos .entry)) (now (normals .entry)) (now (fixed .entry)) (now (t .entry)) (now (current .entry)) (now (desired .entry)) n p) (floatSteps (now (h .entry)) (now (pos .entry)) (now (normals .entry)) (now (fixed .entry)) n) (spreadTangents (now (h .entry)) (now (pos .entry)) (now (normals .entry)) (now (fixed .entry)) (now (t .entry)) n) r ⌝ }
 {
     let checked = check_lists(n, p, h, pos, normals, fixed, t, current, desired);
     let Checked::Accepted = checked else {

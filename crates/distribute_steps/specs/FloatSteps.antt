@@ -1,4 +1,4 @@
--- The float steps of `distribute_tangents` of src/smoothing_tangents.rs, operation by operation, and the record that fills them into spreading. H are the halfedges, P the positions, N the point normals, F the flags. A read past the end of a list of angles gives not-a-number; the proof of the code shows that there is none.
+-- The float steps of `distribute_tangents` of src/smoothing_tangents.rs, operation by operation, and the record that fills them into spreading. H are the halfedges, P the positions, N the point normals, F the flags. A read past the end of a list of angles gives not-a-number; specs/Claims.antt of `distribute` says that there is none.
 use Prim.Native.Nat.{ℕ, suc, _+_, _-_}
 use mathlib.Core.List.{List, [], _∷_, _++_}
 use mathlib.Core.Bool.{Bool, cond, not, _&&_, _||_}

@@ -4,6 +4,7 @@ ghost use mathlib.Core.Path.{_≡_};
 ghost use mathlib.Core.Bool.{not, _&&_};
 ghost use Prim.Native.Nat.{_+_, _*_, _≤_};
 ghost use lib.ListN.{length};
+ghost use Rattle.mesh.specs.Check.{Values};
 ghost use Rattle.linearize.specs.Linearize.{isFlat, withUnitWeight, linearized, linearizeEnd, linearizeEdge, linearizeAt, linearizeFlatTangents, lengthsFit, linearizeAnswer, tangentsAfter, HalfedgeIn, Lists};
 use linalg::Vec3;
 use linalg::Vec4;
@@ -109,8 +110,9 @@ fn lengths_fit(n: usize, p: usize, h: &[i32], pos: &[f64], t: &[f64]) -> bool
 
 // The public call, for lists of any length and content.
 pub fn linearize_flat_tangents(n: usize, p: usize, h: &[i32], pos: &[f64], t: &mut [f64]) -> Checked
-    ensures { λ r. ⌜ r ≡ linearizeAnswer (now (h .entry)) (now (pos .entry)) (now (t .entry)) n p ⌝ }
-    ensures { λ r. ⌜ now (t .exit) ≡ tangentsAfter (now (h .entry)) (now (pos .entry)) (now (t .entry)) n p ⌝ }
+    ensures answer { λ r. ⌜ r ≡ linearizeAnswer (now (h .entry)) (now (pos .entry)) (now (t .entry)) n p ⌝ }
+    ensures tangents { λ r. ⌜ now (t .exit) ≡ tangentsAfter (now (h .entry)) (now (pos .entry)) (now (t .entry)) n p ⌝ }
+    ensures values { λ r. ⌜ Values (linearizeAnswer (now (h .entry)) (now (pos .entry)) (now (t .entry)) n p) r ⌝ }
 {
     let checked = mesh::check_mesh(h, n, p, lengths_fit(n, p, h, pos, t));
     let Checked::Accepted = checked else {

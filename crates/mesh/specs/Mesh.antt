@@ -4,7 +4,8 @@ use mathlib.Core.List.{List}
 use mathlib.Core.Bool.{Bool, false, cond, _&&_}
 use lib.ListN.{getD}
 use lib.IntN.{ℤ, pos, negsuc}
-use lib.Dec.{eqb, ltb}
+use lib.Signed.{ltZ}
+use lib.Dec.{eqb}
 
 -- the limits of question 1
 abbrev pub maxHalfedges : ℕ
@@ -43,9 +44,9 @@ endVert H e = field H e 1
 abbrev pub pairedHalfedge : List ℤ → ℕ → ℕ
 pairedHalfedge H e = field H e 2
 
--- `is_forward`; an accepted mesh has no negative entry
+-- `is_forward`: `start_vert < end_vert`, of the two i32 with their sign
 abbrev pub isForward : List ℤ → ℕ → Bool
-isForward H e = ltb (startVert H e) (endVert H e)
+isForward H e = ltZ (numberAt H e halfedgeStride 0) (numberAt H e halfedgeStride 1)
 
 -- `next_halfedge` and `prev_halfedge`, within the triangle
 unfoldable pub nextHalfedge : ℕ → ℕ

@@ -101,7 +101,7 @@ pub fn paired_halfedge(h: &[i32], e: usize) -> usize
 pub fn is_forward(h: &[i32], e: usize) -> bool
     ensures { λ r. ⌜ r ≡ isForward (now (h .entry)) e ⌝ }
 {
-    start_vert(h, e) < end_vert(h, e)
+    number_at(h, e, HALFEDGE_STRIDE, 0) < number_at(h, e, HALFEDGE_STRIDE, 1)
 }
 
 pub fn next_halfedge(e: usize) -> usize

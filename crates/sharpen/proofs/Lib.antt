@@ -2,4 +2,5 @@
 mod Count
 pub mod Listed
 pub mod Room
+mod Values
 pub mod Pillow

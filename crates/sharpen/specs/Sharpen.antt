@@ -38,12 +38,6 @@ abbrev pub tallyOf : Listing → ℕ
 tallyOf (Listed entries tally) = tally
 tallyOf (RefusedListing number place) = 0
 
--- what holds of each answer, after the answer of the questions: it has their number and place, and its tally is half of its entries
-pub record Values (checked : Checked) (r : Listing) : Type 0 where
-  pub number : numberOf r ≡ mesh.numberOf checked
-  pub place : placeOf r ≡ mesh.placeOf checked
-  pub half : entriesOf r ≡ 2 * tallyOf r
-
 -- ---- the questions
 
 -- question 2 of the lists that the call is lent
@@ -91,3 +85,11 @@ sharpenEdges H A angle smooth E S n p = answerOf (checkLists H A E S n p) (creas
 -- the lists after it: as lent where it refuses
 abbrev pub entriesAfter : List ℤ → List Float → Float → Float → List ℕ → List Float → ℕ → ℕ → Entries
 entriesAfter H A angle smooth E S n p = whenAccepted (checkLists H A E S n p) (creases H A angle smooth E S n) (entriesIn E S 0)
+
+-- what the definitions give of an answer `r`, after the answer `checked` of the questions, where `listed` are the entries of the listing and `edges` is its tally: number, place, entries and tally; and that the tally is half of the entries
+pub record Values (checked : Checked) (listed : Entries) (edges : ℕ) (r : Listing) : Type 0 where
+  pub number : numberOf r ≡ mesh.numberOf checked
+  pub place : placeOf r ≡ mesh.placeOf checked
+  pub entries : entriesOf r ≡ whenAccepted checked (listed .count) 0
+  pub tally : tallyOf r ≡ whenAccepted checked edges 0
+  pub half : entriesOf r ≡ 2 * tallyOf r

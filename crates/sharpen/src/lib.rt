@@ -5,7 +5,7 @@ ghost use Prim.Native.Nat.{_+_, _≤_};
 ghost use lib.ListN.{length};
 ghost use Rattle.sharpen.specs.Crease.{minRadians, dihedralOf, isCrease, NormalsIn};
 ghost use Rattle.sharpen.specs.Entries.{entriesIn, pushEdge, listEdge, listEdges};
-ghost use Rattle.sharpen.specs.Sharpen.{lengthsFit, checkLists, Lists, EdgeFits, Values, numberOf, placeOf, entriesOf, tallyOf, sharpenEdges, entriesAfter};
+ghost use Rattle.sharpen.specs.Sharpen.{lengthsFit, checkLists, Lists, EdgeFits, Values, numberOf, placeOf, entriesOf, tallyOf, creases, creaseTally, sharpenEdges, entriesAfter};
 use mesh::Checked;
 
 // The answer: how many entries the lists have and how many edges they name, or the first question answered no and its
@@ -192,9 +192,9 @@ pub fn sharpen_edges(
     smoothness: &mut [f64],
 ) -> Listing
     ensures answer { λ r. ⌜ r ≡ sharpenEdges (now (h .entry)) (now (normals .entry)) angle smooth (now (halfedges .entry)) (now (smoothness .entry)) n p ⌝ }
-    ensures values { λ r. ⌜ Values (checkLists (now (h .entry)) (now (normals .entry)) (now (halfedges .entry)) (now (smoothness .entry)) n p) r ⌝ }
     ensures listed { λ r. ⌜ now (halfedges .exit) ≡ entriesAfter (now (h .entry)) (now (normals .entry)) angle smooth (now (halfedges .entry)) (now (smoothness .entry)) n p .halfedges ⌝ }
     ensures copied { λ r. ⌜ now (smoothness .exit) ≡ entriesAfter (now (h .entry)) (now (normals .entry)) angle smooth (now (halfedges .entry)) (now (smoothness .entry)) n p .smoothness ⌝ }
+    ensures values { λ r. ⌜ Values (checkLists (now (h .entry)) (now (normals .entry)) (now (halfedges .entry)) (now (smoothness .entry)) n p) (creases (now (h .entry)) (now (normals .entry)) angle smooth (now (halfedges .entry)) (now (smoothness .entry)) n) (creaseTally (now (h .entry)) (now (normals .entry)) angle n) r ⌝ }
 {
     let checked = mesh::check_mesh(h, n, p, lengths_fit(n, h, normals, halfedges, smoothness));
     let Checked::Accepted = checked else {

@@ -11,7 +11,10 @@ use Rattle.mesh.specs.Fold.{foldTo}
 use Rattle.mesh.proofs.Fold.{fold-next}
 use Rattle.mesh.proofs.Halfedges.{next-below, prev-below}
 use Rattle.smoothing.proofs.Edges.{quad-in}
-use Rattle.validate.specs.Validate.{validAt, validSoFar, NeighborsIn, MarksIn, Lists}
+use Rattle.mesh.specs.declared.Checked.{Checked}
+use Rattle.mesh.specs.declared.Checked.the-variants.{Accepted, Refused}
+use Rattle.validate.specs.Validate.{validAt, validSoFar, validityOf, Values, NeighborsIn, MarksIn, Lists}
+use Rattle.validate.specs.declared.Validity.{Validity}
 
 -- ---- the fold over the halfedges below n
 
@@ -48,3 +51,13 @@ module _ {H : List ℤ} {T : List Float} {n p : ℕ} (l : Lists H T n p) where
     here = neighbors-in e h;
     there = neighbors-in (pairedHalfedge H e) (l .sound .paired-below e h);
   }
+
+-- ---- number, place and value of the answer
+
+values-are : (checked : Checked) (valid : Bool) → Values checked valid (validityOf checked valid)
+values-are Accepted true = record { number = refl; place = refl; value = refl }
+values-are Accepted false = record { number = refl; place = refl; value = refl }
+values-are (Refused number place) valid = record { number = refl; place = refl; value = refl }
+
+pub with-values : (checked : Checked) (valid : Bool) {r : Validity} → r ≡ validityOf checked valid → (r ≡ validityOf checked valid) × Values checked valid r
+with-values checked valid e = (e, rw e (values-are checked valid))

@@ -8,7 +8,8 @@ use lib.IntN.{ℤ}
 use lib.Ieee.{Float}
 use Rattle.mesh.specs.Mesh.{halfedgeStride, pairedHalfedge, nextHalfedge, prevHalfedge}
 use Rattle.mesh.specs.Questions.{hasLength}
-use Rattle.mesh.specs.Check.{checkMesh}
+use Rattle.mesh.specs.Check as mesh
+use Rattle.mesh.specs.Check.{checkMesh, whenAccepted}
 use Rattle.mesh.specs.Fold.{foldTo}
 use Rattle.mesh.specs.Sound.{Sound}
 use Rattle.mesh.specs.declared.Checked.{Checked}
@@ -68,6 +69,12 @@ abbrev pub valueOf : Validity → ℕ
 valueOf (Valid true) = 1
 valueOf (Valid false) = 0
 valueOf (Refused number place) = 0
+
+-- what the definitions give of an answer `r`, after the answer `checked` of the questions, where the marks are `valid`: number, place and value
+pub record Values (checked : Checked) (valid : Bool) (r : Validity) : Type 0 where
+  pub number : numberOf r ≡ mesh.numberOf checked
+  pub place : placeOf r ≡ mesh.placeOf checked
+  pub value : valueOf r ≡ whenAccepted checked (cond valid 1 0) 0
 
 -- ---- what the inner functions ask of their lists
 

@@ -2,9 +2,10 @@
 // has no marked halfedge a marked neighbour?
 ghost use mathlib.Core.Path.{_≡_};
 ghost use mathlib.Core.Bool.{true};
+ghost use Rattle.mesh.specs.Check.{checkMesh};
 ghost use Rattle.mesh.specs.Fold.{foldTo};
 ghost use Rattle.mesh.specs.Sound.{Sound};
-ghost use Rattle.validate.specs.Validate.{noMarkedNeighbor, validAt, validSoFar, validTangents, lengthsFit, validAnswer, numberOf, placeOf, valueOf, NeighborsIn, MarksIn, Lists};
+ghost use Rattle.validate.specs.Validate.{noMarkedNeighbor, validAt, validSoFar, validTangents, lengthsFit, validAnswer, numberOf, placeOf, valueOf, Values, NeighborsIn, MarksIn, Lists};
 use mesh::Checked;
 
 // The answer of the call.
@@ -107,7 +108,8 @@ fn lengths_fit(n: usize, p: usize, h: &[i32], pos: &[f64]) -> bool
 
 // The public call, for lists of any length and content. Of the positions only the length is asked about.
 pub fn valid_tangents(n: usize, p: usize, h: &[i32], pos: &[f64], t: &[f64]) -> Validity
-    ensures { λ r. ⌜ r ≡ validAnswer (now (h .entry)) (now (pos .entry)) (now (t .entry)) n p ⌝ }
+    ensures answer { λ r. ⌜ r ≡ validAnswer (now (h .entry)) (now (pos .entry)) (now (t .entry)) n p ⌝ }
+    ensures values { λ r. ⌜ Values (checkMesh (now (h .entry)) n p (lengthsFit (now (h .entry)) (now (pos .entry)) n p)) (validTangents (now (h .entry)) (now (t .entry)) n) r ⌝ }
 {
     let checked = mesh::check_mesh(h, n, p, lengths_fit(n, p, h, pos));
     let Checked::Accepted = checked else {

@@ -2,6 +2,7 @@
 use borrow.Author.Needs.{needs}
 use mathlib.Core.Path.{_≡_, sym, _∙_}
 use denote.Ref.{now}
+use Rattle.mesh.proofs.Values.{values-same}
 use Rattle.linearize.specs.Linearize.{linearizeAnswer}
 use Rattle.linearize.proofs.Laws.{accepted-lists}
 use Rattle.linearize.proofs.linearize_flat_tangents.Statement.{statement}
@@ -16,7 +17,7 @@ same-length c = search needs
 returns : tie.Need-returns
 returns c =
     let k = c .before .before in
-    (answer k, rw (sym (answer k) ∙ c .enum-told2 .given .1))
+    (answer k, (rw (sym (answer k) ∙ c .enum-told2 .given .1), values-same (answer k)))
 
 linearize-all-requires : tie.Need-linearize-all-requires
 linearize-all-requires c κs =
@@ -30,7 +31,7 @@ returns-2 : tie.Need-returns-2
 returns-2 c =
     let d = c .before .before .before .before in
     let k = d .before .before in
-    (answer k, rw (sym (answer k) ∙ d .enum-told .given .1) (c .before .before .linearize-all .ensures))
+    (answer k, (rw (sym (answer k) ∙ d .enum-told .given .1) (c .before .before .linearize-all .ensures), values-same (answer k)))
 
 pub linearize-flat-tangents-spec : {M : Type 1} → statement M
 linearize-flat-tangents-spec =

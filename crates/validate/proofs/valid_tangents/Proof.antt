@@ -1,20 +1,29 @@
 -- `validate::valid_tangents` meets its contract. Assumes nothing.
 use mathlib.Core.Path.{_≡_, sym, _∙_}
+use mathlib.Core.Bool.{Bool}
 use denote.Ref.{now}
 use Rattle.mesh.specs.Check.{checkMesh}
+use Rattle.mesh.specs.declared.Checked.{Checked}
 use Rattle.mesh.proofs.Accepted.{accepted}
-use Rattle.validate.specs.Validate.{lengthsFit}
+use Rattle.validate.specs.Validate.{validTangents, lengthsFit}
+use Rattle.validate.proofs.Laws.{with-values}
 use Rattle.validate.proofs.valid_tangents.Statement.{statement}
 use Rattle.validate.proofs.valid_tangents.Tie as tie
 
-answer : (c : tie.After-check-mesh) → let a = c .before .before .before .before .args in c .check-mesh .result ≡ checkMesh (now (a .h)) (a .n) (a .p) (lengthsFit (now (a .h)) (now (a .pos)) (a .n) (a .p))
+abbrev questions : tie.After-check-mesh → Checked
+questions c = let a = c .before .before .before .before .args in checkMesh (now (a .h)) (a .n) (a .p) (lengthsFit (now (a .h)) (now (a .pos)) (a .n) (a .p))
+
+abbrev marks : tie.After-check-mesh → Bool
+marks c = let a = c .before .before .before .before .args in validTangents (now (a .h)) (now (a .t)) (a .n)
+
+answer : (c : tie.After-check-mesh) → c .check-mesh .result ≡ questions c
 answer c = rw (← c .before .lengths-fit .ensures) (c .check-mesh .ensures)
 
 returns : tie.Need-returns
 returns c =
     let d = c .before .before in
     let k = d .before .before in
-    rw (← answer k, c .before .number-of .ensures, c .place-of .ensures, d .enum-told2 .given .1)
+    with-values (questions k) (marks k) (rw (← answer k, c .before .number-of .ensures, c .place-of .ensures, d .enum-told2 .given .1))
 
 marks-valid-requires : tie.Need-marks-valid-requires
 marks-valid-requires c κs =
@@ -25,7 +34,7 @@ returns-2 : tie.Need-returns-2
 returns-2 c =
     let d = c .before in
     let k = d .before .before in
-    rw (← answer k, d .enum-told .given .1, ← c .marks-valid .ensures)
+    with-values (questions k) (marks k) (rw (← answer k, d .enum-told .given .1, ← c .marks-valid .ensures))
 
 pub valid-tangents-spec : {M : Type 1} → statement M
 valid-tangents-spec =
