@@ -7,23 +7,24 @@ use lib.ListN.{replicate}
 use lib.IntN.{ℤ}
 use lib.Ieee.{Float}
 use Rattle.float.specs.Ops.{zero}
-use Rattle.mesh.specs.Fold.{foldTo}
+use Rattle.mesh.specs.Sound.{Sound}
+use Rattle.smoothing.specs.Edges.{isInsideQuad}
 use Rattle.makings.specs.Makings.{Tangents, tangentsOf}
+use Rattle.normals_steps.specs.Carried.{isInside}
 use Rattle.normals_walks.specs.Walks.{normalsVerts}
+use Rattle.normals_walks.proofs.Inside.{verts-inside}
 use Rattle.distribute.specs.Distribute.{spreadTangents}
-use Rattle.normals_core.specs.Core.{insideQuadAt, insideQuads, normalTangents, createTangentsFromNormals}
+use Rattle.normals_core.specs.Core.{normalTangents, createTangentsFromNormals}
+use Rattle.normals_core.specs.Flags.{insideQuads}
+use Rattle.normals_core.proofs.Flags.{inside-is}
 
--- the loop over e halfedges, all of them, from a list that was cleared
-pub inside-ended : (H R : List ℤ) (T : List Float) (old : Bool) (Q Q₀ : List ℕ) (n e : ℕ) → Q₀ ≡ replicate n 0 → e ≡ n → Q ≡ foldTo (insideQuadAt H R T old) Q₀ e → Q ≡ insideQuads H R T old n
-unfolding insideQuads
-inside-ended H R T old Q Q₀ n e a b f = f ∙ rw (a, b)
-
--- the tangents T and the fixed flags X that the loop over the points leaves
-pub made : (H R : List ℤ) (P N A G O : List Float) (old : Bool) (n p : ℕ) (T T₀ : List Float) (X X₀ Q : List ℕ) (k : ℕ)
-    → tangentsOf T X ≡ normalsVerts H P N A G Q n k (tangentsOf T₀ X₀) → Q ≡ insideQuads H R O old n → T₀ ≡ replicate (n * 4) zero → X₀ ≡ replicate n 0 → k ≡ p
+-- the tangents T and the fixed flags X that the loop over the points leaves, with the flags Q
+pub made : {H : List ℤ} {n j : ℕ} → Sound H n j → (R : List ℤ) (P N A G O : List Float) (old : Bool) (p : ℕ) (T T₀ : List Float) (X X₀ Q : List ℕ) (k : ℕ)
+    → tangentsOf T X ≡ normalsVerts H P N A G (isInside Q) n k (tangentsOf T₀ X₀) → Q ≡ insideQuads H R O old n → T₀ ≡ replicate (n * 4) zero → X₀ ≡ replicate n 0 → k ≡ p
     → tangentsOf T X ≡ normalTangents H R P N A G O old n p
 unfolding normalTangents
-made H R P N A G O old n p T T₀ X X₀ Q k e q t x d = e ∙ rw (q, t, x, d)
+made {H} {n} s R P N A G O old p T T₀ X X₀ Q k e q t x d =
+    e ∙ verts-inside s P N A G (isInside Q) (isInsideQuad H R O old) (λ i h. rw q (inside-is H R O old n i h)) k (tangentsOf T₀ X₀) ∙ rw (t, x, d)
 
 -- the tangents U, where T and X are the tangents and the fixed flags before spreading
 pub created : (H R : List ℤ) (P N A G O : List Float) (old : Bool) (n p : ℕ) (T : List Float) (X : List ℕ) (U : List Float) (k : ℕ)

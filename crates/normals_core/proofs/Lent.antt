@@ -12,7 +12,8 @@ use Rattle.smoothing.proofs.Edges.{quad-in}
 use Rattle.faces.specs.Faces.{vertHalfedge}
 use Rattle.normals_walks.specs.Walks.{VertsLists}
 use Rattle.distribute_walks.specs.Walks.{Lists as SpreadLists}
-use Rattle.normals_core.specs.Core.{InsideIn, TangentLists, Lists}
+use Rattle.normals_core.specs.Core.{TangentLists, Lists}
+use Rattle.normals_core.specs.Flags.{InsideIn}
 
 -- at each halfedge of the loop
 pub quad-at : {H : List ℤ} {T : List Float} {Q : List ℕ} {n : ℕ} → InsideIn H T Q n → (e : ℕ) → e < n → QuadIn H T e

@@ -1,3 +1,4 @@
 -- The laws of `normals_core`.
 mod Core
+mod Flags
 mod Lent

@@ -2,12 +2,11 @@
 use Prim.Native.Nat.{ℕ, _*_}
 use mathlib.Core.Path.{_≡_}
 use mathlib.Core.List.{List}
-use mathlib.Core.Bool.{Bool, cond}
-use lib.ListN.{length, set, replicate}
+use mathlib.Core.Bool.{Bool}
+use lib.ListN.{length, replicate}
 use lib.IntN.{ℤ}
 use lib.Ieee.{Float}
 use Rattle.float.specs.Ops.{zero}
-use Rattle.mesh.specs.Fold.{foldTo}
 use Rattle.mesh.specs.Sound.{Sound}
 use Rattle.smoothing.specs.Edges.{isInsideQuad}
 use Rattle.makings.specs.Makings.{Tangents, tangentsOf}
@@ -15,13 +14,6 @@ use Rattle.normals_walks.specs.Walks.{normalsVerts}
 use Rattle.distribute.specs.Distribute.{spreadTangents}
 
 -- ---- what the lists must be for a call: T are the tangents, X, Q, C, D and F the scratch lists `fixed`, `inside`, `current`, `desired` and `first`
-
--- a tangent and a flag for each halfedge
-pub record InsideIn (H : List ℤ) (T : List Float) (Q : List ℕ) (n : ℕ) : Type 0 where
-  pub points : ℕ
-  pub sound : Sound H n points
-  pub tangents : length T ≡ n * 4
-  pub inside : length Q ≡ n
 
 -- F has a place for each point
 pub record TangentLists (H : List ℤ) (P N A G T : List Float) (X Q F : List ℕ) (n : ℕ) : Type 0 where
@@ -43,17 +35,10 @@ pub record Lists (H : List ℤ) (P N A G T : List Float) (X Q : List ℕ) (C D :
 
 -- ---- the tangents
 
--- A 1 for each halfedge inside a quad. The Rust reads the old weights while it makes the new tangents; here these take the place of the old ones, so the weights are read first.
-unfoldable pub insideQuadAt : List ℤ → List ℤ → List Float → Bool → List ℕ → ℕ → List ℕ
-insideQuadAt H R O old Q e = cond (isInsideQuad H R O old e) (set Q e 1) Q
-
-unfoldable pub insideQuads : List ℤ → List ℤ → List Float → Bool → ℕ → List ℕ
-insideQuads H R O old n = foldTo (insideQuadAt H R O old) (replicate n 0) n
-
 -- Before spreading, of n halfedges and p points. Each tangent is 0 and no halfedge fixed to begin with; the tangents of a further vertex cycle of a point stay so.
 unfoldable pub normalTangents : List ℤ → List ℤ → List Float → List Float → List Float → List Float → List Float → Bool → ℕ → ℕ → Tangents
 normalTangents H R P N A G O old n p =
-    normalsVerts H P N A G (insideQuads H R O old n) n p (tangentsOf (replicate (n * 4) zero) (replicate n 0))
+    normalsVerts H P N A G (isInsideQuad H R O old) n p (tangentsOf (replicate (n * 4) zero) (replicate n 0))
 
 -- `create_tangents_from_normals`
 unfoldable pub createTangentsFromNormals : List ℤ → List ℤ → List Float → List Float → List Float → List Float → List Float → Bool → ℕ → ℕ → List Float

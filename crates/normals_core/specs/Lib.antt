@@ -1,2 +1,3 @@
 -- The specs of `normals_core`.
 pub mod Core
+pub mod Flags

@@ -7,7 +7,8 @@ ghost use Rattle.smoothing.specs.Edges.{QuadIn};
 ghost use Rattle.makings.specs.Makings.{tangentsOf};
 ghost use Rattle.distribute_walks.specs.Walks.{Lists as SpreadLists};
 ghost use Rattle.distribute.specs.Distribute.{spreadTangents};
-ghost use Rattle.normals_core.specs.Core.{InsideIn, TangentLists, Lists, insideQuadAt, insideQuads, normalTangents, createTangentsFromNormals};
+ghost use Rattle.normals_core.specs.Core.{TangentLists, Lists, normalTangents, createTangentsFromNormals};
+ghost use Rattle.normals_core.specs.Flags.{InsideIn, insideQuadAt, insideQuads};
 
 // Flags halfedge e if it is inside a quad.
 fn inside_quad_at(h: &[i32], refs: &[i32], t: &[f64], old: bool, inside: &mut [u8], e: usize)

@@ -1,2 +1,3 @@
 -- The laws of `normals_state`, which the crates above cite.
 pub mod Lent
+pub mod Carried

@@ -1,2 +1,3 @@
 -- The specs of `normals_state`.
 pub mod State
+pub mod Carried

@@ -9,10 +9,9 @@ use lib.Ieee.{Float, eq}
 use Rattle.float.specs.Ops.{zero}
 use Rattle.linalg.specs.declared.Vec3.{Vec3}
 use Rattle.mesh.specs.Sound.{Sound}
-use Rattle.smoothing.specs.Directions.{safeNormalize, equalNormals}
+use Rattle.smoothing.specs.Directions.{equalNormals}
 use Rattle.smoothing.specs.Lists.{pointAt}
 use Rattle.cycles.specs.Cycles.{nextAround}
-use Rattle.normals_state.specs.declared.HalfedgeNormal.{HalfedgeNormal}
 use Rattle.normals_state.specs.declared.FaceEdges.{FaceEdges}
 use Rattle.normals_state.specs.declared.FaceEdges.the-variants.{NoEdge, OneEdge, TwoEdges, Spoiled}
 use Rattle.normals_state.specs.declared.StartHalfedge.{StartHalfedge}
@@ -53,15 +52,6 @@ hasFaceNormal A G e = equalNormals (getNormal G e) (pointAt A (e / 3))
 -- `here_zero || next_zero`: the normal of halfedge e or that of the next one round its point is missing
 unfoldable pub isMissing : List ℤ → List Float → ℕ → Bool
 isMissing H G e = isZero (getNormal G e) || isZero (getNormal G (nextAround H e))
-
--- the normal of halfedge e with what the loop asks of it: its unit vector, `here_zero`, `here_is_flat`
-unfoldable pub halfedgeNormal : List Float → List Float → ℕ → HalfedgeNormal
-halfedgeNormal A G e = record {
-  normal = getNormal G e;
-  unit = safeNormalize (getNormal G e);
-  zero = isZero (getNormal G e);
-  flat = hasFaceNormal A G e;
-}
 
 -- ---- `face_edges`
 

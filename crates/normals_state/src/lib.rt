@@ -1,14 +1,11 @@
 // What `create_tangents_from_normals` reads of the normals, and what it carries on its way round a vertex cycle.
 ghost use mathlib.Core.Path.{_≡_};
-ghost use mathlib.Core.Bool.{true, xor};
-ghost use mathlib.Core.List.{List};
+ghost use mathlib.Core.Bool.{xor};
 ghost use Prim.Native.Nat.{_+_, _*_, _/_, _≤_};
 ghost use lib.ListN.{length};
-ghost use lib.IntN.{ℤ};
-ghost use lib.Ieee.{Float};
 ghost use Rattle.smoothing.specs.Directions.{safeNormalize};
-ghost use Rattle.cycles.specs.Cycles.{nextAround};
-ghost use Rattle.normals_state.specs.State.{getNormal, isZero, normalOr, halfedgeNormal, addFaceEdge, nextFaceEdges, setStart, missingStart, nextStart, someMissing, nextLast, startState, nextState, spoilFaceEdges};
+ghost use Rattle.normals_state.specs.State.{getNormal, isZero, normalOr, addFaceEdge, nextFaceEdges, setStart, missingStart, nextStart, someMissing, nextLast, startState, spoilFaceEdges};
+ghost use Rattle.normals_state.specs.Carried.{halfedgeNormal, sameBits, sameNormal, nextStateOf};
 use linalg::Vec3;
 
 // The normal of a halfedge, its unit vector, whether it is missing, and whether it is that of its triangle. Each is worked out
@@ -73,13 +70,13 @@ pub fn normal_or(v: Vec3, other: Vec3) -> Vec3
 
 // Are the two the same bit for bit? Zeros of different sign are not.
 fn same_number(a: f64, b: f64) -> bool
-    ensures { λ r. ⌜ (r ≡ true → a ≡ b) ⌝ }
+    ensures { λ r. ⌜ r ≡ sameBits a b ⌝ }
 {
     float::bits(a) == float::bits(b)
 }
 
 fn same_normal(a: Vec3, b: Vec3) -> bool
-    ensures { λ r. ⌜ (r ≡ true → a ≡ b) ⌝ }
+    ensures { λ r. ⌜ r ≡ sameNormal a b ⌝ }
 {
     let same_x = same_number(a.x, b.x);
     let same_y = same_number(a.y, b.y);
@@ -231,14 +228,14 @@ pub fn start_state() -> CycleState
     }
 }
 
-// What is carried after halfedge e, by its normal and the next one round its point.
+// What is carried after halfedge e, by its normal and the next one round its point, whatever these are.
 pub fn next_state(
     state: CycleState,
     here: HalfedgeNormal,
     next: HalfedgeNormal,
     e: usize,
 ) -> CycleState
-    ensures { λ r. ⌜ ((H : List ℤ) (A G : List Float) → here ≡ halfedgeNormal A G e → next ≡ halfedgeNormal A G (nextAround H e) → r ≡ nextState H A G state e) ⌝ }
+    ensures { λ r. ⌜ r ≡ nextStateOf state here next e ⌝ }
 {
     let edges = state.face_edges;
     let start = state.start_halfedge;

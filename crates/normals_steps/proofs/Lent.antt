@@ -19,7 +19,7 @@ use Rattle.normals_state.specs.declared.StartHalfedge.{StartHalfedge}
 use Rattle.normals_state.specs.declared.StartHalfedge.the-variants.{NoneMissing, SomeMissing, StartAt}
 use Rattle.normals_state.specs.declared.CycleState.{CycleState}
 use Rattle.normals_state.specs.State.{getNormal, isMissing, addFaceEdge, nextFaceEdges, setStart, missingStart, nextStart, startState, nextState, spoilFaceEdges}
-use Rattle.normals_steps.specs.Steps.{NormalsIn, FaceEdgesIn, StartIn, StateIn, flagTangent, isInside, Walk, walkOf, tangentStep, normalStep}
+use Rattle.normals_steps.specs.Steps.{NormalsIn, FaceEdgesIn, StartIn, StateIn, flagTangent, Walk, walkOf, tangentStep, normalStep}
 
 module _ {H : List ℤ} {P A G T : List Float} {n : ℕ} (w : NormalsIn H P A G T n) {e : ℕ} (h : e < n) where
   -- in a list as long as T
@@ -70,7 +70,7 @@ module _ {n : ℕ} where
     start-next true false s w = start-set s (StartAt e) w h
     start-next false next s w = w
 
-    module _ (H : List ℤ) (P A G : List Float) (Q : List ℕ) where
+    module _ (H : List ℤ) (P A G : List Float) (inside : ℕ → Bool) where
       state-next : (s : CycleState) → StateIn n s → StateIn n (nextState H A G s e)
       unfolding nextState
       state-next s w = record {
@@ -83,12 +83,12 @@ module _ {n : ℕ} where
       tangent-state m w = either-way (equalNormals (getNormal G (nextAround H e)) (getNormal G e)) _ _ w (record { face-edges = tt; start-halfedge = w .start-halfedge })
 
       -- after the body of the first loop, at halfedge e
-      pub state-step : (m : Walk) → StateIn n (m .state) → StateIn n (normalStep H P A G Q m e .state)
+      pub state-step : (m : Walk) → StateIn n (m .state) → StateIn n (normalStep H P A G inside m e .state)
       unfolding normalStep
       state-step m w =
           let k = state-next (m .state) w in
-          let T = putTangent (m .tangents) e (flagTangent (isMissing H G e) (isInside Q e) (nextState H A G (m .state) e .«last_normal») (tangentAt (m .tangents) e)) in
+          let T = putTangent (m .tangents) e (flagTangent (isMissing H G e) (inside e) (nextState H A G (m .state) e .«last_normal») (tangentAt (m .tangents) e)) in
           either-way (lt (weightAt T e) zero) _ _ k (tangent-state (walkOf T (m .fixed) (nextState H A G (m .state) e)) k)
 
-      pub state-after : (m : Walk) {m′ : Walk} → m′ ≡ normalStep H P A G Q m e → StateIn n (m .state) → StateIn n (m′ .state)
+      pub state-after : (m : Walk) {m′ : Walk} → m′ ≡ normalStep H P A G inside m e → StateIn n (m .state) → StateIn n (m′ .state)
       state-after m q w = subst (λ (z : Walk). StateIn n (z .state)) (sym q) (state-step m w)

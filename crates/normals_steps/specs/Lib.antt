@@ -1,2 +1,3 @@
 -- The specs of `normals_steps`.
 pub mod Steps
+pub mod Carried

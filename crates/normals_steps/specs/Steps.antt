@@ -1,11 +1,10 @@
--- The bodies of the loops of `create_tangents_from_normals` over a vertex cycle, and its last step at a point. H are the halfedges, P the positions, A the face normals, G the lent normals, Q the flags of the halfedges inside a quad, T the tangents, X the fixed flags.
+-- The bodies of the loops of `create_tangents_from_normals` over a vertex cycle, and its last step at a point. H are the halfedges, P the positions, A the face normals, G the lent normals, `inside` which halfedges are inside a quad, T the tangents, X the fixed flags.
 use Prim.Native.Nat.{ℕ, _*_, _<_}
 use mathlib.Core.Path.{_≡_}
 use mathlib.Core.List.{List}
 use mathlib.Core.Bool.{Bool, cond}
-use lib.ListN.{length, getD, set}
+use lib.ListN.{length, set}
 use lib.IntN.{ℤ}
-use lib.Dec.{eqb}
 use lib.Ieee.{Float, lt, eq, neg}
 use Rattle.float.specs.Ops.{zero, one, three}
 use Rattle.linalg.specs.declared.Vec3.{Vec3}
@@ -31,7 +30,7 @@ pub record NormalsIn (H : List ℤ) (P A G T : List Float) (n : ℕ) : Type 0 wh
   pub positions : length P ≡ state .missing .points * 3
   pub tangents : length T ≡ n * 4
 
--- and two flags for each halfedge
+-- and two flags for each halfedge: Q and X are the code's lists `inside` and `fixed`
 pub record StepIn (H : List ℤ) (P A G : List Float) (Q : List ℕ) (T : List Float) (X : List ℕ) (n : ℕ) : Type 0 where
   pub lists : NormalsIn H P A G T n
   pub inside : length Q ≡ n
@@ -84,9 +83,6 @@ flagTangent missing inside last t =
     cond inside (withWeight last insideQuadWeight)
     (cond missing (withWeight last missingNormalWeight) (withWeight (vec3FromVec4 t) one))
 
-abbrev pub isInside : List ℕ → ℕ → Bool
-isInside Q e = eqb (getD Q e 0) 1
-
 -- what the loop changes
 pub record Walk : Type 0 where
   pub tangents : List Float
@@ -106,10 +102,10 @@ tangentStep H P A G m e =
     cond equal (walkOf T (m .fixed) (m .state)) (walkOf T (set (m .fixed) e 1) (spoilFaceEdges (m .state)))
 
 -- the body of the loop, at halfedge e
-unfoldable pub normalStep : List ℤ → List Float → List Float → List Float → List ℕ → Walk → ℕ → Walk
-normalStep H P A G Q m e =
+unfoldable pub normalStep : List ℤ → List Float → List Float → List Float → (ℕ → Bool) → Walk → ℕ → Walk
+normalStep H P A G inside m e =
     let s = nextState H A G (m .state) e in
-    let t = flagTangent (isMissing H G e) (isInside Q e) (s .«last_normal») (tangentAt (m .tangents) e) in
+    let t = flagTangent (isMissing H G e) (inside e) (s .«last_normal») (tangentAt (m .tangents) e) in
     let flagged = walkOf (putTangent (m .tangents) e t) (m .fixed) s in
     cond (lt (weightAt (flagged .tangents) e) zero) flagged (tangentStep H P A G flagged e)
 

@@ -1,15 +1,12 @@
 // One halfedge, or one point, in `create_tangents_from_normals`: the bodies of its loops, and the edges of a single flat face.
 ghost use mathlib.Core.Path.{_≡_};
-ghost use mathlib.Core.List.{List};
 ghost use mathlib.Core.Bool.{cond};
 ghost use Prim.Native.Nat.{_+_, _*_, _≤_, _<_};
 ghost use lib.ListN.{length};
-ghost use lib.Ieee.{Float};
 ghost use Rattle.smoothing.specs.Edges.{EdgeIn, FacesIn};
-ghost use Rattle.cycles.specs.Cycles.{nextAround};
 ghost use Rattle.makings.specs.Makings.{MakingIn, tangentsOf};
-ghost use Rattle.normals_state.specs.State.{halfedgeNormal};
-ghost use Rattle.normals_steps.specs.Steps.{FaceEdgesIn, signedDir, tangentBetween, withWeight, insideQuadWeight, missingNormalWeight, walkOf, tangentStep, normalStep, vertNormalStep, fillOf, fillTangent, putFillTangent, fillStep, faceTangent, fixFaceEdges, alignFaceEdges};
+ghost use Rattle.normals_steps.specs.Steps.{FaceEdgesIn, signedDir, tangentBetween, withWeight, insideQuadWeight, missingNormalWeight, walkOf, vertNormalStep, fillOf, fillTangent, putFillTangent, fillStep, faceTangent, fixFaceEdges, alignFaceEdges};
+ghost use Rattle.normals_steps.specs.Carried.{isInside, tangentStepOf, normalStepOf};
 use linalg::Vec3;
 use linalg::Vec4;
 use normals_state::CycleState;
@@ -70,7 +67,7 @@ fn flag_tangent(inside: bool, last: Vec3) -> Vec4
     with_weight(last, -3.0)
 }
 
-// A halfedge e without a flag: fixed where its normal and the next one differ.
+// A halfedge e without a flag, by its normal and the next one round its point, whatever these are: fixed where they differ.
 fn tangent_step(
     n: usize,
     h: &[i32],
@@ -84,7 +81,7 @@ fn tangent_step(
     e: usize,
 ) -> CycleState
     requires { ⌜ (e < n) × MakingIn (now h) (now pos) (now t) (now fixed) n × (length (now «face_normals») ≡ n) ⌝ }
-    ensures { λ r. ⌜ ((G : List Float) → here ≡ halfedgeNormal (now («face_normals» .entry)) G e → next ≡ halfedgeNormal (now («face_normals» .entry)) G (nextAround (now (h .entry)) e) → walkOf (now (t .exit)) (now (fixed .exit)) r ≡ tangentStep (now (h .entry)) (now (pos .entry)) (now («face_normals» .entry)) G (walkOf (now (t .entry)) (now (fixed .entry)) state) e) ⌝ }
+    ensures { λ r. ⌜ walkOf (now (t .exit)) (now (fixed .exit)) r ≡ tangentStepOf (now (h .entry)) (now (pos .entry)) (now («face_normals» .entry)) here next (walkOf (now (t .entry)) (now (fixed .entry)) state) e ⌝ }
 {
     let equal = smoothing::equal_units(next.unit, here.unit);
     let tangent = tangent_between(h, pos, face_normals, here.normal, next.normal, equal, e);
@@ -96,8 +93,8 @@ fn tangent_step(
     normals_state::spoil_face_edges(state)
 }
 
-// The body of the loop, at halfedge e, by its normal and the next one round its point: what is carried after it. Without a flag
-// the Rust writes weight 1 first, and then the tangent over it; here it is written once.
+// The body of the loop, at halfedge e, by its normal and the next one round its point, whatever these are: what is carried
+// after it. Without a flag the Rust writes weight 1 first, and then the tangent over it; here it is written once.
 pub fn normal_step(
     n: usize,
     h: &[i32],
@@ -112,7 +109,7 @@ pub fn normal_step(
     e: usize,
 ) -> CycleState
     requires { ⌜ (e < n) × MakingIn (now h) (now pos) (now t) (now fixed) n × (length (now «face_normals») ≡ n) × (length (now inside) ≡ n) ⌝ }
-    ensures { λ r. ⌜ ((G : List Float) → here ≡ halfedgeNormal (now («face_normals» .entry)) G e → next ≡ halfedgeNormal (now («face_normals» .entry)) G (nextAround (now (h .entry)) e) → walkOf (now (t .exit)) (now (fixed .exit)) r ≡ normalStep (now (h .entry)) (now (pos .entry)) (now («face_normals» .entry)) G (now (inside .entry)) (walkOf (now (t .entry)) (now (fixed .entry)) state) e) ⌝ }
+    ensures { λ r. ⌜ walkOf (now (t .exit)) (now (fixed .exit)) r ≡ normalStepOf (now (h .entry)) (now (pos .entry)) (now («face_normals» .entry)) (isInside (now (inside .entry))) here next (walkOf (now (t .entry)) (now (fixed .entry)) state) e ⌝ }
 {
     let after = normals_state::next_state(state, here, next, e);
     let in_quad = inside[e] == 1;

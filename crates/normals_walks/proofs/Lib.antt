@@ -1,2 +1,3 @@
--- The laws that the proofs of `normals_walks` share.
+-- The laws of `normals_walks`. `Inside` is for the crates above.
 mod Lent
+pub mod Inside

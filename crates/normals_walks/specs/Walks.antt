@@ -1,8 +1,8 @@
--- The loops of `create_tangents_from_normals` round a vertex cycle, what it does at a point, and the loop over the points. H are the halfedges, P the positions, N the point normals, A the face normals, G the lent normals, Q the flags of the halfedges inside a quad, n how many halfedges there are, T the tangents.
+-- The loops of `create_tangents_from_normals` round a vertex cycle, what it does at a point, and the loop over the points. H are the halfedges, P the positions, N the point normals, A the face normals, G the lent normals, `inside` which halfedges are inside a quad, n how many halfedges there are, T the tangents.
 use Prim.Native.Nat.{ℕ, _*_, _<_}
 use mathlib.Core.Path.{_≡_}
 use mathlib.Core.List.{List, foldl}
-use mathlib.Core.Bool.{cond, _&&_}
+use mathlib.Core.Bool.{Bool, cond, _&&_}
 use lib.ListN.{length, getD}
 use lib.IntN.{ℤ}
 use lib.Dec.{ltb}
@@ -27,7 +27,7 @@ pub record FacesLists (H : List ℤ) (P A T : List Float) (n : ℕ) : Type 0 whe
   pub positions : length P ≡ tangents .points * 3
   pub face-normals : length A ≡ n
 
--- all lists of the loop over the points. F has a place for each point, which holds its `vert_halfedge`.
+-- All lists of the loop over the points. Q and X are the code's lists of flags `inside` and `fixed`; F has a place for each point, which holds its `vert_halfedge`.
 pub record VertsLists (H : List ℤ) (P N A G : List Float) (Q F : List ℕ) (T : List Float) (X : List ℕ) (n : ℕ) : Type 0 where
   pub sound : Sound H n (length F)
   pub positions : length P ≡ length F * 3
@@ -42,8 +42,8 @@ pub record VertsLists (H : List ℤ) (P N A G : List Float) (Q F : List ℕ) (T 
 -- ---- the loops round a vertex cycle
 
 -- the first, from halfedge e
-unfoldable pub normalWalk : List ℤ → List Float → List Float → List Float → List ℕ → ℕ → Tangents → ℕ → Walk
-normalWalk H P A G Q n m e = foldl (normalStep H P A G Q) (walkOf (m .tangents) (m .fixed) startState) (vertexCycle H n e)
+unfoldable pub normalWalk : List ℤ → List Float → List Float → List Float → (ℕ → Bool) → ℕ → Tangents → ℕ → Walk
+normalWalk H P A G inside n m e = foldl (normalStep H P A G inside) (walkOf (m .tangents) (m .fixed) startState) (vertexCycle H n e)
 
 -- all normals are missing: `normal` is the point's
 unfoldable pub vertNormalWalk : List ℤ → List Float → List Float → ℕ → Vec3 → List Float → ℕ → List Float
@@ -71,11 +71,11 @@ finishVert H P N A G n m v e =
     (alignFaceEdges H P (tangentsOf (fillMissing H P A G n (s .«last_normal») (m .tangents) (s .«start_halfedge»)) (m .fixed)) (s .«face_edges»))
 
 -- the body of the loop over the points: nothing where no halfedge starts at v
-unfoldable pub normalsVert : List ℤ → List Float → List Float → List Float → List Float → List ℕ → ℕ → Tangents → ℕ → Tangents
-normalsVert H P N A G Q n m v =
+unfoldable pub normalsVert : List ℤ → List Float → List Float → List Float → List Float → (ℕ → Bool) → ℕ → Tangents → ℕ → Tangents
+normalsVert H P N A G inside n m v =
     let e = vertHalfedge H n v in
-    cond (ltb e n) (finishVert H P N A G n (normalWalk H P A G Q n m e) v e) m
+    cond (ltb e n) (finishVert H P N A G n (normalWalk H P A G inside n m e) v e) m
 
 -- all p points
-unfoldable pub normalsVerts : List ℤ → List Float → List Float → List Float → List Float → List ℕ → ℕ → ℕ → Tangents → Tangents
-normalsVerts H P N A G Q n p m = foldTo (normalsVert H P N A G Q n) m p
+unfoldable pub normalsVerts : List ℤ → List Float → List Float → List Float → List Float → (ℕ → Bool) → ℕ → ℕ → Tangents → Tangents
+normalsVerts H P N A G inside n p m = foldTo (normalsVert H P N A G inside n) m p

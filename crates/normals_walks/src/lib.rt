@@ -5,6 +5,7 @@ ghost use Prim.Native.Nat.{_+_, _*_, _≤_, _<_};
 ghost use lib.ListN.{length};
 ghost use Rattle.makings.specs.Makings.{tangentsOf};
 ghost use Rattle.normals_steps.specs.Steps.{NormalsIn, StepIn, StartIn, StateIn, walkOf};
+ghost use Rattle.normals_steps.specs.Carried.{isInside};
 ghost use Rattle.normals_walks.specs.Walks.{FacesLists, VertsLists, normalWalk, vertNormalWalk, fillWalk, fillMissing, finishVert, normalsVert, normalsVerts};
 use linalg::Vec3;
 use normals_state::CycleState;
@@ -25,7 +26,7 @@ fn normal_walk(
     e: usize,
 ) -> CycleState
     requires { ⌜ (e < n) × StepIn (now h) (now pos) (now «face_normals») (now «halfedge_normals») (now inside) (now t) (now fixed) n ⌝ }
-    ensures { λ r. ⌜ walkOf (now (t .exit)) (now (fixed .exit)) r ≡ normalWalk (now (h .entry)) (now (pos .entry)) (now («face_normals» .entry)) (now («halfedge_normals» .entry)) (now (inside .entry)) n (tangentsOf (now (t .entry)) (now (fixed .entry))) e ⌝ }
+    ensures { λ r. ⌜ walkOf (now (t .exit)) (now (fixed .exit)) r ≡ normalWalk (now (h .entry)) (now (pos .entry)) (now («face_normals» .entry)) (now («halfedge_normals» .entry)) (isInside (now (inside .entry))) n (tangentsOf (now (t .entry)) (now (fixed .entry))) e ⌝ }
     ensures { λ r. ⌜ StateIn n r ⌝ }
 {
     let mut state = normals_state::start_state();
@@ -192,7 +193,7 @@ fn normals_vert(
     v: usize,
 )
     requires { ⌜ (v < length (now «vert_halfedge»)) × VertsLists (now h) (now pos) (now normals) (now «face_normals») (now «halfedge_normals») (now inside) (now «vert_halfedge») (now t) (now fixed) n ⌝ }
-    ensures { λ _. ⌜ tangentsOf (now (t .exit)) (now (fixed .exit)) ≡ normalsVert (now (h .entry)) (now (pos .entry)) (now (normals .entry)) (now («face_normals» .entry)) (now («halfedge_normals» .entry)) (now (inside .entry)) n (tangentsOf (now (t .entry)) (now (fixed .entry))) v ⌝ }
+    ensures { λ _. ⌜ tangentsOf (now (t .exit)) (now (fixed .exit)) ≡ normalsVert (now (h .entry)) (now (pos .entry)) (now (normals .entry)) (now («face_normals» .entry)) (now («halfedge_normals» .entry)) (isInside (now (inside .entry))) n (tangentsOf (now (t .entry)) (now (fixed .entry))) v ⌝ }
 {
     let e = vert_halfedge[v];
     if e >= n {
@@ -238,7 +239,7 @@ pub fn normals_verts(
     fixed: &mut [u8],
 )
     requires { ⌜ VertsLists (now h) (now pos) (now normals) (now «face_normals») (now «halfedge_normals») (now inside) (now «vert_halfedge») (now t) (now fixed) n ⌝ }
-    ensures { λ _. ⌜ tangentsOf (now (t .exit)) (now (fixed .exit)) ≡ normalsVerts (now (h .entry)) (now (pos .entry)) (now (normals .entry)) (now («face_normals» .entry)) (now («halfedge_normals» .entry)) (now (inside .entry)) n (length (now («vert_halfedge» .entry))) (tangentsOf (now (t .entry)) (now (fixed .entry))) ⌝ }
+    ensures { λ _. ⌜ tangentsOf (now (t .exit)) (now (fixed .exit)) ≡ normalsVerts (now (h .entry)) (now (pos .entry)) (now (normals .entry)) (now («face_normals» .entry)) (now («halfedge_normals» .entry)) (isInside (now (inside .entry))) n (length (now («vert_halfedge» .entry))) (tangentsOf (now (t .entry)) (now (fixed .entry))) ⌝ }
 {
     let mut v = 0;
     while v < vert_halfedge.len() {

@@ -157,7 +157,7 @@ module _ {H : List ℤ} {n p : ℕ} (S : Sound H n p) (h : ℕ) (h-below : h < n
   same-back : (x y : ℕ) → x ∈ cycle → y ∈ cycle → y ∈ vertexCycleBack H n x
   same-back x y mx my = rw (cycle-ways S x y (in-below x mx)) (same-cycle x y mx my)
 
-  module _ (P A G : List Float) (Q : List ℕ) where
+  module _ (P A G : List Float) (in-quad : ℕ → Bool) where
     abbrev isZeroAt : ℕ → Bool
     isZeroAt x = isZero (getNormal G x)
 
@@ -176,7 +176,7 @@ module _ {H : List ℤ} {n p : ℕ} (S : Sound H n p) (h : ℕ) (h-below : h < n
 
     module _ (m : Tangents) where
       abbrev step : Walk → ℕ → Walk
-      step = normalStep H P A G Q
+      step = normalStep H P A G in-quad
 
       abbrev before : Walk
       before = walkOf (m .tangents) (m .fixed) startState
@@ -191,31 +191,31 @@ module _ {H : List ℤ} {n p : ℕ} (S : Sound H n p) (h : ℕ) (h-below : h < n
       some-missing : (y : ℕ) → y ∈ cycle → isZeroAt y ≡ true → someMissing startAfter ≡ true
       some-missing y my z =
           list-gains step (λ k. Unit {0}) (λ k. someMissing (k .state .«start_halfedge») ≡ true) y cycle my (λ k x l i. tt)
-          (λ k x l i. rw (normal-start H P A G Q k x) (some-kept _ _ _ x i))
-          (λ k i. rw (normal-start H P A G Q k y, z) (some-set _ _ y)) before tt
+          (λ k x l i. rw (normal-start H P A G in-quad k x) (some-kept _ _ _ x i))
+          (λ k i. rw (normal-start H P A G in-quad k y, z) (some-set _ _ y)) before tt
 
       -- and a start is found where the next one is there
       start-found : (y : ℕ) → y ∈ cycle → isZeroAt y ≡ true → isZeroAt (nextAround H y) ≡ false → isStart startAfter ≡ true
       start-found y my z w =
           list-gains step (λ k. Unit {0}) (λ k. isStart (k .state .«start_halfedge») ≡ true) y cycle my (λ k x l i. tt)
-          (λ k x l i. rw (normal-start H P A G Q k x) (start-kept _ _ _ x i))
-          (λ k i. rw (normal-start H P A G Q k y, z, w) (start-set _ y)) before tt
+          (λ k x l i. rw (normal-start H P A G in-quad k x) (start-kept _ _ _ x i))
+          (λ k i. rw (normal-start H P A G in-quad k y, z, w) (start-set _ y)) before tt
 
       -- it is a halfedge of the cycle
       start-in : StartOf cycle startAfter
       start-in =
           list-keeps step (λ k. StartOf cycle (k .state .«start_halfedge»)) cycle
-          (λ k x l i. rw (normal-start H P A G Q k x) (start-of cycle _ _ _ x l i)) before tt
+          (λ k x l i. rw (normal-start H P A G in-quad k x) (start-of cycle _ _ _ x l i)) before tt
 
       -- where all normals are missing there is no last one
       last-zero : ((x : ℕ) → x ∈ cycle → isZeroAt x ≡ true) → after .state .«last_normal» ≡ zeroNormal
       last-zero f =
           list-keeps step (λ k. k .state .«last_normal» ≡ zeroNormal) cycle
-          (λ k x l i. normal-last H P A G Q k x ∙ rw (f x l) (last-kept _ _ _) ∙ i) before refl
+          (λ k x l i. normal-last H P A G in-quad k x ∙ rw (f x l) (last-kept _ _ _) ∙ i) before refl
 
       module _ (whole : length (m .tangents) ≡ n * 4) where
         after-length : length (after .tangents) ≡ n * 4
-        after-length = list-keeps step (λ k. length (k .tangents) ≡ n * 4) cycle (λ k x l i. normal-writes H P A G Q k x .same-length ∙ i) before whole
+        after-length = list-keeps step (λ k. length (k .tangents) ≡ n * 4) cycle (λ k x l i. normal-writes H P A G in-quad k x .same-length ∙ i) before whole
 
         vert-normal-length : (normal : Vec3) → length (vertNormalWalk H P A n normal (after .tangents) h) ≡ n * 4
         unfolding vertNormalWalk
@@ -250,16 +250,16 @@ module _ {H : List ℤ} {n p : ℕ} (S : Sound H n p) (h : ℕ) (h-below : h < n
           abbrev WalkInvariant : Walk → Type 0
           WalkInvariant k = (length (k .tangents) ≡ n * 4) × MissingInCycle (k .tangents)
 
-          flagged-in-cycle : (T : List Float) → d ∈ cycle → Flagged H P A G Q T d → MissingInCycle T
+          flagged-in-cycle : (T : List Float) → d ∈ cycle → Flagged H P A G in-quad T d → MissingInCycle T
           flagged-in-cycle T l (inl k) = inl k
           flagged-in-cycle T l (inr k) = inr (k .0, l, k .1)
 
           step-keeps : (k : Walk) (x : ℕ) → x ∈ cycle → WalkInvariant k → WalkInvariant (step k x)
-          step-keeps k x l (w, i) = (normal-writes H P A G Q k x .same-length ∙ w, go (ℕ-discrete d x))
+          step-keeps k x l (w, i) = (normal-writes H P A G in-quad k x .same-length ∙ w, go (ℕ-discrete d x))
             where
               go : Dec (d ≡ x) → MissingInCycle (step k x .tangents)
-              go (yes q) = flagged-in-cycle (step k x .tangents) (rw q l) (rw q (normal-flagged H P A G Q k x (omega arith)))
-              go (no q) = rw (normal-writes H P A G Q k x .others d q) i
+              go (yes q) = flagged-in-cycle (step k x .tangents) (rw q l) (rw q (normal-flagged H P A G in-quad k x (omega arith)))
+              go (no q) = rw (normal-writes H P A G in-quad k x .others d q) i
 
           after-made : MissingInCycle (after .tangents)
           after-made = list-keeps step WalkInvariant cycle step-keeps before (whole, inl made) .1
@@ -340,14 +340,14 @@ pub record AllMade (H : List ℤ) (P : List Float) (n : ℕ) (m : Tangents) : Ty
   pub whole : length (m .tangents) ≡ n * 4
   pub made : (d : ℕ) → d < n → Made H P (m .tangents) d
 
-module _ {H : List ℤ} {n p : ℕ} (S : Sound H n p) (P N A G : List Float) (Q : List ℕ) where
-  pub vert-keeps : (m : Tangents) (v : ℕ) → AllMade H P n m → AllMade H P n (normalsVert H P N A G Q n m v)
+module _ {H : List ℤ} {n p : ℕ} (S : Sound H n p) (P N A G : List Float) (in-quad : ℕ → Bool) where
+  pub vert-keeps : (m : Tangents) (v : ℕ) → AllMade H P n m → AllMade H P n (normalsVert H P N A G in-quad n m v)
   unfolding normalsVert normalWalk
   vert-keeps m v a = go (vertHalfedge H n v) (ltb (vertHalfedge H n v) n) refl
     where
-      go : (e : ℕ) (b : Bool) → ltb e n ≡ b → AllMade H P n (cond b (finishVert H P N A G n (normalWalk H P A G Q n m e) v e) m)
+      go : (e : ℕ) (b : Bool) → ltb e n ≡ b → AllMade H P n (cond b (finishVert H P N A G n (normalWalk H P A G in-quad n m e) v e) m)
       go e true q = record {
-        whole = finish-length S e (ltb-true e n q) P A G Q m (a .whole) N v;
-        made = λ d l. finish-made S e (ltb-true e n q) P A G Q m (a .whole) d l (a .made d l) N v;
+        whole = finish-length S e (ltb-true e n q) P A G in-quad m (a .whole) N v;
+        made = λ d l. finish-made S e (ltb-true e n q) P A G in-quad m (a .whole) d l (a .made d l) N v;
       }
       go e false q = a

@@ -16,7 +16,7 @@ use Rattle.mesh.specs.Sound.{Sound}
 use Rattle.mesh.proofs.Accepted.{accepted, refs-accepted}
 use Rattle.mesh.proofs.Fold.{fold-keeps}
 use Rattle.smoothing.specs.Lists.{weightAt}
-use Rattle.smoothing.specs.Edges.{edgeVec}
+use Rattle.smoothing.specs.Edges.{edgeVec, isInsideQuad}
 use Rattle.smoothing.proofs.Tangents.{weight-of}
 use Rattle.spread.proofs.Own.{own}
 use Rattle.spread.proofs.Order.{order-free}
@@ -26,7 +26,7 @@ use Rattle.normals_walks.specs.Walks.{normalsVert, normalsVerts}
 use Rattle.distribute_steps.specs.FloatSteps.{floatSteps}
 use Rattle.distribute_walks.proofs.Lawful.{lawful}
 use Rattle.distribute.specs.Distribute.{spreadTangents}
-use Rattle.normals_core.specs.Core.{insideQuads, normalTangents, createTangentsFromNormals}
+use Rattle.normals_core.specs.Core.{normalTangents, createTangentsFromNormals}
 use Rattle.create_from_normals.specs.FromNormals.{listsFit, scratchFits, checkNormals}
 use Rattle.normals_weights.specs.Weights.{MadeWeight, inside, further, circular, WeightsOf, WeightsAfter}
 use Rattle.normals_weights.proofs.Circular.{circular-clear}
@@ -65,8 +65,8 @@ module _ {H : List ℤ} {n p : ℕ} (S : Sound H n p) (R : List ℤ) (P N A G O 
   before-spreading : AllMade H P n (normalTangents H R P N A G O old n p)
   unfolding normalTangents normalsVerts
   before-spreading =
-      fold-keeps (normalsVert H P N A G (insideQuads H R O old n) n) (tangentsOf (replicate (n * 4) zero) (replicate n 0)) (AllMade H P n) p
-      (λ m v l a. vert-keeps S P N A G (insideQuads H R O old n) m v a)
+      fold-keeps (normalsVert H P N A G (isInsideQuad H R O old) n) (tangentsOf (replicate (n * 4) zero) (replicate n 0)) (AllMade H P n) p
+      (λ m v l a. vert-keeps S P N A G (isInsideQuad H R O old) m v a)
       (record { whole = length-replicate (n * 4) zero; made = λ e l. further (zero-weight n e l) }) p (le-refl p)
 
   -- spreading keeps every weight

@@ -8,7 +8,7 @@ use mathlib.Core.List.{List}
 use lib.ListN.{length, set}
 use lib.IntN.{ℤ}
 use lib.Ieee.{Float, lt, eq, neg, ofBits}
-use Rattle.float.specs.Ops.{zero, one}
+use Rattle.float.specs.Ops.{zero}
 use Rattle.linalg.specs.declared.Vec3.{Vec3}
 use Rattle.linalg.specs.declared.Vec4.{Vec4}
 use Rattle.smoothing.specs.Directions.{circularTangent, equalNormals}
@@ -20,7 +20,8 @@ use Rattle.makings.specs.Makings.{Tangents, putCircularTangent, alignTangents}
 use Rattle.normals_state.specs.declared.FaceEdges.{FaceEdges}
 use Rattle.normals_state.specs.declared.FaceEdges.the-variants.{NoEdge, OneEdge, TwoEdges, Spoiled}
 use Rattle.normals_state.specs.State.{getNormal, isZero, isMissing, nextStart, nextLast, nextState, spoilFaceEdges}
-use Rattle.normals_steps.specs.Steps.{tangentBetween, insideQuadWeight, missingNormalWeight, flagTangent, isInside, Walk, walkOf, tangentStep, normalStep, vertNormalStep, Fill, fillTangent, putFillTangent, fillStep, fixFaceEdges, alignFaceEdges}
+use Rattle.normals_steps.specs.Steps.{tangentBetween, insideQuadWeight, missingNormalWeight, flagTangent, Walk, walkOf, tangentStep, normalStep, vertNormalStep, Fill, fillTangent, putFillTangent, fillStep, fixFaceEdges, alignFaceEdges}
+use Rattle.normals_steps.proofs.Carried.{one-above}
 use Rattle.normals_weights.specs.Weights.{MadeWeight, inside, circular}
 
 -- ---- a write at halfedge e
@@ -47,18 +48,6 @@ missing-missing = refl
 missing-inside : eq missingNormalWeight insideQuadWeight ≡ false
 unfolding eq neg ofBits
 missing-inside = refl
-
-missing-below : lt missingNormalWeight zero ≡ true
-unfolding lt neg ofBits
-missing-below = refl
-
-inside-below : lt insideQuadWeight zero ≡ true
-unfolding lt neg ofBits
-inside-below = refl
-
-one-above : lt one zero ≡ false
-unfolding lt ofBits
-one-above = refl
 
 -- ---- the weight of halfedge e is made; or it is the flag of a missing normal
 
@@ -172,7 +161,7 @@ module _ (H : List ℤ) (P : List Float) where
 
   -- ---- the first loop
 
-  module _ (A G : List Float) (Q : List ℕ) where
+  module _ (A G : List Float) (in-quad : ℕ → Bool) where
     -- what the first loop leaves at halfedge e: -3 only where a normal is missing
     abbrev pub Flagged : List Float → ℕ → Type 0
     Flagged T e = Made T e ⊎ ((weightAt T e ≡ missingNormalWeight) × (isMissing H G e ≡ true))
@@ -197,7 +186,7 @@ module _ (H : List ℤ) (P : List Float) where
     abbrev flagged : Walk → ℕ → Walk
     flagged m e =
         let s = nextState H A G (m .state) e in
-        walkOf (putTangent (m .tangents) e (flagTangent (isMissing H G e) (isInside Q e) (s .«last_normal») (tangentAt (m .tangents) e))) (m .fixed) s
+        walkOf (putTangent (m .tangents) e (flagTangent (isMissing H G e) (in-quad e) (s .«last_normal») (tangentAt (m .tangents) e))) (m .fixed) s
 
     abbrev isNegative : Walk → ℕ → Bool
     isNegative k e = lt (weightAt (k .tangents) e) zero
@@ -206,7 +195,7 @@ module _ (H : List ℤ) (P : List Float) where
     normal-either true m k e w = w
     normal-either false m k e w = writes-both w (tangent-writes k e)
 
-    pub normal-writes : (m : Walk) (e : ℕ) → Writes (m .tangents) (normalStep H P A G Q m e .tangents) e
+    pub normal-writes : (m : Walk) (e : ℕ) → Writes (m .tangents) (normalStep H P A G in-quad m e .tangents) e
     unfolding normalStep
     normal-writes m e = normal-either (isNegative (flagged m e) e) m (flagged m e) e (writes-put (m .tangents) e _)
 
@@ -222,9 +211,9 @@ module _ (H : List ℤ) (P : List Float) where
       flag-cases false false true last k p q b =
           absurd (true≢false (sym b ∙ ap (λ (w : Float). lt w zero) (ap (λ (T : List Float). weightAt T e) q ∙ weight-put-same (m .tangents) e _ h) ∙ one-above))
 
-      pub normal-flagged : Flagged (normalStep H P A G Q m e .tangents) e
+      pub normal-flagged : Flagged (normalStep H P A G in-quad m e .tangents) e
       unfolding normalStep
-      normal-flagged = flag-cases (isMissing H G e) (isInside Q e) (isNegative (flagged m e) e) _ (flagged m e) refl refl refl
+      normal-flagged = flag-cases (isMissing H G e) (in-quad e) (isNegative (flagged m e) e) _ (flagged m e) refl refl refl
 
     -- the state: `start_halfedge` and `last_normal`
     module _ (m : Walk) (e : ℕ) where
@@ -252,10 +241,10 @@ module _ (H : List ℤ) (P : List Float) where
     either-last true k e = refl
     either-last false k e = tangent-last k e
 
-    pub normal-start : (m : Walk) (e : ℕ) → normalStep H P A G Q m e .state .«start_halfedge» ≡ nextStart (isZero (getNormal G e)) (isZero (getNormal G (nextAround H e))) (m .state .«start_halfedge») e
+    pub normal-start : (m : Walk) (e : ℕ) → normalStep H P A G in-quad m e .state .«start_halfedge» ≡ nextStart (isZero (getNormal G e)) (isZero (getNormal G (nextAround H e))) (m .state .«start_halfedge») e
     unfolding normalStep nextState
     normal-start m e = either-start (isNegative (flagged m e) e) (flagged m e) e
 
-    pub normal-last : (m : Walk) (e : ℕ) → normalStep H P A G Q m e .state .«last_normal» ≡ nextLast (isZero (getNormal G e)) (isZero (getNormal G (nextAround H e))) (getNormal G e) (m .state .«last_normal»)
+    pub normal-last : (m : Walk) (e : ℕ) → normalStep H P A G in-quad m e .state .«last_normal» ≡ nextLast (isZero (getNormal G e)) (isZero (getNormal G (nextAround H e))) (getNormal G e) (m .state .«last_normal»)
     unfolding normalStep nextState
     normal-last m e = either-last (isNegative (flagged m e) e) (flagged m e) e

@@ -1,5 +1,5 @@
 -- `normals_core::inside_quad_at` meets its contract: each way is what the test picks. Assumes nothing.
-use Rattle.normals_core.specs.Core.{insideQuadAt}
+use Rattle.normals_core.specs.Flags.{insideQuadAt}
 use borrow.Author.Needs.{needs}
 use Rattle.normals_core.proofs.inside_quad_at.Statement.{statement}
 use Rattle.normals_core.proofs.inside_quad_at.Tie as tie

@@ -6,9 +6,9 @@ use lib.ListN.{length}
 use Rattle.mesh.specs.Fold.{foldTo}
 use Rattle.mesh.proofs.Fold.{fold-none}
 use Rattle.faces.proofs.Loops.{fold-turn}
-use Rattle.normals_core.specs.Core.{insideQuadAt}
+use Rattle.normals_core.specs.Flags.{insideQuadAt}
 use Rattle.distribute.proofs.Cleared.{cleared}
-use Rattle.normals_core.proofs.Core.{inside-ended}
+use Rattle.normals_core.proofs.Flags.{inside-ended}
 use Rattle.normals_core.proofs.Lent.{quad-at}
 use Rattle.normals_core.proofs.inside_quads.Statement.{statement}
 use Rattle.normals_core.proofs.inside_quads.Tie as tie

@@ -36,7 +36,7 @@ same-length-4 : tie.Need-same-length-4
 same-length-4 c = c .before .before .before .before .before .before .before .before .before .before .before .vert-halfedge .kept .1 .0
 
 returns : tie.Need-returns
-returns c = let a = c .before .before .before .before .before .before .before .before .before .before .before .before .before .before .before .before .before .before .before .before .before .before .before .before .before .before .before .before .before .before .before .before .before .before .args in let w = c .before .before .before .before .before .before .before .before .before .before .before .before .before .before .before .before .before .before .before .before .before .before .before .before .before .before .before .before .before .before .before .before .before .before .pre in made (a .h .now) (a .refs .now) (a .pos .now) (a .normals .now) (a .«face-normals» .now) (a .«halfedge-normals» .now) (a .t .now) (a .old) (a .n) _ _ _ _ _ _ _ (c .before .before .before .before .normals-verts .ensures) (c .before .before .before .before .before .before .before .before .before .before .before .before .before .before .before .before .before .before .before .before .before .before .before .inside-quads .ensures) (cleared _ zero _ _ (c .before .before .before .before .before .before .before .before .before .before .before .before .before .before .before .before .before .before .before .clear .ensures) (w .tangents)) (cleared _ 0 _ _ (c .before .before .before .before .before .before .before .before .before .before .before .before .before .before .before .fill-bytes .ensures) (w .fixed)) (c .before .before .before .before .before .before .before .before .before .before .before .vert-halfedge .kept .1 .0)
+returns c = let a = c .before .before .before .before .before .before .before .before .before .before .before .before .before .before .before .before .before .before .before .before .before .before .before .before .before .before .before .before .before .before .before .before .before .before .args in let w = c .before .before .before .before .before .before .before .before .before .before .before .before .before .before .before .before .before .before .before .before .before .before .before .before .before .before .before .before .before .before .before .before .before .before .pre in made (w .sound) (a .refs .now) (a .pos .now) (a .normals .now) (a .«face-normals» .now) (a .«halfedge-normals» .now) (a .t .now) (a .old) _ _ _ _ _ _ _ (c .before .before .before .before .normals-verts .ensures) (c .before .before .before .before .before .before .before .before .before .before .before .before .before .before .before .before .before .before .before .before .before .before .before .inside-quads .ensures) (cleared _ zero _ _ (c .before .before .before .before .before .before .before .before .before .before .before .before .before .before .before .before .before .before .before .clear .ensures) (w .tangents)) (cleared _ 0 _ _ (c .before .before .before .before .before .before .before .before .before .before .before .before .before .before .before .fill-bytes .ensures) (w .fixed)) (c .before .before .before .before .before .before .before .before .before .before .before .vert-halfedge .kept .1 .0)
 
 pub normal-tangents-spec : {M : Type 1} → statement M
 normal-tangents-spec =

@@ -2,7 +2,8 @@
 use Prim.Native.Nat.{_/_}
 use Rattle.smoothing.specs.Lists.{pointAt}
 use Rattle.smoothing.proofs.Directions.{equal-by-units}
-use Rattle.normals_state.specs.State.{getNormal, hasFaceNormal, halfedgeNormal}
+use Rattle.normals_state.specs.State.{getNormal, hasFaceNormal}
+use Rattle.normals_state.specs.Carried.{halfedgeNormal}
 use borrow.Author.Needs.{needs}
 use Rattle.normals_state.proofs.normal_after.Statement.{statement}
 use Rattle.normals_state.proofs.normal_after.Tie as tie

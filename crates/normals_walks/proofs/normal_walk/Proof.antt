@@ -1,9 +1,12 @@
 -- `normals_walks::normal_walk` meets its contract: a walk once round a vertex cycle. The invariant: what is left of the fold gives the whole, and the normal that is carried is the current halfedge's. Assumes nothing.
 use Rattle.normals_walks.specs.Walks.{normalWalk}
 use Rattle.normals_walks.proofs.Lent.{making-in}
-use Rattle.normals_steps.specs.Steps.{StateIn, walkOf, normalStep}
-use Rattle.normals_steps.proofs.Lent.{state-start, state-after}
-use Rattle.normals_state.specs.State.{halfedgeNormal, startState}
+use Rattle.normals_steps.specs.Steps.{StateIn, Walk, walkOf, normalStep}
+use Rattle.normals_steps.specs.Carried.{isInside, normalStepOf}
+use Rattle.normals_steps.proofs.Lent.{tangent-in, state-start, state-after}
+use Rattle.normals_steps.proofs.Carried.{normal-step-by}
+use Rattle.normals_state.specs.State.{startState}
+use Rattle.normals_state.specs.Carried.{halfedgeNormal}
 use Rattle.normals_state.specs.declared.CycleState.{CycleState}
 use Rattle.normals_state.proofs.Lent.{here-in, next-in, here-face-in, next-face-in}
 use Rattle.cycles.proofs.Around.{next-permutes, next-fits}
@@ -13,11 +16,13 @@ use Rattle.cycles.specs.Cycles.{nextAround, vertexCycle}
 use Rattle.cycles.specs.Walk.{cycleFrom}
 use Rattle.smoothing.specs.Directions.{safeNormalize}
 use Rattle.normals_state.specs.declared.HalfedgeNormal.{HalfedgeNormal}
-use Prim.Native.Nat.{ℕ}
+use Prim.Native.Nat.{ℕ, _+_, _*_, _≤_}
 use lib.ListN.{length}
+use lib.IntN.{ℤ}
 use lib.Ieee.{Float}
 use native.Mathlib.Nat.{le-refl}
 use mathlib.Core.List.{List, foldl}
+use mathlib.Core.Bool.{Bool}
 use mathlib.Core.Path.{_≡_, refl, sym, ap, subst, _∙_}
 use Rattle.normals_walks.proofs.normal_walk.Statement.{statement}
 use Rattle.normals_walks.proofs.normal_walk.Tie as tie
@@ -26,11 +31,15 @@ unit-is : (A G : List Float) (e : ℕ) {k : HalfedgeNormal} → k ≡ halfedgeNo
 unfolding halfedgeNormal
 unit-is A G e q = rw q refl
 
+-- a step at halfedge e by the carried normals, that of e and that of x
+stepped : (H : List ℤ) (P A G : List Float) (inside : ℕ → Bool) (m : Walk) (e : ℕ) {m′ : Walk} {here next : HalfedgeNormal} {x : ℕ} → e * 4 + 4 ≤ length (m .tangents) → here ≡ halfedgeNormal A G e → next ≡ halfedgeNormal A G x → x ≡ nextAround H e → m′ ≡ normalStepOf H P A inside here next m e → m′ ≡ normalStep H P A G inside m e
+stepped H P A G inside m e h p q r d = d ∙ rw (p, q, r) (sym (normal-step-by H P A G inside m e h))
+
 abbrev Inv-loop : tie.InvT-loop
 Inv-loop n h pos face-normals halfedge-normals inside t₀ fixed₀ e state₀ here₀ current₀ t fixed state here current =
     Walking (nextAround h) n (isAt e) n e current × (length t ≡ length t₀) × (length fixed ≡ length fixed₀) × StateIn n state
     × (here ≡ halfedgeNormal face-normals halfedge-normals current)
-    × (foldl (normalStep h pos face-normals halfedge-normals inside) (walkOf t fixed state) (cycleFrom (nextAround h) n e current) ≡ foldl (normalStep h pos face-normals halfedge-normals inside) (walkOf t₀ fixed₀ startState) (vertexCycle h n e))
+    × (foldl (normalStep h pos face-normals halfedge-normals (isInside inside)) (walkOf t fixed state) (cycleFrom (nextAround h) n e current) ≡ foldl (normalStep h pos face-normals halfedge-normals (isInside inside)) (walkOf t₀ fixed₀ startState) (vertexCycle h n e))
 
 abbrev μ-loop : tie.MeasureT-loop
 μ-loop n h pos face-normals halfedge-normals inside t₀ fixed₀ e state₀ here₀ current₀ t fixed state here current = stepsLeft (nextAround h) (isAt e) n current
@@ -50,7 +59,7 @@ loop-holds c =
       refl,
       subst (StateIn (z .args .n)) (sym q) state-start,
       c .halfedge-normal .ensures,
-      ap (λ (s : CycleState). foldl (normalStep (z .args .h .now) (z .args .pos .now) (z .args .face-normals .now) (z .args .halfedge-normals .now) (z .args .inside .now)) (walkOf (z .args .t .now) (z .args .fixed .now) s) (vertexCycle (z .args .h .now) (z .args .n) (z .args .e))) q,
+      ap (λ (s : CycleState). foldl (normalStep (z .args .h .now) (z .args .pos .now) (z .args .face-normals .now) (z .args .halfedge-normals .now) (isInside (z .args .inside .now))) (walkOf (z .args .t .now) (z .args .fixed .now) s) (vertexCycle (z .args .h .now) (z .args .n) (z .args .e))) q,
     )
 
 next-around-requires : tie.Need-next-around-requires Inv-loop μ-loop
@@ -80,14 +89,15 @@ loop-again c =
     let x = c .before .before .before .before .before .before .before .before .before .next-around .ensures in
     let l = c .before .before .before .before .before .before .before .before .before .before .loop in
     let a = c .before .before .before .before .before .before .before .before .before .before .before .before .before .before .before .before .before .before .before .args in
-    let Q = next-permutes (c .before .before .before .before .before .before .before .before .before .before .before .before .before .before .before .before .before .before .before .pre .1 .lists .state .missing .sound) in
-    let done = m .ensures (a .halfedge-normals .now) (l .inv .4) (g ∙ ap (halfedgeNormal (a .face-normals .now) (a .halfedge-normals .now)) x) in (
+    let w = c .before .before .before .before .before .before .before .before .before .before .before .before .before .before .before .before .before .before .before .pre .1 .lists in
+    let Q = next-permutes (w .state .missing .sound) in
+    let done = stepped (a .h .now) (a .pos .now) (a .face-normals .now) (a .halfedge-normals .now) (isInside (a .inside .now)) (walkOf (l .t) (l .fixed) (l .state)) (l .current) (tangent-in w (l .inv .0 .below) (l .inv .1)) (l .inv .4) g x (m .ensures) in (
       around-step Q (l .inv .0) x (c .if1 .left),
       m .kept .1 .1 .1 .1 .1 .0 ∙ l .inv .1,
       m .kept .1 .1 .1 .1 .1 .1 .0 ∙ l .inv .2,
-      state-after (l .inv .0 .below) (a .h .now) (a .pos .now) (a .face-normals .now) (a .halfedge-normals .now) (a .inside .now) (walkOf (l .t) (l .fixed) (l .state)) done (l .inv .3),
+      state-after (l .inv .0 .below) (a .h .now) (a .pos .now) (a .face-normals .now) (a .halfedge-normals .now) (isInside (a .inside .now)) (walkOf (l .t) (l .fixed) (l .state)) done (l .inv .3),
       g,
-      around-fold-step Q (l .inv .0) x (normalStep (a .h .now) (a .pos .now) (a .face-normals .now) (a .halfedge-normals .now) (a .inside .now)) (walkOf (l .t) (l .fixed) (l .state)) (l .inv .5) done (c .if1 .left),
+      around-fold-step Q (l .inv .0) x (normalStep (a .h .now) (a .pos .now) (a .face-normals .now) (a .halfedge-normals .now) (isInside (a .inside .now))) (walkOf (l .t) (l .fixed) (l .state)) (l .inv .5) done (c .if1 .left),
     )
 
 same-length : tie.Need-same-length Inv-loop μ-loop
@@ -102,10 +112,11 @@ returns c =
     let x = c .before .before .before .before .before .before .before .before .before .next-around .ensures in
     let l = c .before .before .before .before .before .before .before .before .before .before .loop in
     let a = c .before .before .before .before .before .before .before .before .before .before .before .before .before .before .before .before .before .before .before .args in
-    let Q = next-permutes (c .before .before .before .before .before .before .before .before .before .before .before .before .before .before .before .before .before .before .before .pre .1 .lists .state .missing .sound) in
-    let done = c .before .before .before .before .before .normal-step .ensures (a .halfedge-normals .now) (l .inv .4) (c .before .before .before .before .before .before .before .before .normal-after .ensures ∙ ap (halfedgeNormal (a .face-normals .now) (a .halfedge-normals .now)) x) in (
-      around-fold-stop Q (l .inv .0) x (normalStep (a .h .now) (a .pos .now) (a .face-normals .now) (a .halfedge-normals .now) (a .inside .now)) (walkOf (l .t) (l .fixed) (l .state)) (l .inv .5) done (c .if1 .taken),
-      state-after (l .inv .0 .below) (a .h .now) (a .pos .now) (a .face-normals .now) (a .halfedge-normals .now) (a .inside .now) (walkOf (l .t) (l .fixed) (l .state)) done (l .inv .3),
+    let w = c .before .before .before .before .before .before .before .before .before .before .before .before .before .before .before .before .before .before .before .pre .1 .lists in
+    let Q = next-permutes (w .state .missing .sound) in
+    let done = stepped (a .h .now) (a .pos .now) (a .face-normals .now) (a .halfedge-normals .now) (isInside (a .inside .now)) (walkOf (l .t) (l .fixed) (l .state)) (l .current) (tangent-in w (l .inv .0 .below) (l .inv .1)) (l .inv .4) (c .before .before .before .before .before .before .before .before .normal-after .ensures) x (c .before .before .before .before .before .normal-step .ensures) in (
+      around-fold-stop Q (l .inv .0) x (normalStep (a .h .now) (a .pos .now) (a .face-normals .now) (a .halfedge-normals .now) (isInside (a .inside .now))) (walkOf (l .t) (l .fixed) (l .state)) (l .inv .5) done (c .if1 .taken),
+      state-after (l .inv .0 .below) (a .h .now) (a .pos .now) (a .face-normals .now) (a .halfedge-normals .now) (isInside (a .inside .now)) (walkOf (l .t) (l .fixed) (l .state)) done (l .inv .3),
     )
 
 pub normal-walk-spec : {M : Type 1} → statement M

@@ -1,6 +1,7 @@
 -- `normals_walks::normals_verts` meets its contract. The invariant: both lists are the fold over the points passed. Assumes nothing.
 use Rattle.normals_walks.specs.Walks.{normalsVert, normalsVerts}
 use Rattle.normals_walks.proofs.Lent.{verts-still}
+use Rattle.normals_steps.specs.Carried.{isInside}
 use Rattle.makings.specs.Makings.{tangentsOf}
 use Rattle.mesh.proofs.Fold.{fold-none}
 use Rattle.faces.proofs.Loops.{fold-turn}
@@ -15,7 +16,7 @@ use Rattle.normals_walks.proofs.normals_verts.Tie as tie
 abbrev Inv-loop : tie.InvT-loop
 Inv-loop n h pos normals face-normals halfedge-normals inside vert-halfedge t₀ fixed₀ v₀ t fixed v =
     (v ≤ length vert-halfedge) × (length t ≡ length t₀) × (length fixed ≡ length fixed₀)
-    × (tangentsOf t fixed ≡ foldTo (normalsVert h pos normals face-normals halfedge-normals inside n) (tangentsOf t₀ fixed₀) v)
+    × (tangentsOf t fixed ≡ foldTo (normalsVert h pos normals face-normals halfedge-normals (isInside inside) n) (tangentsOf t₀ fixed₀) v)
 
 abbrev μ-loop : tie.MeasureT-loop
 μ-loop n h pos normals face-normals halfedge-normals inside vert-halfedge t₀ fixed₀ v₀ t fixed v = length vert-halfedge - v
