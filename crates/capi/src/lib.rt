@@ -12,6 +12,7 @@ ghost use Rattle.sharpen.specs.Sharpen.{sharpenEdges, entriesAfter};
 ghost use Rattle.distribute.specs.Distribute.{distributeTangents, scratchAfter, checkLists};
 ghost use Rattle.distribute.specs.Distribute.{tangentsAfter as spreadAfter};
 ghost use Rattle.mesh.specs.Check.{whenAccepted};
+ghost use Rattle.entries.specs.Entries.{entriesOf};
 ghost use Rattle.create.specs.Create.{checkLists as checkCreate, tangentsAfter as createdTangents};
 ghost use Rattle.create_from_normals.specs.FromNormals.{checkLists as checkFromNormals, tangentsAfter as tangentsFromNormals};
 ghost use Rattle.capi.specs.Answers.{put, putChecked, putValidity, putListing, putSpreading};
@@ -198,7 +199,7 @@ pub extern "C" fn tangents_create_tangents(
     link: &mut [usize],
     answer: &mut [usize],
 )
-    ensures { λ _. ⌜ (let r = checkCreate (now (h .entry)) (now (pos .entry)) (now (normals .entry)) (now («face_normals» .entry)) (now (refs .entry)) (now (entries .entry)) (now (values .entry)) (now (t .entry)) (now (fixed .entry)) (now (flat .entry)) (now (smooth .entry)) (now (desired .entry)) (now (at .entry)) (now (link .entry)) n p in (now (t .exit) ≡ createdTangents r (now (h .entry)) (now (pos .entry)) (now (normals .entry)) (now («face_normals» .entry)) (now (refs .entry)) (now (entries .entry)) (now (values .entry)) (now (t .entry)) (not (eqb old 0)) n p) × (now (fixed .exit) ≡ whenAccepted r (replicate n 0) (now (fixed .entry))) × (now (flat .exit) ≡ whenAccepted r (replicate n 0) (now (flat .entry))) × (now (smooth .exit) ≡ whenAccepted r (replicate n zero) (now (smooth .entry))) × (now (desired .exit) ≡ whenAccepted r (replicate n zero) (now (desired .entry))) × (now (at .exit) ≡ whenAccepted r (replicate p 0) (now (at .entry))) × (now (link .exit) ≡ whenAccepted r (replicate n 0) (now (link .entry))) × (now (answer .exit) ≡ putChecked (now (answer .entry)) r)) ⌝ }
+    ensures { λ _. ⌜ (let r = checkCreate (now (h .entry)) (now (pos .entry)) (now (normals .entry)) (now («face_normals» .entry)) (now (refs .entry)) (now (entries .entry)) (now (values .entry)) (now (t .entry)) (now (fixed .entry)) (now (flat .entry)) (now (smooth .entry)) (now (desired .entry)) (now (at .entry)) (now (link .entry)) n p in (now (t .exit) ≡ createdTangents r (now (h .entry)) (now (pos .entry)) (now (normals .entry)) (now («face_normals» .entry)) (now (refs .entry)) (entriesOf (now (entries .entry)) (now (values .entry))) (now (t .entry)) (not (eqb old 0)) n p) × (now (fixed .exit) ≡ whenAccepted r (replicate n 0) (now (fixed .entry))) × (now (flat .exit) ≡ whenAccepted r (replicate n 0) (now (flat .entry))) × (now (smooth .exit) ≡ whenAccepted r (replicate n zero) (now (smooth .entry))) × (now (desired .exit) ≡ whenAccepted r (replicate n zero) (now (desired .entry))) × (now (at .exit) ≡ whenAccepted r (replicate p 0) (now (at .entry))) × (now (link .exit) ≡ whenAccepted r (replicate n 0) (now (link .entry))) × (now (answer .exit) ≡ putChecked (now (answer .entry)) r)) ⌝ }
 {
     let checked = create::create_tangents(
         n,

@@ -16,7 +16,7 @@ use Rattle.mesh.specs.Sound.{Sound}
 use Rattle.mesh.proofs.Tests.{and-true}
 use Rattle.mesh.proofs.Pairs.{one-forward, paired-injective, paired-other}
 use Rattle.edges.specs.Smoothness.{isCrease}
-use Rattle.creases.specs.Creases.{addHalfedge, addCrease, creasesFrom, creasesAt}
+use Rattle.creases.specs.Linked.{addHalfedge, addCrease, creasesFrom, creasesAt}
 
 -- ---- of each halfedge of a list
 

@@ -3,4 +3,5 @@ pub mod Lent
 pub mod Creases
 pub mod Linked
 pub mod Points
+pub mod Verts
 mod Pillow

@@ -4,7 +4,7 @@ use native.Mathlib.Decide.{ℕ-discrete}
 use native.Mathlib.Omega.{arith}
 use mathlib.Core.Path.{_≡_, refl, sym, ap, _∙_, subst}
 use mathlib.Core.Logic.{_≢_}
-use mathlib.Core.List.{List, [], _∷_, foldl}
+use mathlib.Core.List.{List, [], _∷_, foldl, map}
 use mathlib.Core.Bool.{true, false, cond}
 use lib.ListN.{length, getD, set, drop, length-set}
 use lib.Seq.{getD-set-same, getD-set-other}
@@ -15,9 +15,9 @@ use borrow.Author.Tests.{eq-eqb, ne-eqb, le-leb, lt-leb}
 use Rattle.mesh.specs.Mesh.{startVert, pairedHalfedge}
 use Rattle.mesh.specs.Sound.{Sound}
 use Rattle.creases.specs.declared.Crease.the-variants.{NoCrease, OneEnd, Meeting}
-use Rattle.edges.specs.Smoothness.{isCrease}
-use Rattle.creases.specs.Creases.{addHalfedge, addCrease, creasesFrom, throughOf, sumsOf, meanOf, creaseOf}
-use Rattle.creases.specs.Linked.{Linked, halfedgeOf}
+use Rattle.edges.specs.Smoothness.{isCrease, pairAt}
+use Rattle.creases.specs.Creases.{throughOf, sumsOf, meanOf, creaseOf}
+use Rattle.creases.specs.Linked.{addHalfedge, addCrease, creasesFrom, Linked, halfedgeOf}
 use Rattle.creases.proofs.Creases.{All, all-tail, creases-next, paired-apart, forward-apart}
 
 -- ---- building
@@ -110,7 +110,7 @@ module _ (L : List ℕ) {n end : ℕ} (low : end ≤ n) where
   linked-first c (e ∷ l) d = let q : c - suc n ≡ e = omega (arith, d .0) in rw (lt-leb c n (omega (arith, d .0)), q)
 
   -- what the creases are to a point, by how many numbers above n there are
-  pub crease-none : (H : List ℤ) (S : List Float) (c : ℕ) (l : List ℕ) → Linked n L end c l → c ≤ n → NoCrease ≡ creaseOf H S l
+  pub crease-none : (H : List ℤ) (S : List Float) (c : ℕ) (l : List ℕ) → Linked n L end c l → c ≤ n → NoCrease ≡ creaseOf (map (pairAt H S) l)
   unfolding creaseOf
   crease-none H S c l d h = rw (linked-none c l d h)
 
@@ -121,7 +121,7 @@ module _ (L : List ℕ) {n end : ℕ} (low : end ≤ n) where
     abbrev next : ℕ
     next = getD L first 0
 
-    pub crease-end : next ≤ n → OneEnd ≡ creaseOf H S l
+    pub crease-end : next ≤ n → OneEnd ≡ creaseOf (map (pairAt H S) l)
     unfolding creaseOf
     crease-end k =
         let s = linked-some c l d h in
@@ -138,13 +138,13 @@ module _ (L : List ℕ) {n end : ℕ} (low : end ≤ n) where
           let t = linked-some next (drop 1 l) (s .1) j in
           (s .0 ∙ ap (λ (t : List ℕ). first ∷ t) (t .0), t .1)
 
-      pub crease-through : getD L second 0 ≤ n → throughOf H S first second ≡ creaseOf H S l
+      pub crease-through : getD L second 0 ≤ n → throughOf (pairAt H S first) (pairAt H S second) ≡ creaseOf (map (pairAt H S) l)
       unfolding creaseOf
       crease-through k =
           let e : drop 1 (drop 1 l) ≡ [] = linked-none (getD L second 0) (drop 1 (drop 1 l)) (two-creases .1) k in
           rw (two-creases .0 ∙ ap (λ (t : List ℕ). first ∷ second ∷ t) e)
 
-      pub crease-meeting : n < getD L second 0 → Meeting (meanOf (sumsOf H S l)) ≡ creaseOf H S l
+      pub crease-meeting : n < getD L second 0 → Meeting (meanOf (sumsOf (map (pairAt H S) l))) ≡ creaseOf (map (pairAt H S) l)
       unfolding creaseOf
       crease-meeting k =
           let s = linked-some (getD L second 0) (drop 1 (drop 1 l)) (two-creases .1) k in

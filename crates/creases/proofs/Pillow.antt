@@ -1,13 +1,16 @@
--- Worked examples on document 01's pillow: the order of the creases at a point, and what they are to it. Assumes nothing.
+-- Worked examples on document 01's pillow: the order of the pairs at a point, and what they are to it. Assumes nothing.
 use mathlib.Core.Path.{_≡_, refl}
 use mathlib.Core.List.{List, [], _∷_, map}
 use lib.IntN.{ℤ, pos}
-use lib.Ieee.{Float, lt, eq, add, div, ofBits}
+use lib.Ieee.{Float, lt, le, eq, ne, add, div, ofBits}
 use Rattle.float.specs.Ops.{zero, half, one, lit}
+use Rattle.float.specs.F64.{minOf}
 use Rattle.mesh.specs.Mesh.{numberAt, indexOf, field}
-use Rattle.edges.specs.Smoothness.{isCrease}
-use Rattle.creases.specs.declared.Crease.the-variants.{OneEnd, Through, Meeting}
-use Rattle.creases.specs.Creases.{addHalfedge, addCrease, creasesFrom, creasesAt, throughOf, addSides, sumsOf, meanOf, creaseOf}
+use Rattle.mesh.specs.Fold.{foldTo}
+use Rattle.entries.specs.declared.Smoothness.{Smoothness}
+use Rattle.edges.specs.Edges.{sideOf, pairOf, andModify, orInsert, modify, keyOf, insert, edgesOf}
+use Rattle.creases.specs.declared.Crease.the-variants.{NoCrease, OneEnd, Through, Meeting}
+use Rattle.creases.specs.Creases.{pushAt, pushEdge, vertTangents, throughOf, addSides, sumsOf, meanOf, creaseOf}
 
 -- start, end and pair of the halfedges 0 to 5
 abbrev pillow : List ℤ
@@ -23,24 +26,32 @@ five-eighths = lit 0x3fe4_0000_0000_0000
 abbrev three-quarters : Float
 three-quarters = lit 0x3fe8_0000_0000_0000
 
--- the edges 1-2, with 1/4 at halfedge 1, and 0-2, with 1/2 at halfedge 3
-abbrev smooth : List Float
-smooth = one ∷ quarter ∷ one ∷ half ∷ one ∷ one ∷ []
+-- the edges 0-2, with 1/2 at halfedge 3, and 1-2, with 1/4 at halfedge 1
+abbrev entries : List Smoothness
+entries = sideOf 3 half ∷ sideOf 1 quarter ∷ []
+
+unfoldable all : Unit {0}
+unfolding vertTangents pushEdge pushAt foldTo edgesOf insert modify orInsert andModify keyOf minOf creaseOf throughOf meanOf sumsOf addSides field numberAt indexOf lt le eq ne add div ofBits
+all = tt
 
 -- at point 2 they are the halfedges 4 and 2: their forward halfedges 1 and 3 ascend, they themselves do not
-ascending : creasesAt pillow smooth 6 2 ≡ 4 ∷ 2 ∷ []
-unfolding creasesAt creasesFrom addCrease addHalfedge isCrease field numberAt indexOf lt ofBits
+ascending : vertTangents pillow (edgesOf pillow entries) 6 2 ≡ pairOf (sideOf 4 one) (sideOf 1 quarter) ∷ pairOf (sideOf 2 one) (sideOf 3 half) ∷ []
+unfolding all
 ascending = refl
 
-goes-through : creaseOf pillow smooth (4 ∷ 2 ∷ []) ≡ Through 4 2 five-eighths three-quarters
-unfolding creaseOf throughOf field numberAt indexOf add div ofBits
+goes-through : creaseOf (vertTangents pillow (edgesOf pillow entries) 6 2) ≡ Through 4 2 five-eighths three-quarters
+unfolding all
 goes-through = refl
 
-ends : creaseOf pillow smooth (creasesAt pillow smooth 6 0) ≡ OneEnd
-unfolding creaseOf creasesAt creasesFrom addCrease addHalfedge isCrease field numberAt indexOf lt ofBits
+ends : creaseOf (vertTangents pillow (edgesOf pillow entries) 6 0) ≡ OneEnd
+unfolding all
 ends = refl
 
--- three creases (as if they met): the sum of 1, 1/4, 1, 1/2, 0 and 1/4, divided by 5
-meets : creaseOf pillow (quarter ∷ quarter ∷ one ∷ half ∷ one ∷ zero ∷ []) (4 ∷ 2 ∷ 0 ∷ []) ≡ Meeting (lit 0x3fe3_3333_3333_3333)
-unfolding creaseOf meanOf sumsOf addSides field numberAt indexOf lt eq add div ofBits
+no-creases : creaseOf (vertTangents pillow (edgesOf pillow []) 6 0) ≡ NoCrease
+unfolding all
+no-creases = refl
+
+-- three creases (as if they met): the sum of 1, 1/4, 1, 1/2, 1/4 and 0, divided by 5
+meets : creaseOf (pairOf (sideOf 4 one) (sideOf 1 quarter) ∷ pairOf (sideOf 2 one) (sideOf 3 half) ∷ pairOf (sideOf 0 quarter) (sideOf 5 zero) ∷ []) ≡ Meeting (lit 0x3fe3_3333_3333_3333)
+unfolding all
 meets = refl

@@ -1,68 +1,67 @@
--- The creases at a point in `create_tangents`, and what they are to it. H are the halfedges, S the smoothness of each of the n halfedges, v a point.
-use Prim.Native.Nat.{ℕ, zero, suc}
+-- The Rust's map `vert_tangents` in `create_tangents`, and what its pairs are to a point. H are the halfedges, n is their count, M is the map `edges`, B what the map has so far.
+use Prim.Native.Nat.{ℕ}
 use mathlib.Core.List.{List, [], _∷_, foldl}
 use mathlib.Core.Bool.{cond}
-use lib.ListN.{getD}
 use lib.IntN.{ℤ}
 use lib.Dec.{eqb}
 use lib.Ieee.{Float, lt, eq}
 use Rattle.float.specs.Ops.{_⊕_, _⊘_, zero as 0f, one, two}
-use Rattle.mesh.specs.Mesh.{startVert, pairedHalfedge}
-use Rattle.faces.specs.Faces.{vertHalfedge}
+use Rattle.mesh.specs.Mesh.{startVert}
+use Rattle.mesh.specs.Fold.{foldTo}
+use Rattle.edges.specs.Edges.{push, Pair, pairOf, Entry, absent, present}
 use Rattle.creases.specs.declared.Crease.{Crease}
 use Rattle.creases.specs.declared.Crease.the-variants.{NoCrease, OneEnd, Through, Meeting}
 use Rattle.creases.specs.declared.Sums.{Sums}
-use Rattle.edges.specs.Smoothness.{smoothnessAt, pairSmoothness, isCrease}
 
--- ---- `vert_tangents`: each crease at v as its halfedge that starts at v, in the order of `edges`, which ascends by the forward halfedge
+-- ---- `vert_tangents`: the pairs of each point; a point with no pairs is not in the map
 
--- e in front, if it starts at v
-unfoldable pub addHalfedge : List ℤ → ℕ → ℕ → List ℕ → List ℕ
-addHalfedge H v e l = cond (eqb (startVert H e) v) (e ∷ l) l
+-- `.entry(w).or_default().push(q)`
+unfoldable pub pushAt : (ℕ → List Pair) → ℕ → Pair → ℕ → List Pair
+pushAt B w q v = cond (eqb w v) (push (B v) q) (B v)
 
--- the edge of f in front, if it is a crease: the Rust pushes it at the point where f starts, and its pair at the point where that starts
-unfoldable pub addCrease : List ℤ → List Float → ℕ → ℕ → List ℕ → List ℕ
-addCrease H S v f l = cond (isCrease H S f) (addHalfedge H v f (addHalfedge H v (pairedHalfedge H f) l)) l
+-- the body of the loop over the values of `edges`: the pair at the point where its own side starts, then with its sides exchanged at the point where the other one does
+unfoldable pub pushEdge : List ℤ → (ℕ → List Pair) → Entry → ℕ → List Pair
+pushEdge H B absent = B
+pushEdge H B (present q) =
+    pushAt (pushAt B (startVert H (q .own .halfedge)) q) (startVert H (q .other .halfedge)) (pairOf (q .other) (q .own))
 
--- the creases among the k halfedges from f on
-unfoldable pub creasesFrom : List ℤ → List Float → ℕ → ℕ → ℕ → List ℕ
-creasesFrom H S v zero f = []
-creasesFrom H S v (suc k) f = addCrease H S v f (creasesFrom H S v k (suc f))
+-- in ascending order of the key, which is a halfedge
+unfoldable pub vertTangents : List ℤ → (ℕ → Entry) → ℕ → ℕ → List Pair
+vertTangents H M n = foldTo (λ B f. pushEdge H B (M f)) (λ v. []) n
 
-unfoldable pub creasesAt : List ℤ → List Float → ℕ → ℕ → List ℕ
-creasesAt H S n v = creasesFrom H S v n 0
+-- ---- two pairs: a crease through the point
 
--- `vert[0].0.halfedge`, and with no crease `vert_halfedge[v]`
-abbrev pub firstCrease : List ℤ → List Float → ℕ → ℕ → ℕ
-firstCrease H S n v = getD (creasesAt H S n v) 0 (vertHalfedge H n v)
+-- `first` and `second`, and `smoothness`, which is that of the walk around from the first to the second, and then that from the second on
+unfoldable pub throughOf : Pair → Pair → Crease
+throughOf a b =
+    Through (a .own .halfedge) (b .own .halfedge)
+    ((a .other .smoothness ⊕ b .own .smoothness) ⊘ two) ((b .other .smoothness ⊕ a .own .smoothness) ⊘ two)
 
--- ---- a crease through the point, of the halfedges a and b
-
--- the smoothness of the walk around from a to b, and that from b on
-unfoldable pub throughOf : List ℤ → List Float → ℕ → ℕ → Crease
-throughOf H S a b =
-    Through a b ((pairSmoothness H S a ⊕ smoothnessAt S b) ⊘ two) ((pairSmoothness H S b ⊕ smoothnessAt S a) ⊘ two)
-
--- ---- a meeting: the sum of the smoothness of all sides, divided by the number of those that are not 0
+-- ---- more pairs: a meeting, with the sum of the smoothness of all sides, divided by the number of those that are not 0
 
 abbrev pub countOf : Float → Float
 countOf s = cond (eq s 0f) 0f one
 
--- the body of the loop, at crease e
-unfoldable pub addSides : List ℤ → List Float → Sums → ℕ → Sums
-addSides H S m e =
-    record { smoothness = m .smoothness ⊕ (smoothnessAt S e ⊕ pairSmoothness H S e); denom = m .denom ⊕ countOf (smoothnessAt S e) ⊕ countOf (pairSmoothness H S e) }
+-- the body of the loop: `smoothness` and `denom` after a pair
+unfoldable pub addSides : Sums → Pair → Sums
+addSides m q =
+    record { smoothness = m .smoothness ⊕ (q .own .smoothness ⊕ q .other .smoothness); denom = m .denom ⊕ countOf (q .own .smoothness) ⊕ countOf (q .other .smoothness) }
 
-unfoldable pub sumsOf : List ℤ → List Float → List ℕ → Sums
-sumsOf H S l = foldl (addSides H S) (record { smoothness = 0f; denom = 0f }) l
+unfoldable pub sumsOf : List Pair → Sums
+sumsOf l = foldl addSides (record { smoothness = 0f; denom = 0f }) l
 
 unfoldable pub meanOf : Sums → Float
 meanOf m = cond (lt 0f (m .denom)) (m .smoothness ⊘ m .denom) (m .smoothness)
 
--- ---- what the creases l at a point are to it
+-- ---- what the pairs of a point are to it
 
-unfoldable pub creaseOf : List ℤ → List Float → List ℕ → Crease
-creaseOf H S [] = NoCrease
-creaseOf H S (a ∷ []) = OneEnd
-creaseOf H S (a ∷ b ∷ []) = throughOf H S a b
-creaseOf H S (a ∷ b ∷ c ∷ l) = Meeting (meanOf (sumsOf H S (a ∷ b ∷ c ∷ l)))
+unfoldable pub creaseOf : List Pair → Crease
+creaseOf [] = NoCrease
+creaseOf (a ∷ []) = OneEnd
+creaseOf (a ∷ b ∷ []) = throughOf a b
+creaseOf (a ∷ b ∷ c ∷ l) = Meeting (meanOf (sumsOf (a ∷ b ∷ c ∷ l)))
+
+-- `vert[0].0.halfedge`, which is asked for at a meeting alone; 0 where there is no pair
+abbrev pub firstHalfedge : List Pair → ℕ
+firstHalfedge [] = 0
+firstHalfedge (a ∷ l) = a .own .halfedge

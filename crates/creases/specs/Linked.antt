@@ -1,20 +1,50 @@
--- How two scratch lists hold the creases of each point: A with a place per point, L with a place per halfedge. Only contracts inside a call name these.
-use Prim.Native.Nat.{ℕ, suc, _+_, _-_, _<_}
+-- How three scratch lists hold the Rust's map `vert_tangents`: S the smoothness of each of the n halfedges, A with a place per point, L with a place per halfedge. Only contracts inside a call name these; `vert-tangents` of `proofs/Verts.antt` says that the two agree.
+use Prim.Native.Nat.{ℕ, zero, suc, _+_, _-_, _<_}
 use mathlib.Core.Path.{_≡_}
-use mathlib.Core.List.{List, [], _∷_}
+use mathlib.Core.List.{List, [], _∷_, map}
 use mathlib.Core.Bool.{cond}
 use lib.ListN.{length, getD}
 use lib.IntN.{ℤ}
-use lib.Dec.{leb}
+use lib.Dec.{eqb, leb}
 use lib.Ieee.{Float}
+use Rattle.mesh.specs.Mesh.{startVert, pairedHalfedge}
 use Rattle.mesh.specs.Sound.{Sound}
 use Rattle.faces.specs.Faces.{vertHalfedge}
-use Rattle.creases.specs.Creases.{creasesFrom, creasesAt}
+use Rattle.edges.specs.Edges.{Pair}
+use Rattle.edges.specs.Smoothness.{isCrease, pairAt}
+
+-- ---- the creases at a point v, each as its halfedge that starts at v, in ascending order of the forward halfedge
+
+-- e in front, if it starts at v
+unfoldable pub addHalfedge : List ℤ → ℕ → ℕ → List ℕ → List ℕ
+addHalfedge H v e l = cond (eqb (startVert H e) v) (e ∷ l) l
+
+-- the edge of f in front, if it is a crease
+unfoldable pub addCrease : List ℤ → List Float → ℕ → ℕ → List ℕ → List ℕ
+addCrease H S v f l = cond (isCrease H S f) (addHalfedge H v f (addHalfedge H v (pairedHalfedge H f) l)) l
+
+-- the creases among the k halfedges from f on
+unfoldable pub creasesFrom : List ℤ → List Float → ℕ → ℕ → ℕ → List ℕ
+creasesFrom H S v zero f = []
+creasesFrom H S v (suc k) f = addCrease H S v f (creasesFrom H S v k (suc f))
+
+unfoldable pub creasesAt : List ℤ → List Float → ℕ → ℕ → List ℕ
+creasesAt H S n v = creasesFrom H S v n 0
+
+-- and as pairs
+abbrev pub pairsAt : List ℤ → List Float → ℕ → ℕ → List Pair
+pairsAt H S n v = map (pairAt H S) (creasesAt H S n v)
+
+-- ---- the lists A and L
 
 -- A linked list from the number c on: suc n + e stands for halfedge e, whose place of L has the next number, and `end` ends the list. At a point `end` is its lowest halfedge, n for none.
 abbrev pub Linked : ℕ → List ℕ → ℕ → ℕ → List ℕ → Type 0
 Linked n L end c [] = c ≡ end
 Linked n L end c (e ∷ l) = (c ≡ suc n + e) × Linked n L end (getD L e 0) l
+
+-- the halfedge that stands at a point: that of its first crease, and with no crease its lowest
+abbrev pub firstCrease : List ℤ → List Float → ℕ → ℕ → ℕ
+firstCrease H S n v = getD (creasesAt H S n v) 0 (vertHalfedge H n v)
 
 -- the halfedge that a number stands for
 unfoldable pub halfedgeOf : ℕ → ℕ → ℕ

@@ -4,10 +4,10 @@ ghost use mathlib.Core.Path.{_≡_};
 ghost use Prim.Native.Nat.{ℕ, suc, _+_, _<_, _^_};
 ghost use lib.ListN.{length, getD, set};
 ghost use Rattle.mesh.specs.Mesh.{startVert, pairedHalfedge};
-ghost use Rattle.faces.specs.Faces.{vertHalfedge};
-ghost use Rattle.edges.specs.Smoothness.{SmoothnessIn, smoothness};
-ghost use Rattle.creases.specs.Creases.{creasesAt, throughOf, countOf, addSides, sumsOf, meanOf, creaseOf};
-ghost use Rattle.creases.specs.Linked.{halfedgeOf, LinkedFrom, LinkedAll, Lists, CreaseLists};
+ghost use Rattle.faces.specs.Faces.{isFlat, vertHalfedge};
+ghost use Rattle.edges.specs.Smoothness.{smoothness, pairAt};
+ghost use Rattle.creases.specs.Creases.{throughOf, countOf, addSides, sumsOf, meanOf, creaseOf};
+ghost use Rattle.creases.specs.Linked.{pairsAt, halfedgeOf, LinkedFrom, LinkedAll, Lists, CreaseLists};
 
 // What the creases are to a point: none; the end of one; one through it, with its two halfedges and the smoothness of either
 // side, around from the first to the second and from the second on; or a meeting of more, with the mean smoothness.
@@ -69,22 +69,21 @@ pub fn link_creases(n: usize, h: &[i32], smooth: &[f64], at: &mut [usize], link:
     }
 }
 
-// The smoothness of each halfedge and the creases of each point, whatever the three lists held.
+// The smoothness of each halfedge, where `smooth` holds that of the caller's entries, and the creases of each point, whatever
+// `at` and `link` held.
 pub fn find_creases(
     n: usize,
     h: &[i32],
     refs: &[i32],
     flat: &[u8],
-    entries: &[usize],
-    values: &[f64],
     smooth: &mut [f64],
     at: &mut [usize],
     link: &mut [usize],
 )
-    requires { ⌜ SmoothnessIn (now h) (now flat) (now entries) (now values) (now smooth) n × Lists (now h) (now smooth) (now at) (now link) n ⌝ }
-    ensures { λ _. ⌜ (now (smooth .exit) ≡ smoothness (now (h .entry)) (now (refs .entry)) (now (flat .entry)) (now (entries .entry)) (now (values .entry)) n) × LinkedAll (now (h .entry)) (now (smooth .exit)) (now (at .exit)) (now (link .exit)) n ⌝ }
+    requires { ⌜ (length (now flat) ≡ n) × Lists (now h) (now smooth) (now at) (now link) n ⌝ }
+    ensures { λ _. ⌜ (now (smooth .exit) ≡ smoothness (now (h .entry)) (now (refs .entry)) (isFlat (now (flat .entry))) (now (smooth .entry)) n) × LinkedAll (now (h .entry)) (now (smooth .exit)) (now (at .exit)) (now (link .exit)) n ⌝ }
 {
-    edges::smoothness(n, h, refs, flat, entries, values, smooth);
+    edges::add_flat_boundaries(h, refs, flat, smooth);
     faces::vert_halfedge(h, at, n);
     link_creases(n, h, smooth, at, link);
 }
@@ -113,7 +112,7 @@ fn count(s: f64) -> f64
 // The sums with both sides of crease e.
 fn add_sides(h: &[i32], smooth: &[f64], sums: Sums, e: usize) -> Sums
     requires { ⌜ (e < length (now smooth)) × (pairedHalfedge (now h) e < length (now smooth)) ⌝ }
-    ensures { λ r. ⌜ r ≡ addSides (now (h .entry)) (now (smooth .entry)) sums e ⌝ }
+    ensures { λ r. ⌜ r ≡ addSides sums (pairAt (now (h .entry)) (now (smooth .entry)) e) ⌝ }
 {
     let a = smooth[e];
     let b = edges::pair_smoothness(h, smooth, e);
@@ -126,7 +125,7 @@ fn add_sides(h: &[i32], smooth: &[f64], sums: Sums, e: usize) -> Sums
 // The sums over all creases of point v.
 fn crease_sums(n: usize, h: &[i32], smooth: &[f64], at: &[usize], link: &[usize], v: usize) -> Sums
     requires { ⌜ (v < length (now at)) × CreaseLists (now h) (now smooth) (now at) (now link) n ⌝ }
-    ensures { λ r. ⌜ r ≡ sumsOf (now (h .entry)) (now (smooth .entry)) (creasesAt (now (h .entry)) (now (smooth .entry)) n v) ⌝ }
+    ensures { λ r. ⌜ r ≡ sumsOf (pairsAt (now (h .entry)) (now (smooth .entry)) n v) ⌝ }
 {
     let mut sums = Sums {
         smoothness: 0.0,
@@ -155,7 +154,7 @@ fn mean(sums: Sums) -> f64
 // A crease through a point, of the halfedges `first` and `second`.
 fn through(h: &[i32], smooth: &[f64], first: usize, second: usize) -> Crease
     requires { ⌜ (first < length (now smooth)) × (second < length (now smooth)) × (pairedHalfedge (now h) first < length (now smooth)) × (pairedHalfedge (now h) second < length (now smooth)) ⌝ }
-    ensures { λ r. ⌜ r ≡ throughOf (now (h .entry)) (now (smooth .entry)) first second ⌝ }
+    ensures { λ r. ⌜ r ≡ throughOf (pairAt (now (h .entry)) (now (smooth .entry)) first) (pairAt (now (h .entry)) (now (smooth .entry)) second) ⌝ }
 {
     Crease::Through {
         first: first,
@@ -175,7 +174,7 @@ pub fn crease_at(
     v: usize,
 ) -> Crease
     requires { ⌜ (v < length (now at)) × CreaseLists (now h) (now smooth) (now at) (now link) n ⌝ }
-    ensures { λ r. ⌜ r ≡ creaseOf (now (h .entry)) (now (smooth .entry)) (creasesAt (now (h .entry)) (now (smooth .entry)) n v) ⌝ }
+    ensures { λ r. ⌜ r ≡ creaseOf (pairsAt (now (h .entry)) (now (smooth .entry)) n v) ⌝ }
 {
     let code = at[v];
     if code <= n {

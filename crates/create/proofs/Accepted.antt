@@ -1,19 +1,23 @@
--- What an accepted call establishes of its lists. Assumes nothing.
-use Prim.Native.Nat.{ℕ, _*_}
-use mathlib.Core.Path.{_≡_}
-use mathlib.Core.Bool.{true, _&&_}
+-- What an accepted call establishes of its lists, and what it makes. Assumes nothing.
+use Prim.Native.Nat.{ℕ, _*_, _<_}
+use mathlib.Core.Path.{_≡_, ap, _∙_}
+use mathlib.Core.Bool.{Bool, true, _&&_}
 use mathlib.Core.List.{List}
-use lib.ListN.{length}
+use lib.ListN.{length, getD}
 use lib.IntN.{ℤ}
-use lib.Ieee.{Float}
-use Rattle.mesh.specs.Questions.{hasLength}
+use lib.Ieee.{Float, nan}
+use Rattle.mesh.specs.Sound.{Sound}
+use Rattle.mesh.specs.Questions.{hasLength, signClear}
 use Rattle.mesh.specs.Check.{checkMesh, checkRefs}
 use Rattle.mesh.specs.declared.Checked.the-variants.{Accepted}
 use Rattle.mesh.proofs.Tests.{and-true, has-length, has-one}
 use Rattle.mesh.proofs.Accepted.{accepted, refs-accepted, entries-accepted}
-use Rattle.edges.proofs.Lent.{entries-in}
+use Rattle.entries.specs.EntrySmoothness.{EntriesIn, entrySmoothness}
+use Rattle.entries.specs.declared.Smoothness.{Smoothness}
 use Rattle.create_steps.proofs.Lent.{create-lists-in}
-use Rattle.create_core.specs.Core.{Lists}
+use Rattle.create_core.specs.Core.{createTangents}
+use Rattle.create_core.specs.Filled.{Lists, createFilled}
+use Rattle.create_core.proofs.Filled.{filled-same}
 use Rattle.makings.proofs.Lengths.{MeshListsFit, mesh-lists-fit}
 use Rattle.create.specs.Create.{listsFit, scratchFits, checkCreate, checkLists}
 
@@ -58,11 +62,19 @@ scratch-fits x f s d c l n p e =
       links = has-one l n (e₆ .1);
     }
 
--- the lists of an accepted call
-pub lists-of : (H : List ℤ) (P N A : List Float) (R : List ℤ) (I : List ℕ) (Q T : List Float) (X F : List ℕ) (S D : List Float) (C L : List ℕ) (n p : ℕ)
-    → checkLists H P N A R I Q T X F S D C L n p ≡ Accepted → Lists H P N A I Q T X F S D C L n p
+-- all of it; the scratch list S may hold other numbers by then
+pub record AcceptedLists (H : List ℤ) (P N A : List Float) (I : List ℕ) (Q T : List Float) (X F : List ℕ) (S D : List Float) (C L : List ℕ) (n p : ℕ) : Type 0 where
+  pub sound : Sound H n p
+  pub values : length Q ≡ length I
+  pub named : (k : ℕ) → k < length I → getD I k 0 < n
+  pub clear : (k : ℕ) → k < length I → signClear (getD Q k nan) ≡ true
+  pub smooth : length S ≡ n
+  pub lists : {S′ : List Float} → length S′ ≡ length S → Lists H P N A T X F S′ D C L n p
+
+pub accepted-lists : (H : List ℤ) (P N A : List Float) (R : List ℤ) (I : List ℕ) (Q T : List Float) (X F : List ℕ) (S D : List Float) (C L : List ℕ) (n p : ℕ)
+    → checkLists H P N A R I Q T X F S D C L n p ≡ Accepted → AcceptedLists H P N A I Q T X F S D C L n p
 unfolding checkCreate
-lists-of H P N A R I Q T X F S D C L n p e =
+accepted-lists H P N A R I Q T X F S D C L n p e =
     let lengths = listsFit (length H) (length P) (length N) (length A) (length R) (length I) (length Q) (length T) n p && scratchFits (length X) (length F) (length S) (length D) (length C) (length L) n p in
     let a = entries-accepted (checkRefs (checkMesh H n p lengths) R n) n I Q e in
     let b = accepted H n p lengths (refs-accepted (checkMesh H n p lengths) n R (a .0) .0) in
@@ -70,7 +82,19 @@ lists-of H P N A R I Q T X F S D C L n p e =
     let l = lists-fit _ _ _ _ _ _ _ _ n p (q .0) in
     let s = scratch-fits _ _ _ _ _ _ n p (q .1) in
     record {
-      lists = create-lists-in (b .1) (l .mesh-lists .positions) (l .mesh-lists .normals) (l .mesh-lists .face-normals (b .1 .triangles)) (entries-in I Q n (l .values) (a .1)) (l .tangents) (s .fixed) (s .flat) (s .smooth) (s .points) (s .links);
-      desired = s .desired;
-      points = s .points;
+      sound = b .1;
+      values = l .values;
+      named = a .1;
+      clear = a .2;
+      smooth = s .smooth;
+      lists = λ same. record {
+        lists = create-lists-in (b .1) (l .mesh-lists .positions) (l .mesh-lists .normals) (l .mesh-lists .face-normals (b .1 .triangles)) (l .tangents) (s .fixed) (s .flat) (same ∙ s .smooth) (s .points) (s .links);
+        desired = s .desired;
+        points = s .points;
+      };
     }
+
+-- the tangents U, made with the smoothness S that the entries E give
+pub made : (H : List ℤ) (P N A : List Float) (R : List ℤ) (E : List Smoothness) (T : List Float) (old : Bool) (n p : ℕ) → Sound H n p → EntriesIn E n
+    → {S U : List Float} {m : ℕ} → m ≡ n → S ≡ entrySmoothness E m → U ≡ createFilled H P N A R S T old n p → U ≡ createTangents H P N A R E T old n p
+made H P N A R E T old n p s i q e u = u ∙ ap (λ (Z : List Float). createFilled H P N A R Z T old n p) (e ∙ ap (entrySmoothness E) q) ∙ filled-same H P N A R E T old n p s i

@@ -9,6 +9,7 @@ use Rattle.mesh.specs.Questions.{hasLength}
 use Rattle.mesh.specs.Check.{checkMesh, checkRefs, checkEntries, whenAccepted}
 use Rattle.mesh.specs.declared.Checked.{Checked}
 use Rattle.makings.specs.Lengths.{meshListsFit}
+use Rattle.entries.specs.declared.Smoothness.{Smoothness}
 use Rattle.create_core.specs.Core.{createTangents}
 
 -- ---- the questions
@@ -36,6 +37,6 @@ checkLists H P N A R I Q T X F S D C L n p =
 
 -- ---- the call
 
--- the tangents after a call with this answer
-abbrev pub tangentsAfter : Checked → List ℤ → List Float → List Float → List Float → List ℤ → List ℕ → List Float → List Float → Bool → ℕ → ℕ → List Float
-tangentsAfter answer H P N A R I Q T old n p = whenAccepted answer (createTangents H P N A R I Q T old n p) T
+-- the tangents after a call with this answer and the sharp entries E
+abbrev pub tangentsAfter : Checked → List ℤ → List Float → List Float → List Float → List ℤ → List Smoothness → List Float → Bool → ℕ → ℕ → List Float
+tangentsAfter answer H P N A R E T old n p = whenAccepted answer (createTangents H P N A R E T old n p) T

@@ -1,9 +1,10 @@
 // `create_tangents` of src/smoothing_tangents.rs (document 01's making from sharp edges) as a public call: its
-// questions, and then `create_core`.
+// questions, the smoothness that the entries give, and then `create_core`.
 ghost use mathlib.Core.Path.{_≡_};
 ghost use lib.ListN.{length, replicate};
 ghost use Rattle.float.specs.Ops.{zero};
-ghost use Rattle.mesh.specs.Check.{whenAccepted};
+ghost use Rattle.mesh.specs.Check.{whenAccepted, Values};
+ghost use Rattle.entries.specs.Entries.{entriesOf};
 ghost use Rattle.create.specs.Create.{listsFit, scratchFits, checkCreate, checkLists, tangentsAfter};
 use mesh::Checked;
 
@@ -118,13 +119,14 @@ pub fn create_tangents(
     link: &mut [usize],
 ) -> Checked
     ensures answer { λ r. ⌜ r ≡ checkLists (now (h .entry)) (now (pos .entry)) (now (normals .entry)) (now («face_normals» .entry)) (now (refs .entry)) (now (entries .entry)) (now (values .entry)) (now (t .entry)) (now (fixed .entry)) (now (flat .entry)) (now (smooth .entry)) (now (desired .entry)) (now (at .entry)) (now (link .entry)) n p ⌝ }
-    ensures tangents { λ r. ⌜ now (t .exit) ≡ tangentsAfter r (now (h .entry)) (now (pos .entry)) (now (normals .entry)) (now («face_normals» .entry)) (now (refs .entry)) (now (entries .entry)) (now (values .entry)) (now (t .entry)) old n p ⌝ }
+    ensures tangents { λ r. ⌜ now (t .exit) ≡ tangentsAfter r (now (h .entry)) (now (pos .entry)) (now (normals .entry)) (now («face_normals» .entry)) (now (refs .entry)) (entriesOf (now (entries .entry)) (now (values .entry))) (now (t .entry)) old n p ⌝ }
     ensures fixed { λ r. ⌜ now (fixed .exit) ≡ whenAccepted r (replicate n 0) (now (fixed .entry)) ⌝ }
     ensures flat { λ r. ⌜ now (flat .exit) ≡ whenAccepted r (replicate n 0) (now (flat .entry)) ⌝ }
     ensures smooth { λ r. ⌜ now (smooth .exit) ≡ whenAccepted r (replicate n zero) (now (smooth .entry)) ⌝ }
     ensures desired { λ r. ⌜ now (desired .exit) ≡ whenAccepted r (replicate n zero) (now (desired .entry)) ⌝ }
     ensures at { λ r. ⌜ now (at .exit) ≡ whenAccepted r (replicate p 0) (now (at .entry)) ⌝ }
     ensures link { λ r. ⌜ now (link .exit) ≡ whenAccepted r (replicate n 0) (now (link .entry)) ⌝ }
+    ensures values { λ r. ⌜ Values (checkLists (now (h .entry)) (now (pos .entry)) (now (normals .entry)) (now («face_normals» .entry)) (now (refs .entry)) (now (entries .entry)) (now (values .entry)) (now (t .entry)) (now (fixed .entry)) (now (flat .entry)) (now (smooth .entry)) (now (desired .entry)) (now (at .entry)) (now (link .entry)) n p) r ⌝ }
 {
     let lists = lists_fit(
         n,
@@ -144,6 +146,7 @@ pub fn create_tangents(
     let Checked::Accepted = checked else {
         return checked;
     };
+    entries::entry_smoothness(entries, values, smooth);
     create_core::make_tangents(
         n,
         p,
@@ -152,8 +155,6 @@ pub fn create_tangents(
         normals,
         face_normals,
         refs,
-        entries,
-        values,
         old,
         t,
         fixed,

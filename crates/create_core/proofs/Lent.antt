@@ -8,10 +8,10 @@ use lib.IntN.{ℤ}
 use lib.Ieee.{Float}
 use Rattle.mesh.specs.Sound.{Sound}
 use Rattle.distribute_walks.specs.Walks.{Lists as SpreadLists}
-use Rattle.create_core.specs.Core.{Lists}
+use Rattle.create_core.specs.Filled.{Lists}
 
 -- with the tangents T′, the fixed flags X′ and the scratch list S′ that stand there then
-pub spread-in : {H : List ℤ} {P N A : List Float} {I : List ℕ} {Q T : List Float} {X F : List ℕ} {S D : List Float} {C L : List ℕ} {n p : ℕ} → Lists H P N A I Q T X F S D C L n p
+pub spread-in : {H : List ℤ} {P N A T : List Float} {X F : List ℕ} {S D : List Float} {C L : List ℕ} {n p : ℕ} → Lists H P N A T X F S D C L n p
     → {T′ : List Float} {X′ : List ℕ} {S′ : List Float} → length T′ ≡ length T → length X′ ≡ length X → length S′ ≡ length S
     → SpreadLists H P N X′ T′ S′ D n p
 spread-in {H} {n = n} w t x s = record {

@@ -1,3 +1,4 @@
--- The laws of `create_core`.
+-- The laws of `create_core`: those that the crates above cite are public.
 mod Core
 mod Lent
+pub mod Filled

@@ -1,2 +1,3 @@
--- The specs of `create_core`.
+-- The specs of `create_core`. `Filled` is for the contracts inside a call.
 pub mod Core
+pub mod Filled

@@ -5,7 +5,7 @@ ghost use Rattle.float.specs.Ops.{zero};
 ghost use Rattle.linearize.specs.Linearize.{linearizeFlatTangents};
 ghost use Rattle.distribute_walks.specs.Walks.{Lists as SpreadLists};
 ghost use Rattle.distribute.specs.Distribute.{spreadTangents};
-ghost use Rattle.create_core.specs.Core.{createTangents, Lists};
+ghost use Rattle.create_core.specs.Filled.{Lists, createFilled};
 
 // Straightening, then spreading by the point normals and the halfedges that are fixed, with `smooth` and `desired` as its
 // scratch lists.
@@ -42,7 +42,7 @@ fn clear_scratch(fixed: &mut [u8], flat: &mut [u8], at: &mut [usize], link: &mut
     faces::fill(link, 0);
 }
 
-// The tangents of an accepted call, and zeros in all scratch lists.
+// The tangents of an accepted call, where `smooth` holds the smoothness of the entries, and zeros in all scratch lists.
 pub fn make_tangents(
     n: usize,
     p: usize,
@@ -51,8 +51,6 @@ pub fn make_tangents(
     normals: &[f64],
     face_normals: &[f64],
     refs: &[i32],
-    entries: &[usize],
-    values: &[f64],
     old: bool,
     t: &mut [f64],
     fixed: &mut [u8],
@@ -62,8 +60,8 @@ pub fn make_tangents(
     at: &mut [usize],
     link: &mut [usize],
 )
-    requires { ⌜ Lists (now h) (now pos) (now normals) (now «face_normals») (now entries) (now values) (now t) (now fixed) (now flat) (now smooth) (now desired) (now at) (now link) n p ⌝ }
-    ensures tangents { λ _. ⌜ now (t .exit) ≡ createTangents (now (h .entry)) (now (pos .entry)) (now (normals .entry)) (now («face_normals» .entry)) (now (refs .entry)) (now (entries .entry)) (now (values .entry)) (now (t .entry)) old n p ⌝ }
+    requires { ⌜ Lists (now h) (now pos) (now normals) (now «face_normals») (now t) (now fixed) (now flat) (now smooth) (now desired) (now at) (now link) n p ⌝ }
+    ensures tangents { λ _. ⌜ now (t .exit) ≡ createFilled (now (h .entry)) (now (pos .entry)) (now (normals .entry)) (now («face_normals» .entry)) (now (refs .entry)) (now (smooth .entry)) (now (t .entry)) old n p ⌝ }
     ensures fixed { λ _. ⌜ now (fixed .exit) ≡ replicate n 0 ⌝ }
     ensures flat { λ _. ⌜ now (flat .exit) ≡ replicate n 0 ⌝ }
     ensures smooth { λ _. ⌜ now (smooth .exit) ≡ replicate n zero ⌝ }
@@ -78,8 +76,6 @@ pub fn make_tangents(
         pos,
         normals,
         face_normals,
-        entries,
-        values,
         old,
         t,
         fixed,

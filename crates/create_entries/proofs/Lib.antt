@@ -1,5 +1,2 @@
 -- The laws of `create_entries`.
 mod Answer
-mod Again
-mod Steps
-mod Frame

@@ -7,18 +7,16 @@ use lib.ListN.{length}
 use lib.IntN.{ℤ}
 use lib.Ieee.{Float}
 use Rattle.mesh.specs.Sound.{Sound}
-use Rattle.edges.specs.Smoothness.{EntriesIn}
-use Rattle.create_steps.specs.Shape.{CreateLists}
+use Rattle.create_steps.specs.Lent.{CreateLists}
 
-pub create-lists-in : {H : List ℤ} {n p : ℕ} → Sound H n p → {P N A : List Float} {I : List ℕ} {Q T : List Float} {X F : List ℕ} {S : List Float} {C L : List ℕ}
-    → length P ≡ p * 3 → length N ≡ p * 3 → length A ≡ n → EntriesIn I Q n → length T ≡ n * 4 → length X ≡ n → length F ≡ n → length S ≡ n → length C ≡ p → length L ≡ n
-    → CreateLists H P N A I Q T X F S C L n
-create-lists-in {H} {n} s l m a i t x f k c b = record {
+pub create-lists-in : {H : List ℤ} {n p : ℕ} → Sound H n p → {P N A T : List Float} {X F : List ℕ} {S : List Float} {C L : List ℕ}
+    → length P ≡ p * 3 → length N ≡ p * 3 → length A ≡ n → length T ≡ n * 4 → length X ≡ n → length F ≡ n → length S ≡ n → length C ≡ p → length L ≡ n
+    → CreateLists H P N A T X F S C L n
+create-lists-in {H} {n} s l m a t x f k c b = record {
   sound = subst (Sound H n) (sym c) s;
   positions = omega arith;
   normals = omega arith;
   face-normals = a;
-  entries = i;
   tangents = t;
   fixed = x;
   flat = f;

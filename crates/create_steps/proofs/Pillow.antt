@@ -14,12 +14,13 @@ use Rattle.smoothing.specs.Lists.{tangentAt, putTangent, weightAt}
 use Rattle.smoothing.specs.Edges.{isInsideQuad}
 use Rattle.cycles.specs.Walk.{cycleFrom}
 use Rattle.cycles.specs.Cycles.{nextAround}
-use Rattle.faces.specs.Faces.{isFaceNeighbor, faceNeighbors, markNeighbor, markFlat, flatFaces, vertHalfedge}
-use Rattle.edges.specs.Smoothness.{addEntry, addEntryAt, entrySmoothness, isFlatBoundary, addFlatBoundary, smoothness, isCrease}
-use Rattle.creases.specs.Creases.{addHalfedge, addCrease, creasesFrom, creasesAt, creaseOf}
+use Rattle.faces.specs.Faces.{isFaceNeighbor, faceNeighbors, markNeighbor, markFlat, flatFaces, isFlat, vertHalfedge}
+use Rattle.entries.specs.declared.Smoothness.{Smoothness}
+use Rattle.edges.specs.Edges.{sideOf, pushBoundary, pushBoundaries, sharpenedEdges, andModify, orInsert, modify, keyOf, insert, edgesOf}
+use Rattle.creases.specs.Creases.{pushAt, pushEdge, vertTangents, creaseOf}
 use Rattle.first.specs.First.{firstTangent, putFirstTangent, firstTangents}
 use Rattle.shapes.specs.Sharpen.{sharpened, sharpenTangent, meetingSmoothness, sharpenMeetingAt, sharpenMeeting}
-use Rattle.makings.specs.Makings.{tangentsOf}
+use Rattle.makings.specs.Makings.{Tangents, tangentsOf}
 use Rattle.shapes.specs.Shapes.{fixHalfedge, shapeCrease, shapeVert, shapeVerts}
 use Rattle.create_steps.specs.Shape.{shapedTangents}
 
@@ -38,18 +39,23 @@ abbrev marks : List Float
 marks = mark ++ mark ++ mark ++ mark ++ mark ++ mark
 
 unfoldable all : Unit {0}
-unfolding shapedTangents shapeVerts shapeVert shapeCrease fixHalfedge firstTangents putFirstTangent firstTangent foldTo putTangent weightAt isInsideQuad flatFaces markFlat markNeighbor faceNeighbors isFaceNeighbor sameFace eqZ numberAt indexOf field smoothness addFlatBoundary isFlatBoundary entrySmoothness addEntryAt addEntry minOf creaseOf creasesAt creasesFrom addCrease addHalfedge isCrease vertHalfedge lowest lowestFrom lt le eq ne neg ofBits
+unfolding shapedTangents shapeVerts shapeVert shapeCrease fixHalfedge firstTangents putFirstTangent firstTangent foldTo putTangent weightAt isInsideQuad flatFaces markFlat markNeighbor faceNeighbors isFaceNeighbor sameFace eqZ numberAt indexOf field sharpenedEdges pushBoundaries pushBoundary edgesOf insert modify orInsert andModify keyOf minOf vertTangents pushEdge pushAt creaseOf vertHalfedge lowest lowestFrom lt le eq ne neg ofBits
 all = tt
 
 -- ---- all old tangents are marks: they stay, and the creases decide which halfedges are fixed
 
+abbrev shaped : List Smoothness → Tangents
+shaped entries =
+    shapedTangents pillow refs (replicate 9 one) (replicate 9 one) (replicate 6 one) (isInsideQuad pillow refs marks true)
+    (vertTangents pillow (edgesOf pillow (sharpenedEdges pillow refs (isFlat (flatFaces pillow refs 6)) entries 6)) 6) 6 3
+
 -- no crease: each point's lowest halfedge
-without-creases : shapedTangents pillow refs (replicate 9 one) (replicate 9 one) (replicate 6 one) [] [] marks true 6 3 ≡ tangentsOf marks (1 ∷ 1 ∷ 1 ∷ 0 ∷ 0 ∷ 0 ∷ [])
+without-creases : shaped [] ≡ tangentsOf marks (1 ∷ 1 ∷ 1 ∷ 0 ∷ 0 ∷ 0 ∷ [])
 unfolding all
 without-creases = refl
 
 -- the edge 0-1 is a crease: its ends fix nothing
-with-crease : shapedTangents pillow refs (replicate 9 one) (replicate 9 one) (replicate 6 one) (0 ∷ []) (half ∷ []) marks true 6 3 ≡ tangentsOf marks (0 ∷ 0 ∷ 1 ∷ 0 ∷ 0 ∷ 0 ∷ [])
+with-crease : shaped (sideOf 0 half ∷ []) ≡ tangentsOf marks (0 ∷ 0 ∷ 1 ∷ 0 ∷ 0 ∷ 0 ∷ [])
 unfolding all
 with-crease = refl
 
@@ -67,11 +73,11 @@ unfoldable walk : Unit {0}
 unfolding sharpenMeeting sharpenMeetingAt meetingSmoothness sharpenTangent sharpened tangentAt putTangent weightAt cycleFrom nextAround nextHalfedge numberAt indexOf field eq neg mul ofBits
 walk = tt
 
-by-the-mean : sharpenMeeting pillow (0 ∷ 0 ∷ []) 6 (with-first ones) 1 half ≡ with-first (half ∷ half ∷ half ∷ one ∷ [])
+by-the-mean : sharpenMeeting pillow (isFlat (0 ∷ 0 ∷ [])) 6 (with-first ones) 1 half ≡ with-first (half ∷ half ∷ half ∷ one ∷ [])
 unfolding walk
 by-the-mean = refl
 
 -- triangle 1, across halfedge 1, is flat
-by-zero : sharpenMeeting pillow (0 ∷ 1 ∷ []) 6 (with-first ones) 1 half ≡ with-first (zero ∷ zero ∷ zero ∷ zero ∷ [])
+by-zero : sharpenMeeting pillow (isFlat (0 ∷ 1 ∷ [])) 6 (with-first ones) 1 half ≡ with-first (zero ∷ zero ∷ zero ∷ zero ∷ [])
 unfolding walk
 by-zero = refl

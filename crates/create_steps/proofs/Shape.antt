@@ -6,15 +6,18 @@ use mathlib.Core.Bool.{Bool}
 use lib.ListN.{replicate}
 use lib.IntN.{ℤ}
 use lib.Ieee.{Float}
-use Rattle.faces.specs.Faces.{flatFaces}
+use Rattle.faces.specs.Faces.{flatFaces, isFlat}
 use Rattle.edges.specs.Smoothness.{smoothness}
+use Rattle.creases.specs.Linked.{pairsAt}
 use Rattle.first.specs.First.{firstTangents}
 use Rattle.makings.specs.Makings.{tangentsOf}
 use Rattle.shapes.specs.Shapes.{shapeVerts}
 use Rattle.create_steps.specs.Shape.{shapedTangents}
+use Rattle.create_steps.specs.Lent.{pairsOf}
 
-pub shaped-is : (H R : List ℤ) (P N A : List Float) (I : List ℕ) (Q O : List Float) (old : Bool) (n p : ℕ) (F : List ℕ) (S T : List Float) (X : List ℕ) (m k : ℕ)
-    → F ≡ flatFaces H R n → S ≡ smoothness H R F I Q n → T ≡ firstTangents H R P N A O old n → X ≡ replicate m 0 → m ≡ n → k ≡ p
-    → shapeVerts H P F S n k (tangentsOf T X) ≡ shapedTangents H R P N A I Q O old n p
+-- the flags `flat`, S, T and X as the calls leave them, where S₀ held the smoothness of the caller's entries
+pub shaped-is : (H R : List ℤ) (P N A : List Float) (inside : ℕ → Bool) (S₀ : List Float) (n p : ℕ) (flat : ℕ → Bool) (S T : List Float) (X : List ℕ) (m k : ℕ)
+    → flat ≡ isFlat (flatFaces H R n) → S ≡ smoothness H R flat S₀ n → T ≡ firstTangents H R P N A inside n → X ≡ replicate m 0 → m ≡ n → k ≡ p
+    → shapeVerts H P flat n (pairsAt H S n) k (tangentsOf T X) ≡ shapedTangents H R P N A inside (pairsOf H R S₀ n) n p
 unfolding shapedTangents
-shaped-is H R P N A I Q O old n p F S T X m k f s t x q r = cc
+shaped-is H R P N A inside S₀ n p flat S T X m k f s t x q r = rw (s, t, x, q, r) (rw f)

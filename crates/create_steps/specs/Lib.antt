@@ -1,2 +1,3 @@
--- The specs of `create_steps`, in the order of reading.
+-- The specs of `create_steps`. `Lent` is for the contracts inside a call.
 pub mod Shape
+pub mod Lent

@@ -2,10 +2,12 @@
 ghost use mathlib.Core.Path.{_≡_};
 ghost use lib.ListN.{length};
 ghost use Rattle.makings.specs.Makings.{tangentsOf};
-ghost use Rattle.create_steps.specs.Shape.{CreateLists, shapedTangents};
+ghost use Rattle.smoothing.specs.Edges.{isInsideQuad};
+ghost use Rattle.create_steps.specs.Shape.{shapedTangents};
+ghost use Rattle.create_steps.specs.Lent.{CreateLists, pairsOf};
 
-// The tangents and the fixed flags, whatever the flags and the scratch lists held: `flat`, `smooth` and `link` with a place for
-// each halfedge, `at` with one for each point.
+// The tangents and the fixed flags, where `smooth` holds the smoothness of the caller's entries, and whatever the flags and the
+// other scratch lists held: `flat`, `smooth` and `link` with a place for each halfedge, `at` with one for each point.
 pub fn shape_tangents(
     n: usize,
     h: &[i32],
@@ -13,8 +15,6 @@ pub fn shape_tangents(
     pos: &[f64],
     normals: &[f64],
     face_normals: &[f64],
-    entries: &[usize],
-    values: &[f64],
     old: bool,
     t: &mut [f64],
     fixed: &mut [u8],
@@ -23,11 +23,11 @@ pub fn shape_tangents(
     at: &mut [usize],
     link: &mut [usize],
 )
-    requires { ⌜ CreateLists (now h) (now pos) (now normals) (now «face_normals») (now entries) (now values) (now t) (now fixed) (now flat) (now smooth) (now at) (now link) n ⌝ }
-    ensures { λ _. ⌜ tangentsOf (now (t .exit)) (now (fixed .exit)) ≡ shapedTangents (now (h .entry)) (now (refs .entry)) (now (pos .entry)) (now (normals .entry)) (now («face_normals» .entry)) (now (entries .entry)) (now (values .entry)) (now (t .entry)) old n (length (now (at .entry))) ⌝ }
+    requires { ⌜ CreateLists (now h) (now pos) (now normals) (now «face_normals») (now t) (now fixed) (now flat) (now smooth) (now at) (now link) n ⌝ }
+    ensures { λ _. ⌜ tangentsOf (now (t .exit)) (now (fixed .exit)) ≡ shapedTangents (now (h .entry)) (now (refs .entry)) (now (pos .entry)) (now (normals .entry)) (now («face_normals» .entry)) (isInsideQuad (now (h .entry)) (now (refs .entry)) (now (t .entry)) old) (pairsOf (now (h .entry)) (now (refs .entry)) (now (smooth .entry)) n) n (length (now (at .entry))) ⌝ }
 {
     first::first_tangents(n, h, refs, pos, normals, face_normals, old, t, flat, at);
-    creases::find_creases(n, h, refs, flat, entries, values, smooth, at, link);
+    creases::find_creases(n, h, refs, flat, smooth, at, link);
     faces::fill_bytes(fixed, 0);
     shapes::shape_verts(n, h, pos, flat, smooth, at, link, t, fixed);
 }

@@ -1,58 +1,82 @@
--- The Rust's map `edges`, step by step, and the claim that the list `smoothness` and the test `isCrease` say the same: `same-map` of `proofs/Edges.antt`. No contract names the map.
-use Prim.Native.Nat.{ℕ, _<_, _≤_}
-use mathlib.Core.Path.{_≡_}
-use mathlib.Core.List.{List}
-use mathlib.Core.Bool.{Bool, true, false, cond}
-use lib.ListN.{length, getD}
+-- The Rust's `sharpened_edges` and its map `edges` in `create_tangents`. H are the halfedges, R the face references, `flat` says of a triangle whether it lies in a flat face, E are the caller's sharp entries, n is the count of halfedges.
+use Prim.Native.Nat.{ℕ, _+_, _*_, _/_}
+use mathlib.Core.List.{List, [], _∷_, _++_, foldl}
+use mathlib.Core.Bool.{Bool, true, false, cond, not, _||_}
 use lib.IntN.{ℤ}
 use lib.Dec.{eqb}
-use lib.Ieee.{Float, nan, le}
+use lib.Ieee.{Float, le}
 use Rattle.float.specs.Ops.{zero, one}
 use Rattle.float.specs.F64.{minOf}
-use Rattle.mesh.specs.Mesh.{pairedHalfedge, isForward}
+use Rattle.mesh.specs.Mesh.{pairedHalfedge, isForward, sameFace}
 use Rattle.mesh.specs.Fold.{foldTo}
-use Rattle.edges.specs.Smoothness.{smoothnessAt, isFlatBoundary, pairSmoothness, isCrease}
+use Rattle.entries.specs.declared.Smoothness.{Smoothness}
 
--- what the map has for a key f: nothing, or the smoothness of f and that of its pair
+-- a side of an edge: its halfedge, and its smoothness
+abbrev pub sideOf : ℕ → Float → Smoothness
+sideOf e s = record { halfedge = e; smoothness = s }
+
+-- `push`
+abbrev pub push : {A : Type 0} → List A → A → List A
+push l x = l ++ (x ∷ [])
+
+-- ---- `sharpened_edges`: the caller's entries, and behind them one of smoothness 0 for each halfedge at which a flat face ends
+
+-- the body of the inner loop, at edge j of triangle `tri`
+unfoldable pub pushBoundary : List ℤ → List ℤ → (ℕ → Bool) → ℕ → List Smoothness → ℕ → List Smoothness
+pushBoundary H R flat tri l j =
+    let tri2 = pairedHalfedge H (tri * 3 + j) / 3 in
+    cond (not (flat tri2) || not (sameFace R tri tri2)) (push l (sideOf (tri * 3 + j) zero)) l
+
+-- the body of the outer one
+unfoldable pub pushBoundaries : List ℤ → List ℤ → (ℕ → Bool) → List Smoothness → ℕ → List Smoothness
+pushBoundaries H R flat l tri = cond (flat tri) (foldTo (pushBoundary H R flat tri) l 3) l
+
+unfoldable pub sharpenedEdges : List ℤ → List ℤ → (ℕ → Bool) → List Smoothness → ℕ → List Smoothness
+sharpenedEdges H R flat E n = foldTo (pushBoundaries H R flat) E (n / 3)
+
+-- ---- `edges`: for the forward halfedge of an edge the smoothness of its two sides
+
+-- `Pair`: the side of a halfedge, and the other one
+pub record Pair : Type 0 where
+  pub own : Smoothness
+  pub other : Smoothness
+
+abbrev pub pairOf : Smoothness → Smoothness → Pair
+pairOf a b = record { own = a; other = b }
+
+-- what the map has for a key
 pub data Entry : Type 0 where
   absent : Entry
-  sides : Float → Float → Entry
+  present : Pair → Entry
 
--- `or_insert_with` for an absent one, else `and_modify`: smoothness s for the key's own side, or for the other
-unfoldable pub modify : Bool → Float → Entry → Entry
-modify true s absent = sides s one
-modify false s absent = sides one s
-modify true s (sides x y) = sides (minOf x s) y
-modify false s (sides x y) = sides x (minOf y s)
+-- `e.smoothness = e.smoothness.min(edge.smoothness)`
+abbrev pub atMost : Smoothness → Float → Smoothness
+atMost x s = sideOf (x .halfedge) (minOf (x .smoothness) s)
+
+-- `and_modify`, for an entry of smoothness s on the side of the key or on the other
+unfoldable pub andModify : Bool → Float → Pair → Pair
+andModify true s q = pairOf (atMost (q .own) s) (q .other)
+andModify false s q = pairOf (q .own) (atMost (q .other) s)
+
+-- `or_insert_with`: the side that the entry x does not name, that of `pair`, has 1
+unfoldable pub orInsert : Bool → Smoothness → ℕ → Pair
+orInsert true x pair = pairOf x (sideOf pair one)
+orInsert false x pair = pairOf (sideOf pair one) x
+
+unfoldable pub modify : Bool → Smoothness → ℕ → Entry → Entry
+modify forward x pair absent = present (orInsert forward x pair)
+modify forward x pair (present q) = present (andModify forward (x .smoothness) q)
 
 -- `idx`: the forward one of e and its pair
 unfoldable pub keyOf : List ℤ → ℕ → ℕ
 keyOf H e = cond (isForward H e) e (pairedHalfedge H e)
 
--- the map after an entry for halfedge e: at 1 or above it is ignored
-unfoldable pub insert : List ℤ → (ℕ → Entry) → ℕ → Float → ℕ → Entry
-insert H M e s f = cond (le one s) (M f) (cond (eqb f (keyOf H e)) (modify (isForward H e) s (M f)) (M f))
+-- the body of the loop, at the entry x: the map M after it. At 1 or above it is passed over.
+unfoldable pub insert : List ℤ → (ℕ → Entry) → Smoothness → ℕ → Entry
+insert H M x f =
+    let e = x .halfedge in
+    cond (le one (x .smoothness)) (M f) (cond (eqb f (keyOf H e)) (modify (isForward H e) x (pairedHalfedge H e) (M f)) (M f))
 
--- the caller's entry k
-unfoldable pub insertAt : List ℤ → List ℕ → List Float → (ℕ → Entry) → ℕ → ℕ → Entry
-insertAt H I Q M k = insert H M (getD I k 0) (getD Q k nan)
-
--- the entry of a flat face for halfedge e
-unfoldable pub insertFlat : List ℤ → List ℤ → List ℕ → (ℕ → Entry) → ℕ → ℕ → Entry
-insertFlat H R F M e f = cond (isFlatBoundary H R F e) (insert H M e zero f) (M f)
-
--- `edges`, from the empty map
-unfoldable pub edgesOf : List ℤ → List ℤ → List ℕ → List ℕ → List Float → ℕ → ℕ → Entry
-edgesOf H R F I Q n = foldTo (insertFlat H R F) (foldTo (insertAt H I Q) (λ f. absent) (length I)) n
-
--- ---- the claim
-
--- what the map has for a key, whether the key is a crease, and the smoothness of its two sides
-abbrev pub SameEntry : Entry → Bool → Float → Float → Type 0
-SameEntry absent crease x y = crease ≡ false
-SameEntry (sides a b) crease x y = (crease ≡ true) × (a ≡ x) × (b ≡ y)
-
--- the keys of the map M are the creases of the list S, each with the smoothness of its sides
-pub record SameMap (H : List ℤ) (M : ℕ → Entry) (S : List Float) (n : ℕ) : Type 0 where
-  pub same : (f : ℕ) → f < n → SameEntry (M f) (isCrease H S f) (smoothnessAt S f) (pairSmoothness H S f)
-  pub nothing-beyond : (f : ℕ) → n ≤ f → M f ≡ absent
+-- all entries of a list, from the empty map
+unfoldable pub edgesOf : List ℤ → List Smoothness → ℕ → Entry
+edgesOf H l = foldl (insert H) (λ f. absent) l

@@ -1,3 +1,3 @@
 -- The specs of `edges`, in the order of reading.
-pub mod Smoothness
 pub mod Edges
+pub mod Smoothness

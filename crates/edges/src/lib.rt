@@ -2,62 +2,16 @@
 // The Rust's map `edges` is a scratch list here, with a place for each halfedge.
 ghost use mathlib.Core.Path.{_≡_};
 ghost use Prim.Native.Nat.{_<_};
-ghost use lib.ListN.{length, replicate};
-ghost use Rattle.float.specs.Ops.{one};
+ghost use lib.ListN.{length};
 ghost use Rattle.mesh.specs.Mesh.{pairedHalfedge};
-ghost use Rattle.mesh.specs.Fold.{foldTo};
-ghost use Rattle.faces.specs.Faces.{FlatIn};
-ghost use Rattle.edges.specs.Smoothness.{EntriesIn, SmoothnessIn, addEntry, addEntryAt, isFlatBoundary, addFlatBoundary, smoothness, pairSmoothness, isCrease};
-
-// Each halfedge has smoothness 1 to begin with.
-fn fill_ones(smooth: &mut [f64])
-    ensures { λ _. ⌜ now (smooth .exit) ≡ replicate (length (now (smooth .entry))) one ⌝ }
-{
-    let mut e = 0;
-    while e < smooth.len() {
-        smooth[e] = 1.0;
-        e += 1;
-    }
-}
-
-// An entry of smoothness s for halfedge e.
-fn add_entry(smooth: &mut [f64], e: usize, s: f64)
-    requires { ⌜ e < length (now smooth) ⌝ }
-    ensures { λ _. ⌜ now (smooth .exit) ≡ addEntry (now (smooth .entry)) e s ⌝ }
-{
-    if s >= 1.0 {
-        return;
-    }
-    let old = smooth[e];
-    smooth[e] = float::min(old, s);
-}
-
-// Entry k of the caller's.
-fn add_entry_at(entries: &[usize], values: &[f64], smooth: &mut [f64], k: usize)
-    requires { ⌜ (k < length (now entries)) × EntriesIn (now entries) (now values) (length (now smooth)) ⌝ }
-    ensures { λ _. ⌜ now (smooth .exit) ≡ addEntryAt (now (entries .entry)) (now (values .entry)) (now (smooth .entry)) k ⌝ }
-{
-    let e = entries[k];
-    let s = values[k];
-    add_entry(smooth, e, s);
-}
-
-// The caller's entries.
-fn add_entries(entries: &[usize], values: &[f64], smooth: &mut [f64])
-    requires { ⌜ EntriesIn (now entries) (now values) (length (now smooth)) ⌝ }
-    ensures { λ _. ⌜ now (smooth .exit) ≡ foldTo (addEntryAt (now (entries .entry)) (now (values .entry))) (now (smooth .entry)) (length (now (entries .entry))) ⌝ }
-{
-    let mut k = 0;
-    while k < entries.len() {
-        add_entry_at(entries, values, smooth, k);
-        k += 1;
-    }
-}
+ghost use Rattle.faces.specs.Faces.{isFlat};
+ghost use Rattle.faces.specs.Lent.{FlatIn};
+ghost use Rattle.edges.specs.Smoothness.{isFlatBoundary, addFlatBoundary, smoothness, pairSmoothness, isCrease};
 
 // Does halfedge e lie in a flat face, and across it another face?
 fn is_flat_boundary(h: &[i32], refs: &[i32], flat: &[u8], e: usize) -> bool
     requires { ⌜ (e < length (now flat)) × FlatIn (now h) (length (now flat)) ⌝ }
-    ensures { λ r. ⌜ r ≡ isFlatBoundary (now (h .entry)) (now (refs .entry)) (now (flat .entry)) e ⌝ }
+    ensures { λ r. ⌜ r ≡ isFlatBoundary (now (h .entry)) (now (refs .entry)) (isFlat (now (flat .entry))) e ⌝ }
 {
     let t = e / 3;
     if flat[t] != 1 {
@@ -73,42 +27,24 @@ fn is_flat_boundary(h: &[i32], refs: &[i32], flat: &[u8], e: usize) -> bool
 // The entry of a flat face for halfedge e, if it ends there.
 fn add_flat_boundary(h: &[i32], refs: &[i32], flat: &[u8], smooth: &mut [f64], e: usize)
     requires { ⌜ (e < length (now flat)) × FlatIn (now h) (length (now flat)) × (length (now smooth) ≡ length (now flat)) ⌝ }
-    ensures { λ _. ⌜ now (smooth .exit) ≡ addFlatBoundary (now (h .entry)) (now (refs .entry)) (now (flat .entry)) (now (smooth .entry)) e ⌝ }
+    ensures { λ _. ⌜ now (smooth .exit) ≡ addFlatBoundary (now (h .entry)) (now (refs .entry)) (isFlat (now (flat .entry))) (now (smooth .entry)) e ⌝ }
 {
     if !is_flat_boundary(h, refs, flat, e) {
         return;
     }
-    add_entry(smooth, e, 0.0);
+    entries::add_entry(smooth, e, 0.0);
 }
 
-// The entries of the flat faces, after the caller's: 0 for each halfedge where one ends.
-fn add_flat_boundaries(h: &[i32], refs: &[i32], flat: &[u8], smooth: &mut [f64])
+// The entries of the flat faces, after the caller's, which `smooth` holds: 0 for each halfedge where one ends.
+pub fn add_flat_boundaries(h: &[i32], refs: &[i32], flat: &[u8], smooth: &mut [f64])
     requires { ⌜ FlatIn (now h) (length (now flat)) × (length (now smooth) ≡ length (now flat)) ⌝ }
-    ensures { λ _. ⌜ now (smooth .exit) ≡ foldTo (addFlatBoundary (now (h .entry)) (now (refs .entry)) (now (flat .entry))) (now (smooth .entry)) (length (now (flat .entry))) ⌝ }
+    ensures { λ _. ⌜ now (smooth .exit) ≡ smoothness (now (h .entry)) (now (refs .entry)) (isFlat (now (flat .entry))) (now (smooth .entry)) (length (now (flat .entry))) ⌝ }
 {
     let mut e = 0;
     while e < flat.len() {
         add_flat_boundary(h, refs, flat, smooth, e);
         e += 1;
     }
-}
-
-// The smoothness of each of the n halfedges, whatever the list held. Time is linear in the halfedges and the entries.
-pub fn smoothness(
-    n: usize,
-    h: &[i32],
-    refs: &[i32],
-    flat: &[u8],
-    entries: &[usize],
-    values: &[f64],
-    smooth: &mut [f64],
-)
-    requires { ⌜ SmoothnessIn (now h) (now flat) (now entries) (now values) (now smooth) n ⌝ }
-    ensures { λ _. ⌜ now (smooth .exit) ≡ smoothness (now (h .entry)) (now (refs .entry)) (now (flat .entry)) (now (entries .entry)) (now (values .entry)) n ⌝ }
-{
-    fill_ones(smooth);
-    add_entries(entries, values, smooth);
-    add_flat_boundaries(h, refs, flat, smooth);
 }
 
 // The smoothness of the other side of e's edge.

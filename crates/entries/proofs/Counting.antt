@@ -1,6 +1,6 @@
--- A loop of code that counts a local from 0 to n, by hand: what `scan` and `split` share.
+-- A loop of code that counts a local from 0 to n, by hand: what `scan` and `sharp_smoothness` share.
 --     counts           given a turn that goes on and the turn that ends, the loop runs from `At 0`; `At k` is the context after k turns
---     holds, fails     a test's outcome.        fits-16, fits-8, fits-next, fits-below     no sum or product of a turn wraps
+--     holds, fails     a test's outcome.        fits-16, fits-next, fits-below     no sum or product of a turn wraps
 -- Assumes `Given`.
 use mathlib.Core.Path.{_≡_, refl, sym, _∙_, subst}
 use Prim.Native.Nat.{ℕ, zero, suc, _+_, _*_, _<_, _^_}
@@ -41,9 +41,6 @@ fails n = is-false (ltb n n) (λ a. lt-irrefl n (ltb→lt n n a))
 
 pub fits-16 : (k n : ℕ) → k < n → n * 16 < 2 ^ 63 → k * 16 < 2 ^ 64
 fits-16 k n l g = omega arith
-
-pub fits-8 : (k n : ℕ) → k < n → n * 8 < 2 ^ 63 → k * 8 < 2 ^ 64
-fits-8 k n l g = omega arith
 
 pub fits-next : (k n : ℕ) → k < n → n < 2 ^ 64 → k + 1 < 2 ^ 64
 fits-next k n l g = omega arith

@@ -1,4 +1,4 @@
--- How many entries pass the questions 9 and 10, one entry at a time. Assumes nothing.
+-- How many entries pass the questions 9 and 10, one entry at a time, and the answers. Assumes nothing.
 use mathlib.Core.Path.{_≡_, refl, sym, ap, _∙_}
 use mathlib.Core.Bool.{Bool, true, false}
 use mathlib.Core.List.{List, [], _∷_, map}
@@ -9,11 +9,14 @@ use native.Mathlib.Omega.{arith}
 use borrow.Author.Tests.{eq-eqb, ne-eqb}
 use lib.Dec.{ltb}
 use lib.Ieee.{Float, nan}
-use lib.ListN.{length, getD}
+use lib.ListN.{length, getD, length-map}
 use Rattle.mesh.specs.Lowest.{lowest}
 use Rattle.mesh.specs.Questions.{signClear, namesHalfedge, hasClearSign}
+use Rattle.mesh.specs.Check.{checkEntries}
+use Rattle.mesh.specs.declared.Checked.{Checked}
 use Rattle.mesh.proofs.Lowest.{lowest-within, lowest-found, lowest-before, lowest-all, lowest-is}
-use Rattle.entries.specs.Entries.{halfedgesOf, smoothnessOf, onward, passEntry, passedOf}
+use Rattle.entries.specs.Entries.{halfedgesOf, smoothnessOf}
+use Rattle.entries.specs.Questions.{onward, passEntry, passedOf, checkPassed}
 use Rattle.entries.specs.declared.Smoothness.{Smoothness}
 use Rattle.entries.specs.declared.Passed.{Passed}
 
@@ -63,3 +66,8 @@ module _ (d : Smoothness) (E : List Smoothness) (n : ℕ) where
   pub none-passed : passedOf E n 0 ≡ none
   unfolding lowest
   none-passed = refl
+
+-- the answers of the questions 9 and 10
+pub scanned : (E : List Smoothness) (n : ℕ) (sofar : Checked) → checkPassed sofar (passedOf E n (length E)) (length E) ≡ checkEntries sofar (halfedgesOf E) (smoothnessOf E) n
+unfolding checkPassed checkEntries
+scanned E n sofar = ap (λ (k : ℕ). checkPassed sofar (passedOf E n k) k) (sym (length-map E (λ e. e .halfedge)))

@@ -1,2 +1,4 @@
 -- The specs of `entries`.
 pub mod Entries
+pub mod EntrySmoothness
+pub mod Questions

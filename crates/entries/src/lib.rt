@@ -1,9 +1,15 @@
-// The sharp entries of `create_tangents` as the Rust lends them, a list of structs: the questions 9 and 10 of each, and the copy
-// into two flat lists. The functions that touch the list are proved by hand.
+// The sharp entries of `create_tangents`: the questions 9 and 10 of a list of them, as the Rust lends it, and the smoothness that
+// they give each halfedge, from such a list and from two flat ones. The functions that touch the list of structs are proved by
+// hand.
 ghost use mathlib.Core.Path.{_≡_};
-ghost use Prim.Native.Nat.{_+_, _<_, _≤_, _^_};
-ghost use lib.ListN.{length};
-ghost use Rattle.entries.specs.Entries.{halfedgesOf, smoothnessOf, copyFirst, onward, passEntry, passedOf};
+ghost use Prim.Native.Nat.{_+_, _<_, _^_};
+ghost use lib.ListN.{length, replicate};
+ghost use Rattle.float.specs.Ops.{one};
+ghost use Rattle.mesh.specs.Check.{refusedBelow, _then_};
+ghost use Rattle.entries.specs.Entries.{entriesOf};
+ghost use Rattle.entries.specs.Questions.{onward, passEntry, passedOf, checkPassed};
+ghost use Rattle.entries.specs.EntrySmoothness.{EntriesIn, addEntry, entrySmoothness};
+use mesh::Checked;
 
 // A sharp entry: a halfedge, and how smooth its edge is to be.
 #[repr(C)]
@@ -53,16 +59,77 @@ pub fn scan(sharp: &[Smoothness], n: usize) -> Passed
     passed
 }
 
-// The first `count` entries into two flat lists.
-pub fn split(count: usize, sharp: &[Smoothness], entries: &mut [usize], values: &mut [f64])
-    requires { ⌜ (count ≤ length (now sharp)) × ((count ≤ length (now entries)) × (count ≤ length (now values))) ⌝ }
-    ensures { λ _. ⌜ (now (entries .exit) ≡ copyFirst count (halfedgesOf (now (sharp .entry))) (now (entries .entry))) × (now (values .exit) ≡ copyFirst count (smoothnessOf (now (sharp .entry))) (now (values .entry))) ⌝ }
+// The answers so far, and then that of the question `number`, which place k is the lowest to break, or none of so many.
+fn refused_below(sofar: Checked, number: usize, k: usize, places: usize) -> Checked
+    ensures { λ r. ⌜ r ≡ (sofar then refusedBelow number k places) ⌝ }
 {
+    let Checked::Accepted = sofar else {
+        return sofar;
+    };
+    if k < places {
+        return Checked::Refused { number, place: k };
+    }
+    Checked::Accepted
+}
+
+// The answers so far, and then those of the questions 9 and 10, of so many entries that were scanned.
+pub fn check_passed(sofar: Checked, passed: Passed, count: usize) -> Checked
+    ensures { λ r. ⌜ r ≡ checkPassed sofar passed count ⌝ }
+{
+    refused_below(
+        refused_below(sofar, 9, passed.entry, count),
+        10,
+        passed.sign,
+        count,
+    )
+}
+
+// Each halfedge has smoothness 1 to begin with.
+fn fill_ones(smooth: &mut [f64])
+    ensures { λ _. ⌜ now (smooth .exit) ≡ replicate (length (now (smooth .entry))) one ⌝ }
+{
+    let mut e = 0;
+    while e < smooth.len() {
+        smooth[e] = 1.0;
+        e += 1;
+    }
+}
+
+// An entry of smoothness s for halfedge e.
+pub fn add_entry(smooth: &mut [f64], e: usize, s: f64)
+    requires { ⌜ e < length (now smooth) ⌝ }
+    ensures { λ _. ⌜ now (smooth .exit) ≡ addEntry (now (smooth .entry)) e s ⌝ }
+{
+    if s >= 1.0 {
+        return;
+    }
+    let old = smooth[e];
+    smooth[e] = float::min(old, s);
+}
+
+// The smoothness that the entries of two flat lists give each halfedge, whatever the list held.
+pub fn entry_smoothness(entries: &[usize], values: &[f64], smooth: &mut [f64])
+    requires { ⌜ (length (now values) ≡ length (now entries)) × EntriesIn (entriesOf (now entries) (now values)) (length (now smooth)) ⌝ }
+    ensures { λ _. ⌜ now (smooth .exit) ≡ entrySmoothness (entriesOf (now (entries .entry)) (now (values .entry))) (length (now (smooth .entry))) ⌝ }
+{
+    fill_ones(smooth);
+    let mut k = 0;
+    while k < entries.len() {
+        add_entry(smooth, entries[k], values[k]);
+        k += 1;
+    }
+}
+
+// The same of a list of entries.
+pub fn sharp_smoothness(sharp: &[Smoothness], smooth: &mut [f64])
+    requires { ⌜ EntriesIn (now sharp) (length (now smooth)) ⌝ }
+    ensures { λ _. ⌜ now (smooth .exit) ≡ entrySmoothness (now (sharp .entry)) (length (now (smooth .entry))) ⌝ }
+{
+    fill_ones(smooth);
     let mut k: usize = 0;
-    while k < count {
+    while k < sharp.len() {
         let e = sharp[k];
-        entries[k] = e.halfedge;
-        values[k] = e.smoothness;
+        add_entry(smooth, e.halfedge, e.smoothness);
         k += 1;
     }
 }

@@ -10,7 +10,8 @@ use lib.IntN.{ℤ}
 use lib.Dec.{eqb}
 use borrow.Author.Tests.{eq-eqb, ne-eqb, eqb-true, eqb-false}
 use Rattle.mesh.specs.Mesh.{sameFace}
-use Rattle.faces.specs.Faces.{faceOf, addFlatFace}
+use Rattle.faces.specs.Faces.{addFlatFace}
+use Rattle.faces.specs.Lent.{faceOf}
 use Rattle.faces.specs.declared.FlatFace.{FlatFace}
 use Rattle.faces.specs.declared.FlatFace.the-variants.{NoFace, OneFace, MoreFaces}
 

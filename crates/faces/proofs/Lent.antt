@@ -5,7 +5,7 @@ use mathlib.Core.Path.{_≡_, sym, subst}
 use mathlib.Core.List.{List}
 use lib.IntN.{ℤ}
 use Rattle.mesh.specs.Sound.{Sound}
-use Rattle.faces.specs.Faces.{FlatIn, VertsIn}
+use Rattle.faces.specs.Lent.{FlatIn, VertsIn}
 
 pub flat-in : (H : List ℤ) (n p : ℕ) → Sound H n p → FlatIn H n
 flat-in H n p s = record { triangles = s .triangles; paired-in = s .paired-below }

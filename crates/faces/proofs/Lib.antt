@@ -1,5 +1,6 @@
--- The laws of `faces`: Lent, Loops and Verts are for the crates above.
+-- The laws of `faces`: all but Codes are for the crates above.
 pub mod Lent
+pub mod Flat
 pub mod Verts
 mod Codes
 pub mod Loops

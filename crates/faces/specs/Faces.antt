@@ -1,6 +1,5 @@
--- Flat faces: `flat_faces` and `vert_flat_face` of src/smoothing.rs, and `vert_halfedge` of src/smoothing_tangents.rs. H are the halfedges, R the face references, F the result of `flat_faces`.
-use Prim.Native.Nat.{ℕ, zero, suc, _+_, _*_, _/_, _%_, _<_}
-use mathlib.Core.Path.{_≡_}
+-- Flat faces: `flat_faces` and `vert_flat_face` of src/smoothing.rs, and `vert_halfedge` of src/smoothing_tangents.rs. H are the halfedges, R the face references, `flat` says of a triangle whether it lies in a flat face.
+use Prim.Native.Nat.{ℕ, _+_, _*_, _/_}
 use mathlib.Core.List.{List}
 use mathlib.Core.Bool.{Bool, cond, not, _&&_}
 use lib.ListN.{getD, set, replicate}
@@ -11,17 +10,6 @@ use Rattle.mesh.specs.Lowest.{lowest}
 use Rattle.mesh.specs.Fold.{foldTo}
 use Rattle.faces.specs.declared.FlatFace.{FlatFace}
 use Rattle.faces.specs.declared.FlatFace.the-variants.{NoFace, OneFace, MoreFaces}
-
--- ---- what the lists must hold for a call: `flat-in` and `verts-in` of `proofs/Lent.antt` give it on an accepted mesh
-
--- a list of m places has one for each halfedge
-pub record FlatIn (H : List ℤ) (m : ℕ) : Type 0 where
-  pub triangles : m % 3 ≡ 0
-  pub paired-in : (e : ℕ) → e < m → pairedHalfedge H e < m
-
--- a list of p places has one for each point of the n halfedges
-pub record VertsIn (H : List ℤ) (n p : ℕ) : Type 0 where
-  pub start-in : (e : ℕ) → e < n → startVert H e < p
 
 -- ---- `flat_faces`: a 1 for each triangle with more than one neighbor of its own face, and for these neighbors
 
@@ -45,10 +33,11 @@ markNeighbor H R t F j = cond (isFaceNeighbor H R t j) (set F (neighborTri H t j
 unfoldable pub markFlat : List ℤ → List ℤ → List ℕ → ℕ → List ℕ
 markFlat H R F t = cond (ltb 1 (faceNeighbors H R t)) (foldTo (markNeighbor H R t) (set F t 1) 3) F
 
--- triangle t at place t. The list has a place for each halfedge; those past the triangles stay 0.
+-- `tri_is_flat_face`: a flag for each of the n / 3 triangles
 unfoldable pub flatFaces : List ℤ → List ℤ → ℕ → List ℕ
-flatFaces H R n = foldTo (markFlat H R) (replicate n 0) (n / 3)
+flatFaces H R n = foldTo (markFlat H R) (replicate (n / 3) 0) (n / 3)
 
+-- `tri_is_flat_face[t]`
 abbrev pub isFlat : List ℕ → ℕ → Bool
 isFlat F t = eqb (getD F t 0) 1
 
@@ -61,16 +50,11 @@ addFlatFace R (OneFace u) t = cond (sameFace R u t) (OneFace u) (MoreFaces t)
 addFlatFace R (MoreFaces u) t = cond (sameFace R u t) (MoreFaces u) (MoreFaces t)
 
 -- the body of the loop, at halfedge e
-unfoldable pub vertFaceAt : List ℤ → List ℤ → List ℕ → ℕ → FlatFace → ℕ → FlatFace
-vertFaceAt H R F v f e = cond (isFlat F (e / 3) && eqb (startVert H e) v) (addFlatFace R f (e / 3)) f
+unfoldable pub vertFaceAt : List ℤ → List ℤ → (ℕ → Bool) → ℕ → FlatFace → ℕ → FlatFace
+vertFaceAt H R flat v f e = cond (flat (e / 3) && eqb (startVert H e) v) (addFlatFace R f (e / 3)) f
 
-unfoldable pub vertFlatFace : List ℤ → List ℤ → List ℕ → ℕ → ℕ → FlatFace
-vertFlatFace H R F n v = foldTo (vertFaceAt H R F v) NoFace n
-
--- how a scratch list holds them: 0, t * 2 + 1, t * 2 + 2
-unfoldable pub faceOf : ℕ → FlatFace
-faceOf zero = NoFace
-faceOf (suc c) = cond (eqb (c % 2) 0) (OneFace (c / 2)) (MoreFaces (c / 2))
+unfoldable pub vertFlatFace : List ℤ → List ℤ → (ℕ → Bool) → ℕ → ℕ → FlatFace
+vertFlatFace H R flat n v = foldTo (vertFaceAt H R flat v) NoFace n
 
 -- ---- `vert_halfedge`: the lowest halfedge that starts at point v, and n where there is none
 

@@ -4,7 +4,8 @@ ghost use mathlib.Core.Path.{_≡_};
 ghost use mathlib.Core.Bool.{cond};
 ghost use Prim.Native.Nat.{ℕ, _+_, _*_, _≤_, _<_, _^_};
 ghost use lib.ListN.{length, getD, replicate};
-ghost use Rattle.faces.specs.Faces.{FlatIn, VertsIn, neighborTri, isFaceNeighbor, faceNeighbors, markNeighbor, markFlat, flatFaces, addFlatFace, vertFaceAt, vertFlatFace, faceOf, vertHalfedge};
+ghost use Rattle.faces.specs.Faces.{neighborTri, isFaceNeighbor, faceNeighbors, markNeighbor, markFlat, isFlat, addFlatFace, vertFaceAt, vertFlatFace, vertHalfedge};
+ghost use Rattle.faces.specs.Lent.{FlatIn, VertsIn, faceOf, flatFlags};
 
 // The flat faces at a point, the Rust's -1, triangle and -2: none; one, with its lowest triangle; or more, with the last
 // triangle that brought another face.
@@ -90,10 +91,10 @@ fn mark_flat(h: &[i32], refs: &[i32], flat: &mut [u8], t: usize)
     mark_neighbor(h, refs, flat, t, 2);
 }
 
-// A 1 for each triangle in a flat face. The list has a place for each halfedge; those past the triangles become 0.
+// A 1 for each triangle in a flat face. The list has a place for each halfedge; all but the first third become 0.
 pub fn flat_faces(h: &[i32], refs: &[i32], flat: &mut [u8])
     requires { ⌜ FlatIn (now h) (length (now flat)) ⌝ }
-    ensures { λ _. ⌜ now (flat .exit) ≡ flatFaces (now (h .entry)) (now (refs .entry)) (length (now (flat .entry))) ⌝ }
+    ensures { λ _. ⌜ now (flat .exit) ≡ flatFlags (now (h .entry)) (now (refs .entry)) (length (now (flat .entry))) ⌝ }
 {
     fill_bytes(flat, 0);
     let mut t = 0;
@@ -119,7 +120,7 @@ fn add_flat_face(refs: &[i32], code: usize, t: usize) -> usize
 
 fn vert_face_at(h: &[i32], refs: &[i32], flat: &[u8], at: &mut [usize], e: usize)
     requires { ⌜ (e < length (now flat)) × VertsIn (now h) (length (now flat)) (length (now at)) ⌝ }
-    ensures { λ _. ⌜ ((v : ℕ) → v < length (now (at .entry)) → faceOf (getD (now (at .exit)) v 0) ≡ vertFaceAt (now (h .entry)) (now (refs .entry)) (now (flat .entry)) v (faceOf (getD (now (at .entry)) v 0)) e) ⌝ }
+    ensures { λ _. ⌜ ((v : ℕ) → v < length (now (at .entry)) → faceOf (getD (now (at .exit)) v 0) ≡ vertFaceAt (now (h .entry)) (now (refs .entry)) (isFlat (now (flat .entry))) v (faceOf (getD (now (at .entry)) v 0)) e) ⌝ }
 {
     let t = e / 3;
     if flat[t] != 1 {
@@ -133,7 +134,7 @@ fn vert_face_at(h: &[i32], refs: &[i32], flat: &[u8], at: &mut [usize], e: usize
 // The flat faces at each point, from the result of `flat_faces`.
 pub fn vert_flat_face(h: &[i32], refs: &[i32], flat: &[u8], at: &mut [usize])
     requires { ⌜ VertsIn (now h) (length (now flat)) (length (now at)) ⌝ }
-    ensures { λ _. ⌜ ((v : ℕ) → v < length (now (at .entry)) → faceOf (getD (now (at .exit)) v 0) ≡ vertFlatFace (now (h .entry)) (now (refs .entry)) (now (flat .entry)) (length (now (flat .entry))) v) ⌝ }
+    ensures { λ _. ⌜ ((v : ℕ) → v < length (now (at .entry)) → faceOf (getD (now (at .exit)) v 0) ≡ vertFlatFace (now (h .entry)) (now (refs .entry)) (isFlat (now (flat .entry))) (length (now (flat .entry))) v) ⌝ }
 {
     fill(at, 0);
     let mut e = 0;

@@ -7,9 +7,9 @@ use lib.ListN.{length}
 use lib.IntN.{ℤ}
 use lib.Ieee.{Float}
 use Rattle.mesh.specs.Sound.{Sound}
-use Rattle.faces.specs.Faces.{FlatIn, VertsIn}
+use Rattle.faces.specs.Lent.{FlatIn, VertsIn}
 use Rattle.faces.proofs.Lent.{flat-in, verts-in}
-use Rattle.first.specs.First.{FirstLists, FirstIn}
+use Rattle.first.specs.Lent.{FirstLists, FirstIn}
 
 module _ {H : List ℤ} {n p : ℕ} (s : Sound H n p) where
   pub first-lists-in : {P N A : List Float} {C : List ℕ} {T : List Float} → length C ≡ p → length P ≡ p * 3 → length N ≡ p * 3 → length A ≡ n → length T ≡ n * 4 → FirstLists H P N A C T n

@@ -1,2 +1,3 @@
--- The specs of `first`.
+-- The specs of `first`, in the order of reading. `Lent` is for the contracts inside a call.
 pub mod First
+pub mod Lent

@@ -4,8 +4,10 @@ ghost use Prim.Native.Nat.{_+_, _*_, _≤_, _<_};
 ghost use lib.ListN.{length};
 ghost use Rattle.mesh.specs.Mesh.{startVert};
 ghost use Rattle.mesh.specs.Fold.{foldTo};
-ghost use Rattle.faces.specs.Faces.{flatFaces};
-ghost use Rattle.first.specs.First.{FaceIn, FirstLists, faceAt, FirstIn, vertNormal, firstTangent, putFirstTangent, firstTangents};
+ghost use Rattle.smoothing.specs.Edges.{isInsideQuad};
+ghost use Rattle.faces.specs.Lent.{flatFlags};
+ghost use Rattle.first.specs.First.{vertNormal, firstTangent, putFirstTangent, firstTangents};
+ghost use Rattle.first.specs.Lent.{FaceIn, FirstLists, faceAt, FirstIn};
 use faces::FlatFace;
 use linalg::Vec3;
 use linalg::Vec4;
@@ -36,7 +38,7 @@ fn first_tangent(
     e: usize,
 ) -> Vec4
     requires { ⌜ (e < n) × FirstIn (now h) (now pos) (now normals) (now «face_normals») (now at) (now t) n ⌝ }
-    ensures { λ r. ⌜ r ≡ firstTangent (now (h .entry)) (now (refs .entry)) (now (pos .entry)) (now (normals .entry)) (now («face_normals» .entry)) (now (t .entry)) old (faceAt (now (at .entry)) (startVert (now (h .entry)) e)) e ⌝ }
+    ensures { λ r. ⌜ r ≡ firstTangent (now (h .entry)) (now (pos .entry)) (now (normals .entry)) (now («face_normals» .entry)) (isInsideQuad (now (h .entry)) (now (refs .entry)) (now (t .entry)) old) (faceAt (now (at .entry)) (startVert (now (h .entry)) e)) e ⌝ }
 {
     if smoothing::is_inside_quad(h, refs, t, old, e) {
         return Vec4 {
@@ -66,7 +68,7 @@ fn put_first_tangent(
     e: usize,
 )
     requires { ⌜ (e < n) × FirstIn (now h) (now pos) (now normals) (now «face_normals») (now at) (now t) n ⌝ }
-    ensures { λ _. ⌜ now (t .exit) ≡ putFirstTangent (now (h .entry)) (now (refs .entry)) (now (pos .entry)) (now (normals .entry)) (now («face_normals» .entry)) (now (t .entry)) old (faceAt (now (at .entry))) (now (t .entry)) e ⌝ }
+    ensures { λ _. ⌜ now (t .exit) ≡ putFirstTangent (now (h .entry)) (now (pos .entry)) (now (normals .entry)) (now («face_normals» .entry)) (isInsideQuad (now (h .entry)) (now (refs .entry)) (now (t .entry)) old) (faceAt (now (at .entry))) (now (t .entry)) e ⌝ }
 {
     let tangent = first_tangent(n, h, refs, pos, normals, face_normals, at, old, t, e);
     smoothing::put_tangent(t, e, tangent);
@@ -85,7 +87,7 @@ fn put_first_tangents(
     t: &mut [f64],
 )
     requires { ⌜ FirstIn (now h) (now pos) (now normals) (now «face_normals») (now at) (now t) n ⌝ }
-    ensures { λ _. ⌜ now (t .exit) ≡ foldTo (putFirstTangent (now (h .entry)) (now (refs .entry)) (now (pos .entry)) (now (normals .entry)) (now («face_normals» .entry)) (now (t .entry)) old (faceAt (now (at .entry)))) (now (t .entry)) n ⌝ }
+    ensures { λ _. ⌜ now (t .exit) ≡ foldTo (putFirstTangent (now (h .entry)) (now (pos .entry)) (now (normals .entry)) (now («face_normals» .entry)) (isInsideQuad (now (h .entry)) (now (refs .entry)) (now (t .entry)) old) (faceAt (now (at .entry)))) (now (t .entry)) n ⌝ }
 {
     let mut e = 0;
     while e < n {
@@ -94,7 +96,8 @@ fn put_first_tangents(
     }
 }
 
-// Which triangles lie in flat faces, and the first tangents, whatever `flat` and `at` held.
+// Which triangles lie in flat faces, and the first tangents, whatever `flat` and `at` held. Each tangent is written whole, so `t` may
+// stand for the Rust's list of zeros.
 pub fn first_tangents(
     n: usize,
     h: &[i32],
@@ -108,7 +111,7 @@ pub fn first_tangents(
     at: &mut [usize],
 )
     requires { ⌜ FirstLists (now h) (now pos) (now normals) (now «face_normals») (now at) (now t) n × (length (now flat) ≡ n) ⌝ }
-    ensures { λ _. ⌜ (now (flat .exit) ≡ flatFaces (now (h .entry)) (now (refs .entry)) n) × (now (t .exit) ≡ firstTangents (now (h .entry)) (now (refs .entry)) (now (pos .entry)) (now (normals .entry)) (now («face_normals» .entry)) (now (t .entry)) old n) ⌝ }
+    ensures { λ _. ⌜ (now (flat .exit) ≡ flatFlags (now (h .entry)) (now (refs .entry)) n) × (now (t .exit) ≡ firstTangents (now (h .entry)) (now (refs .entry)) (now (pos .entry)) (now (normals .entry)) (now («face_normals» .entry)) (isInsideQuad (now (h .entry)) (now (refs .entry)) (now (t .entry)) old) n) ⌝ }
 {
     faces::flat_faces(h, refs, flat);
     faces::vert_flat_face(h, refs, flat, at);

@@ -9,7 +9,7 @@ use Rattle.mesh.specs.Sound.{Sound}
 use Rattle.mesh.specs.Check.{checkMesh}
 use Rattle.mesh.specs.declared.Checked.the-variants.{Accepted}
 use Rattle.mesh.proofs.Accepted.{accepted}
-use Rattle.faces.specs.Faces.{VertsIn}
+use Rattle.faces.specs.Lent.{VertsIn}
 use Rattle.faces.proofs.Lent.{verts-in, verts-still}
 use Rattle.replay_mesh_faces.specs.Points.{Points}
 

@@ -1,9 +1,7 @@
--- What a crease through a point, and a meeting of creases, do to the tangents of a vertex cycle. H are the halfedges, P the positions, F the result of `flat_faces`, T the tangents, n how many halfedges there are.
+-- What a crease through a point, and a meeting of creases, do to the tangents of a vertex cycle. H are the halfedges, `flat` says of a triangle whether it lies in a flat face, T the tangents, n how many halfedges there are.
 use Prim.Native.Nat.{ℕ, _/_}
-use mathlib.Core.Path.{_≡_}
 use mathlib.Core.List.{List, foldl}
-use mathlib.Core.Bool.{cond, _||_}
-use lib.ListN.{length}
+use mathlib.Core.Bool.{Bool, cond, _||_}
 use lib.IntN.{ℤ}
 use lib.Dec.{eqb}
 use lib.Ieee.{Float, eq}
@@ -14,16 +12,7 @@ use Rattle.linalg.specs.Vec.{sub3, normalizeOf}
 use Rattle.mesh.specs.Mesh.{pairedHalfedge}
 use Rattle.smoothing.specs.Directions.{vec3FromVec4}
 use Rattle.smoothing.specs.Lists.{tangentAt, putTangent, isMarkedInsideQuad}
-use Rattle.makings.specs.Makings.{TangentsIn}
 use Rattle.cycles.specs.Cycles.{vertexCycle}
-use Rattle.faces.specs.Faces.{isFlat}
-
--- ---- what the lists must be for a call: `making-in` of `proofs/Lent.antt` gives it from `VertIn`
-
--- a sound mesh, a tangent for each of its n halfedges, and a flag for each triangle, in a list with a place for each halfedge
-pub record MeetingIn (H : List ℤ) (F : List ℕ) (T : List Float) (n : ℕ) : Type 0 where
-  pub tangents : TangentsIn H T n
-  pub flat : length F ≡ n
 
 -- ---- `sharpen_tangent`
 
@@ -63,14 +52,14 @@ sharpenSides H n T first second between beyond =
 -- ---- a meeting
 
 -- `s`: 0 beside a flat face, else the mean smoothness
-unfoldable pub meetingSmoothness : List ℤ → List ℕ → Float → ℕ → Float
-meetingSmoothness H F mean current = cond (isFlat F (current / 3) || isFlat F (pairedHalfedge H current / 3)) zero mean
+unfoldable pub meetingSmoothness : List ℤ → (ℕ → Bool) → Float → ℕ → Float
+meetingSmoothness H flat mean current = cond (flat (current / 3) || flat (pairedHalfedge H current / 3)) zero mean
 
 -- the body of the loop, at halfedge `current`
-unfoldable pub sharpenMeetingAt : List ℤ → List ℕ → Float → List Float → ℕ → List Float
-sharpenMeetingAt H F mean T current =
-    cond (isMarkedInsideQuad T current) T (sharpenTangent T current (meetingSmoothness H F mean current))
+unfoldable pub sharpenMeetingAt : List ℤ → (ℕ → Bool) → Float → List Float → ℕ → List Float
+sharpenMeetingAt H flat mean T current =
+    cond (isMarkedInsideQuad T current) T (sharpenTangent T current (meetingSmoothness H flat mean current))
 
--- the loop, from the halfedge of the first crease
-unfoldable pub sharpenMeeting : List ℤ → List ℕ → ℕ → List Float → ℕ → Float → List Float
-sharpenMeeting H F n T first mean = foldl (sharpenMeetingAt H F mean) T (vertexCycle H n first)
+-- the loop, from the halfedge of the first pair
+unfoldable pub sharpenMeeting : List ℤ → (ℕ → Bool) → ℕ → List Float → ℕ → Float → List Float
+sharpenMeeting H flat n T first mean = foldl (sharpenMeetingAt H flat mean) T (vertexCycle H n first)

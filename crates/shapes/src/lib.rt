@@ -2,10 +2,13 @@
 ghost use mathlib.Core.Path.{_≡_};
 ghost use Prim.Native.Nat.{_+_, _*_, _≤_, _<_};
 ghost use lib.ListN.{length};
-ghost use Rattle.faces.specs.Faces.{FlatIn};
+ghost use Rattle.faces.specs.Faces.{isFlat};
+ghost use Rattle.faces.specs.Lent.{FlatIn};
+ghost use Rattle.creases.specs.Linked.{pairsAt};
 ghost use Rattle.makings.specs.Makings.{TangentsIn, MakingIn, tangentsOf};
-ghost use Rattle.shapes.specs.Sharpen.{MeetingIn, sharpened, sharpenTangent, newTangent, sidesOf, sharpenSide, sharpenSides, meetingSmoothness, sharpenMeetingAt, sharpenMeeting};
-ghost use Rattle.shapes.specs.Shapes.{CreaseIn, VertIn, fixHalfedge, shapeThrough, shapeCrease, shapeVert, shapeVerts};
+ghost use Rattle.shapes.specs.Sharpen.{sharpened, sharpenTangent, newTangent, sidesOf, sharpenSide, sharpenSides, meetingSmoothness, sharpenMeetingAt, sharpenMeeting};
+ghost use Rattle.shapes.specs.Shapes.{fixHalfedge, shapeThrough, shapeCrease, shapeVert, shapeVerts};
+ghost use Rattle.shapes.specs.Lent.{MeetingIn, CreaseIn, VertIn};
 use creases::Crease;
 use linalg::Vec3;
 use linalg::Vec4;
@@ -69,7 +72,7 @@ fn sharpen_side(
 // The smoothness of a halfedge at a meeting: 0 beside a flat face, else the mean.
 fn meeting_smoothness(h: &[i32], flat: &[u8], mean: f64, current: usize) -> f64
     requires { ⌜ (current < length (now flat)) × FlatIn (now h) (length (now flat)) ⌝ }
-    ensures { λ r. ⌜ r ≡ meetingSmoothness (now (h .entry)) (now (flat .entry)) mean current ⌝ }
+    ensures { λ r. ⌜ r ≡ meetingSmoothness (now (h .entry)) (isFlat (now (flat .entry))) mean current ⌝ }
 {
     let a = current / 3;
     let b = mesh::paired_halfedge(h, current) / 3;
@@ -82,7 +85,7 @@ fn meeting_smoothness(h: &[i32], flat: &[u8], mean: f64, current: usize) -> f64
 // One halfedge of a meeting.
 fn sharpen_meeting_at(h: &[i32], flat: &[u8], t: &mut [f64], mean: f64, current: usize)
     requires { ⌜ (current * 4 + 4 ≤ length (now t)) × (current < length (now flat)) × FlatIn (now h) (length (now flat)) ⌝ }
-    ensures { λ _. ⌜ now (t .exit) ≡ sharpenMeetingAt (now (h .entry)) (now (flat .entry)) mean (now (t .entry)) current ⌝ }
+    ensures { λ _. ⌜ now (t .exit) ≡ sharpenMeetingAt (now (h .entry)) (isFlat (now (flat .entry))) mean (now (t .entry)) current ⌝ }
 {
     if smoothing::is_marked_inside_quad(t, current) {
         return;
@@ -118,7 +121,7 @@ fn sharpen_sides(
 // The vertex cycle of a meeting, from the halfedge of its first crease on.
 fn sharpen_meeting(n: usize, h: &[i32], flat: &[u8], t: &mut [f64], first: usize, mean: f64)
     requires { ⌜ (first < n) × MeetingIn (now h) (now flat) (now t) n ⌝ }
-    ensures { λ _. ⌜ now (t .exit) ≡ sharpenMeeting (now (h .entry)) (now (flat .entry)) n (now (t .entry)) first mean ⌝ }
+    ensures { λ _. ⌜ now (t .exit) ≡ sharpenMeeting (now (h .entry)) (isFlat (now (flat .entry))) n (now (t .entry)) first mean ⌝ }
 {
     let mut current = first;
     loop {
@@ -175,7 +178,7 @@ fn shape_crease(
     crease: Crease,
 )
     requires { ⌜ CreaseIn n first crease × (length (now flat) ≡ n) × MakingIn (now h) (now pos) (now t) (now fixed) n ⌝ }
-    ensures { λ _. ⌜ tangentsOf (now (t .exit)) (now (fixed .exit)) ≡ shapeCrease (now (h .entry)) (now (pos .entry)) (now (flat .entry)) n first (tangentsOf (now (t .entry)) (now (fixed .entry))) crease ⌝ }
+    ensures { λ _. ⌜ tangentsOf (now (t .exit)) (now (fixed .exit)) ≡ shapeCrease (now (h .entry)) (now (pos .entry)) (isFlat (now (flat .entry))) n first first (tangentsOf (now (t .entry)) (now (fixed .entry))) crease ⌝ }
 {
     match crease {
         Crease::NoCrease => fix_halfedge(n, fixed, first),
@@ -204,7 +207,7 @@ fn shape_vert(
     v: usize,
 )
     requires { ⌜ (v < length (now at)) × VertIn (now h) (now pos) (now flat) (now smooth) (now at) (now link) (now t) (now fixed) n ⌝ }
-    ensures { λ _. ⌜ tangentsOf (now (t .exit)) (now (fixed .exit)) ≡ shapeVert (now (h .entry)) (now (pos .entry)) (now (flat .entry)) (now (smooth .entry)) n (tangentsOf (now (t .entry)) (now (fixed .entry))) v ⌝ }
+    ensures { λ _. ⌜ tangentsOf (now (t .exit)) (now (fixed .exit)) ≡ shapeVert (now (h .entry)) (now (pos .entry)) (isFlat (now (flat .entry))) n (pairsAt (now (h .entry)) (now (smooth .entry)) n) (tangentsOf (now (t .entry)) (now (fixed .entry))) v ⌝ }
 {
     let first = creases::first_crease(n, at, v);
     let crease = creases::crease_at(n, h, smooth, at, link, v);
@@ -224,7 +227,7 @@ pub fn shape_verts(
     fixed: &mut [u8],
 )
     requires { ⌜ VertIn (now h) (now pos) (now flat) (now smooth) (now at) (now link) (now t) (now fixed) n ⌝ }
-    ensures { λ _. ⌜ tangentsOf (now (t .exit)) (now (fixed .exit)) ≡ shapeVerts (now (h .entry)) (now (pos .entry)) (now (flat .entry)) (now (smooth .entry)) n (length (now (at .entry))) (tangentsOf (now (t .entry)) (now (fixed .entry))) ⌝ }
+    ensures { λ _. ⌜ tangentsOf (now (t .exit)) (now (fixed .exit)) ≡ shapeVerts (now (h .entry)) (now (pos .entry)) (isFlat (now (flat .entry))) n (pairsAt (now (h .entry)) (now (smooth .entry)) n) (length (now (at .entry))) (tangentsOf (now (t .entry)) (now (fixed .entry))) ⌝ }
 {
     let mut v = 0;
     while v < at.len() {

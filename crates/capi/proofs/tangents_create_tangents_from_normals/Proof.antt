@@ -6,7 +6,7 @@ returns : tie.Need-returns
 returns c =
     let a = c .before .before .before .before .before .before .before .before .before .before .before .before .before .before .before .before .create-tangents-from-normals .ensures in
     let p = c .before .before .put-checked .ensures in
-    (rw (a .0) at (a .1 .0), rw (a .0) at (a .1 .1 .0), rw (a .0) at (a .1 .1 .1 .0), rw (a .0) at (a .1 .1 .1 .1 .0), rw (a .0) at (a .1 .1 .1 .1 .1 .0), rw (a .0) at (a .1 .1 .1 .1 .1 .1), rw (p, a .0))
+    (rw (a .0) at (a .1 .0), rw (a .0) at (a .1 .1 .0), rw (a .0) at (a .1 .1 .1 .0), rw (a .0) at (a .1 .1 .1 .1 .0), rw (a .0) at (a .1 .1 .1 .1 .1 .0), rw (a .0) at (a .1 .1 .1 .1 .1 .1 .0), rw (p, a .0))
 
 pub tangents-create-tangents-from-normals-spec : {M : Type 1} → statement M
 tangents-create-tangents-from-normals-spec =

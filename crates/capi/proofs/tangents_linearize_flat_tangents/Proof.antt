@@ -6,7 +6,7 @@ returns : tie.Need-returns
 returns c =
     let a = c .before .before .before .before .before .before .linearize-flat-tangents .ensures in
     let p = c .before .before .put-checked .ensures in
-    (a .1, rw (p, a .0))
+    (a .1 .0, rw (p, a .0))
 
 pub tangents-linearize-flat-tangents-spec : {M : Type 1} → statement M
 tangents-linearize-flat-tangents-spec =

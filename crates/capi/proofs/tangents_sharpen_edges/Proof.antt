@@ -6,7 +6,7 @@ returns : tie.Need-returns
 returns c =
     let a = c .before .before .before .before .before .before .before .before .sharpen-edges .ensures in
     let p = c .before .before .put-listing .ensures in
-    (a .1 .1 .0, (a .1 .1 .1, rw (p, a .0)))
+    (a .1 .0, (a .1 .1 .0, rw (p, a .0)))
 
 pub tangents-sharpen-edges-spec : {M : Type 1} → statement M
 tangents-sharpen-edges-spec =

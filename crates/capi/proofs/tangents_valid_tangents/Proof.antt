@@ -6,7 +6,7 @@ returns : tie.Need-returns
 returns c =
     let a = c .before .before .before .before .valid-tangents .ensures in
     let p = c .before .before .put-validity .ensures in
-    rw (p, a)
+    rw (p, a .0)
 
 pub tangents-valid-tangents-spec : {M : Type 1} → statement M
 tangents-valid-tangents-spec =

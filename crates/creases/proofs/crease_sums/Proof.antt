@@ -1,11 +1,16 @@
 -- `creases::crease_sums` meets its contract. The invariant: the sums over what is left of the list, from those so far, are the sums over all. Assumes nothing.
-use mathlib.Core.Path.{refl}
+use mathlib.Core.Path.{sym}
 use native.Mathlib.Omega.{arith}
 use borrow.Author.Needs.{needs}
 use lib.ListN.{length}
 use Rattle.faces.specs.Faces.{vertHalfedge}
 use Rattle.faces.proofs.Verts.{vert-halfedge-within}
-use Rattle.creases.specs.Creases.{creasesAt, addSides, sumsOf}
+use mathlib.Core.List.{foldl-map}
+use Prim.Native.Nat.{ℕ}
+use Rattle.edges.specs.Smoothness.{pairAt}
+use Rattle.creases.specs.declared.Sums.{Sums}
+use Rattle.creases.specs.Creases.{addSides, sumsOf}
+use Rattle.creases.specs.Linked.{creasesAt, pairsAt}
 use Rattle.creases.proofs.Lent.{sides-in}
 use Rattle.creases.proofs.Creases.{creases-few, creases-below}
 use Rattle.creases.proofs.Linked.{leftOf, Walking, walk-start, walk-step, walk-less, walk-below, walk-end}
@@ -13,7 +18,7 @@ use Rattle.creases.proofs.crease_sums.Statement.{statement}
 use Rattle.creases.proofs.crease_sums.Tie as tie
 
 abbrev Inv-loop : tie.InvT-loop
-Inv-loop n h smooth at link v sums₀ code₀ sums code = Walking n link (vertHalfedge h n v) (addSides h smooth) (sumsOf h smooth (creasesAt h smooth n v)) code sums
+Inv-loop n h smooth at link v sums₀ code₀ sums code = Walking n link (vertHalfedge h n v) (λ s e. addSides s (pairAt h smooth e)) (sumsOf (pairsAt h smooth n v)) code sums
 
 abbrev μ-loop : tie.MeasureT-loop
 μ-loop n h smooth at link v sums₀ code₀ sums code = length (leftOf n link n code)
@@ -30,11 +35,11 @@ loop-holds c =
     let z = c .before .before .before .before in
     let s = z .pre .1 .lists .sound in
     let S = z .args .smooth .now in
-    walk-start (z .args .link .now) (vert-halfedge-within (z .args .h .now) (z .args .n) (z .args .v)) (addSides (z .args .h .now) S) _ _ _ (creasesAt (z .args .h .now) S (z .args .n) (z .args .v))
+    walk-start (z .args .link .now) (vert-halfedge-within (z .args .h .now) (z .args .n) (z .args .v)) (λ (s : Sums) (e : ℕ). addSides s (pairAt (z .args .h .now) S e)) _ _ _ (creasesAt (z .args .h .now) S (z .args .n) (z .args .v))
     (z .pre .1 .linked (z .args .v) (z .pre .0))
     (creases-few s S (z .args .v))
     (creases-below s S (z .args .v))
-    refl
+    (sym (foldl-map (pairAt (z .args .h .now) S) addSides (creasesAt (z .args .h .now) S (z .args .n) (z .args .v)) _))
 
 add-e : tie.Need-add-e Inv-loop μ-loop
 add-e c = omega (arith, c .before .before .before .before .before .before .pre .1 .lists .sound .few-halfedges)

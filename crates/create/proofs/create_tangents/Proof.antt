@@ -1,8 +1,12 @@
 -- `create::create_tangents` meets its contract. Assumes nothing.
-use mathlib.Core.Path.{_≡_, refl, sym, _∙_}
+use mathlib.Core.Path.{_≡_, refl, sym, subst, _∙_}
 use denote.Ref.{now}
+use Rattle.mesh.proofs.Values.{values-same}
+use Rattle.entries.specs.Entries.{entriesOf}
+use Rattle.entries.specs.EntrySmoothness.{EntriesIn}
+use Rattle.entries.proofs.Flat.{flat-entries-in}
 use Rattle.create.specs.Create.{checkLists}
-use Rattle.create.proofs.Accepted.{lists-of}
+use Rattle.create.proofs.Accepted.{AcceptedLists, accepted-lists, made}
 use Rattle.create.proofs.create_tangents.Statement.{statement}
 use Rattle.create.proofs.create_tangents.Tie as tie
 
@@ -10,24 +14,41 @@ answer : (c : tie.After-check-create) → let a = c .before .before .before .bef
 answer c =
     rw (← c .before .before .before .before .before .before .before .before .before .lists-fit .ensures, ← c .before .before .scratch-lists-fit .ensures, ← c .before .both .ensures) (c .check-create .ensures)
 
+-- what the answer gives where it is that the call is accepted
+given : (c : tie.After-enum-told) → let a = c .before .before .before .before .before .before .before .before .before .before .before .before .before .before .before .before .before .before .before .before .before .before .before .before .args in AcceptedLists (now (a .h)) (now (a .pos)) (now (a .normals)) (now (a .«face-normals»)) (now (a .entries)) (now (a .values)) (now (a .t)) (now (a .fixed)) (now (a .flat)) (now (a .smooth)) (now (a .desired)) (now (a .at)) (now (a .link)) (a .n) (a .p)
+given c =
+    let a = c .before .before .before .before .before .before .before .before .before .before .before .before .before .before .before .before .before .before .before .before .before .before .before .before .args in
+    accepted-lists (now (a .h)) (now (a .pos)) (now (a .normals)) (now (a .«face-normals»)) (now (a .refs)) (now (a .entries)) (now (a .values)) (now (a .t)) (now (a .fixed)) (now (a .flat)) (now (a .smooth)) (now (a .desired)) (now (a .at)) (now (a .link)) (a .n) (a .p) (sym (answer (c .before .before)) ∙ c .enum-told .given .1)
+
+-- the entries name halfedges, and are numbers with a clear sign bit
+inside : (c : tie.After-enum-told) → let a = c .before .before .before .before .before .before .before .before .before .before .before .before .before .before .before .before .before .before .before .before .before .before .before .before .args in EntriesIn (entriesOf (now (a .entries)) (now (a .values))) (a .n)
+inside c =
+    let a = c .before .before .before .before .before .before .before .before .before .before .before .before .before .before .before .before .before .before .before .before .before .before .before .before .args in
+    flat-entries-in (now (a .entries)) (now (a .values)) (a .n) (given c .values) (given c .named) (given c .clear)
+
 returns : tie.Need-returns
 returns c =
-    let k = c .before .before in
     let e = c .enum-told2 .given .1 in
-    (answer k, (rw e, (rw e, (rw e, (rw e, (rw e, (rw e, rw e)))))))
+    let k = answer (c .before .before) in
+    (k, (rw e, (rw e, (rw e, (rw e, (rw e, (rw e, (rw e, values-same k))))))))
+
+entry-smoothness-requires : tie.Need-entry-smoothness-requires
+entry-smoothness-requires c κs =
+    let a = c .before .before .before .before .before .before .before .before .before .before .before .before .before .before .before .before .before .before .before .before .before .before .before .before .before .args in
+    (given (c .before) .values, subst (EntriesIn (entriesOf (now (a .entries)) (now (a .values)))) (sym (given (c .before) .smooth)) (inside (c .before)))
 
 make-tangents-requires : tie.Need-make-tangents-requires
-make-tangents-requires c κs =
-    let a = c .before .before .before .before .before .before .before .before .before .before .before .before .before .before .before .before .before .before .before .before .before .before .before .before .before .before .before .before .before .before .before .args in
-    lists-of (now (a .h)) (now (a .pos)) (now (a .normals)) (now (a .«face-normals»)) (now (a .refs)) (now (a .entries)) (now (a .values)) (now (a .t)) (now (a .fixed)) (now (a .flat)) (now (a .smooth)) (now (a .desired)) (now (a .at)) (now (a .link)) (a .n) (a .p) (sym (answer (c .before .before .before .before .before .before .before .before .before)) ∙ c .before .before .before .before .before .before .before .enum-told .given .1)
+make-tangents-requires c κs = given (c .before .before .before .before .before .before .before .before .before .before .before) .lists (c .before .before .before .before .before .before .before .before .before .entry-smoothness .kept .1 .1 .0)
 
 returns-2 : tie.Need-returns-2
 returns-2 c =
-    let e = c .before .before .before .before .before .before .before .before .before .before .before .before .before .before .before .before .before .before .before .before .before .before .enum-told .given .1 in
-    let m = c .before .before .before .before .before .before .before .before .before .before .before .before .before .before .make-tangents .ensures in (
-      answer (c .before .before .before .before .before .before .before .before .before .before .before .before .before .before .before .before .before .before .before .before .before .before .before .before),
-      (rw e (m .0), (rw e (m .1 .0), (rw e (m .1 .1 .0), (rw e (m .1 .1 .1 .0), (rw e (m .1 .1 .1 .1 .0), (rw e (m .1 .1 .1 .1 .1 .0), rw e (m .1 .1 .1 .1 .1 .1))))))),
-    )
+    let a = c .before .before .before .before .before .before .before .before .before .before .before .before .before .before .before .before .before .before .before .before .before .before .before .before .before .before .before .before .before .before .before .before .before .before .before .before .before .before .before .before .before .before .before .before .before .before .before .before .before .before .args in
+    let w = c .before .before .before .before .before .before .before .before .before .before .before .before .before .before .before .before .before .before .before .before .before .before .before .before .before .before in
+    let e = w .enum-told .given .1 in
+    let k = answer (w .before .before) in
+    let m = c .before .before .before .before .before .before .before .before .before .before .before .before .before .before .make-tangents .ensures in
+    let t = made (now (a .h)) (now (a .pos)) (now (a .normals)) (now (a .«face-normals»)) (now (a .refs)) (entriesOf (now (a .entries)) (now (a .values))) (now (a .t)) (a .old) (a .n) (a .p) (given w .sound) (inside w) (given w .smooth) (c .before .before .before .before .before .before .before .before .before .before .before .before .before .before .before .before .before .before .before .before .before .before .before .before .entry-smoothness .ensures) (m .0) in
+    (k, (rw e t, (rw e (m .1 .0), (rw e (m .1 .1 .0), (rw e (m .1 .1 .1 .0), (rw e (m .1 .1 .1 .1 .0), (rw e (m .1 .1 .1 .1 .1 .0), (rw e (m .1 .1 .1 .1 .1 .1), values-same k))))))))
 
 pub create-tangents-spec : {M : Type 1} → statement M
 create-tangents-spec =
@@ -46,12 +67,13 @@ create-tangents-spec =
     (λ c. refl)
     (λ c. refl)
     returns
+    entry-smoothness-requires
     make-tangents-requires
+    (λ c. c .before .before .before .before .before .before .before .before .before .before .before .before .before .before .make-tangents .kept .1 .1 .1 .1 .1 .1 .1 .1 .0)
+    (λ c. c .before .before .before .before .before .before .before .before .before .before .before .before .before .before .make-tangents .kept .1 .1 .1 .1 .1 .1 .1 .1 .1 .0)
     (λ c. c .before .before .before .before .before .before .before .before .before .before .before .before .before .before .make-tangents .kept .1 .1 .1 .1 .1 .1 .1 .1 .1 .1 .0)
-    (λ c. c .before .before .before .before .before .before .before .before .before .before .before .before .before .before .make-tangents .kept .1 .1 .1 .1 .1 .1 .1 .1 .1 .1 .1 .0)
+    (λ c. c .before .before .before .before .before .before .before .before .before .before .before .before .before .before .make-tangents .kept .1 .1 .1 .1 .1 .1 .1 .1 .1 .1 .1 .0 ∙ c .before .before .before .before .before .before .before .before .before .before .before .before .before .before .before .before .before .before .before .before .before .before .before .before .entry-smoothness .kept .1 .1 .0)
     (λ c. c .before .before .before .before .before .before .before .before .before .before .before .before .before .before .make-tangents .kept .1 .1 .1 .1 .1 .1 .1 .1 .1 .1 .1 .1 .0)
     (λ c. c .before .before .before .before .before .before .before .before .before .before .before .before .before .before .make-tangents .kept .1 .1 .1 .1 .1 .1 .1 .1 .1 .1 .1 .1 .1 .0)
     (λ c. c .before .before .before .before .before .before .before .before .before .before .before .before .before .before .make-tangents .kept .1 .1 .1 .1 .1 .1 .1 .1 .1 .1 .1 .1 .1 .1 .0)
-    (λ c. c .before .before .before .before .before .before .before .before .before .before .before .before .before .before .make-tangents .kept .1 .1 .1 .1 .1 .1 .1 .1 .1 .1 .1 .1 .1 .1 .1 .0)
-    (λ c. c .before .before .before .before .before .before .before .before .before .before .before .before .before .before .make-tangents .kept .1 .1 .1 .1 .1 .1 .1 .1 .1 .1 .1 .1 .1 .1 .1 .1 .0)
     returns-2)

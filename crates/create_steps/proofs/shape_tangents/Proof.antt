@@ -2,8 +2,10 @@
 use Rattle.create_steps.proofs.Shape.{shaped-is}
 use Rattle.shapes.proofs.Lent.{vert-in}
 use Rattle.creases.proofs.Lent.{lists-in}
-use Rattle.edges.proofs.Lent.{smoothness-in}
-use mathlib.Core.Path.{_∙_}
+use Rattle.smoothing.specs.Edges.{isInsideQuad}
+use Rattle.faces.specs.Faces.{isFlat}
+use Rattle.faces.proofs.Flat.{flags-same}
+use mathlib.Core.Path.{ap, _∙_}
 use borrow.Author.Needs.{needs}
 use Rattle.create_steps.proofs.shape_tangents.Statement.{statement}
 use Rattle.create_steps.proofs.shape_tangents.Tie as tie
@@ -13,19 +15,19 @@ first-tangents-requires c κs = search needs
 
 find-creases-requires : tie.Need-find-creases-requires
 find-creases-requires c κs =
-    let w = c .before .before .before .before .before .before .before .before .before .before .before .before .before .before .before .before .before .before .before .before .before .before .before .before .before .pre in
+    let w = c .before .before .before .before .before .before .before .before .before .before .before .before .before .before .before .before .before .before .before .before .before .before .before .pre in
     let f = c .before .before .before .before .before .before .before .before .before .before .first-tangents in
-    (smoothness-in (w .sound) (f .kept .1 .1 .1 .1 .1 .1 .1 .1 .0 ∙ w .flat) (w .entries) (w .smooth), lists-in (w .sound) (f .kept .1 .1 .1 .1 .1 .1 .1 .1 .1 .0) (w .smooth) (w .links))
+    (f .kept .1 .1 .1 .1 .1 .1 .1 .1 .0 ∙ w .flat, lists-in (w .sound) (f .kept .1 .1 .1 .1 .1 .1 .1 .1 .1 .0) (w .smooth) (w .links))
 
 fill-bytes-requires : tie.Need-fill-bytes-requires
 fill-bytes-requires c κs = search needs
 
 shape-verts-requires : tie.Need-shape-verts-requires
 shape-verts-requires c κs =
-    let w = c .before .before .before .before .before .before .before .before .before .before .before .before .before .before .before .before .before .before .before .before .before .before .before .before .before .before .before .before .before .before .before .before .before .before .before .before .before .before .before .before .before .before .pre in
+    let w = c .before .before .before .before .before .before .before .before .before .before .before .before .before .before .before .before .before .before .before .before .before .before .before .before .before .before .before .before .before .before .before .before .before .before .before .before .before .before .before .before .pre in
     let f = c .before .before .before .before .before .before .before .before .before .before .before .before .before .before .before .before .before .before .before .before .before .before .before .before .before .before .before .first-tangents in
     let g = c .before .before .before .before .before .before .before .before .before .before .before .before .before .before .before .before .find-creases in
-    vert-in (w .sound) (w .positions) (f .kept .1 .1 .1 .1 .1 .1 .1 .1 .0 ∙ w .flat) (g .kept .1 .1 .1 .1 .1 .1 .0 ∙ w .smooth) (g .kept .1 .1 .1 .1 .1 .1 .1 .0 ∙ f .kept .1 .1 .1 .1 .1 .1 .1 .1 .1 .0) (g .kept .1 .1 .1 .1 .1 .1 .1 .1 .0 ∙ w .links) (f .kept .1 .1 .1 .1 .1 .1 .1 .0 ∙ w .tangents) (c .before .before .before .before .before .before .before .before .fill-bytes .kept .0 ∙ w .fixed) (g .ensures .1)
+    vert-in (w .sound) (w .positions) (f .kept .1 .1 .1 .1 .1 .1 .1 .1 .0 ∙ w .flat) (g .kept .1 .1 .1 .1 .0 ∙ w .smooth) (g .kept .1 .1 .1 .1 .1 .0 ∙ f .kept .1 .1 .1 .1 .1 .1 .1 .1 .1 .0) (g .kept .1 .1 .1 .1 .1 .1 .0 ∙ w .links) (f .kept .1 .1 .1 .1 .1 .1 .1 .0 ∙ w .tangents) (c .before .before .before .before .before .before .before .before .fill-bytes .kept .0 ∙ w .fixed) (g .ensures .1)
 
 same-length : tie.Need-same-length
 same-length c = c .before .before .before .before .shape-verts .kept .1 .1 .1 .1 .1 .1 .1 .0 ∙ c .before .before .before .before .before .before .before .before .before .before .before .before .before .before .before .before .before .before .before .before .before .before .before .before .before .before .before .before .before .before .before .before .first-tangents .kept .1 .1 .1 .1 .1 .1 .1 .0
@@ -37,22 +39,23 @@ same-length-3 : tie.Need-same-length-3
 same-length-3 c = c .before .before .before .before .before .before .before .before .before .before .before .before .before .before .before .before .before .before .before .before .before .before .before .before .before .before .before .before .before .before .before .before .first-tangents .kept .1 .1 .1 .1 .1 .1 .1 .1 .0
 
 same-length-4 : tie.Need-same-length-4
-same-length-4 c = c .before .before .before .before .before .before .before .before .before .before .before .before .before .before .before .before .before .before .before .before .before .find-creases .kept .1 .1 .1 .1 .1 .1 .0
+same-length-4 c = c .before .before .before .before .before .before .before .before .before .before .before .before .before .before .before .before .before .before .before .before .before .find-creases .kept .1 .1 .1 .1 .0
 
 same-length-5 : tie.Need-same-length-5
-same-length-5 c = c .before .before .before .before .before .before .before .before .before .before .before .before .before .before .before .before .before .before .before .before .before .find-creases .kept .1 .1 .1 .1 .1 .1 .1 .0 ∙ c .before .before .before .before .before .before .before .before .before .before .before .before .before .before .before .before .before .before .before .before .before .before .before .before .before .before .before .before .before .before .before .before .first-tangents .kept .1 .1 .1 .1 .1 .1 .1 .1 .1 .0
+same-length-5 c = c .before .before .before .before .before .before .before .before .before .before .before .before .before .before .before .before .before .before .before .before .before .find-creases .kept .1 .1 .1 .1 .1 .0 ∙ c .before .before .before .before .before .before .before .before .before .before .before .before .before .before .before .before .before .before .before .before .before .before .before .before .before .before .before .before .before .before .before .before .first-tangents .kept .1 .1 .1 .1 .1 .1 .1 .1 .1 .0
 
 same-length-6 : tie.Need-same-length-6
-same-length-6 c = c .before .before .before .before .before .before .before .before .before .before .before .before .before .before .before .before .before .before .before .before .before .find-creases .kept .1 .1 .1 .1 .1 .1 .1 .1 .0
+same-length-6 c = c .before .before .before .before .before .before .before .before .before .before .before .before .before .before .before .before .before .before .before .before .before .find-creases .kept .1 .1 .1 .1 .1 .1 .0
 
 returns : tie.Need-returns
 returns c =
-    let z = c .before .before .before .before .before .before .before .before .before .before .before .before .before .before .before .before .before .before .before .before .before .before .before .before .before .before .before .before .before .before .before .before .before .before .before .before .before .before .before .before .before .before .before .before .before .before .before in
+    let z = c .before .before .before .before .before .before .before .before .before .before .before .before .before .before .before .before .before .before .before .before .before .before .before .before .before .before .before .before .before .before .before .before .before .before .before .before .before .before .before .before .before .before .before .before .before in
+    let a = z .args in
     let f = c .before .before .before .before .before .before .before .before .before .before .before .before .before .before .before .before .before .before .before .before .before .before .before .before .before .before .before .before .before .before .before .before .first-tangents in
     let g = c .before .before .before .before .before .before .before .before .before .before .before .before .before .before .before .before .before .before .before .before .before .find-creases in
     c .before .before .before .before .shape-verts .ensures
-    ∙ shaped-is (z .args .h .now) (z .args .refs .now) (z .args .pos .now) (z .args .normals .now) (z .args .«face-normals» .now) (z .args .entries .now) (z .args .values .now) (z .args .t .now) (z .args .old) (z .args .n) _ _ _ _ _ _ _
-    (f .ensures .0) (g .ensures .0) (f .ensures .1) (c .before .before .before .before .before .before .before .before .before .before .before .before .before .fill-bytes .ensures) (z .pre .fixed) (g .kept .1 .1 .1 .1 .1 .1 .1 .0 ∙ f .kept .1 .1 .1 .1 .1 .1 .1 .1 .1 .0)
+    ∙ shaped-is (a .h .now) (a .refs .now) (a .pos .now) (a .normals .now) (a .«face-normals» .now) (isInsideQuad (a .h .now) (a .refs .now) (a .t .now) (a .old)) (a .smooth .now) (a .n) _ _ _ _ _ _ _
+    (ap isFlat (f .ensures .0) ∙ flags-same (a .h .now) (a .refs .now) (a .n)) (g .ensures .0) (f .ensures .1) (c .before .before .before .before .before .before .before .before .before .before .before .before .before .fill-bytes .ensures) (z .pre .fixed) (g .kept .1 .1 .1 .1 .1 .0 ∙ f .kept .1 .1 .1 .1 .1 .1 .1 .1 .1 .0)
 
 pub shape-tangents-spec : {M : Type 1} → statement M
 shape-tangents-spec =

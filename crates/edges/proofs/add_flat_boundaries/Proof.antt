@@ -6,12 +6,13 @@ use lib.ListN.{length}
 use Rattle.mesh.specs.Fold.{foldTo}
 use Rattle.mesh.proofs.Fold.{fold-none}
 use Rattle.faces.proofs.Loops.{fold-turn}
-use Rattle.edges.specs.Smoothness.{addFlatBoundary}
+use Rattle.faces.specs.Faces.{isFlat}
+use Rattle.edges.specs.Smoothness.{addFlatBoundary, smoothness}
 use Rattle.edges.proofs.add_flat_boundaries.Statement.{statement}
 use Rattle.edges.proofs.add_flat_boundaries.Tie as tie
 
 abbrev Inv-loop : tie.InvT-loop
-Inv-loop h refs flat smooth₀ e₀ smooth e = (e ≤ length flat) × (length smooth ≡ length smooth₀) × (smooth ≡ foldTo (addFlatBoundary h refs flat) smooth₀ e)
+Inv-loop h refs flat smooth₀ e₀ smooth e = (e ≤ length flat) × (length smooth ≡ length smooth₀) × (smooth ≡ foldTo (addFlatBoundary h refs (isFlat flat)) smooth₀ e)
 
 abbrev μ-loop : tie.MeasureT-loop
 μ-loop h refs flat smooth₀ e₀ smooth e = length flat - e
@@ -37,6 +38,7 @@ same-length : tie.Need-same-length Inv-loop μ-loop
 same-length c = c .before .loop .inv .1
 
 returns : tie.Need-returns Inv-loop μ-loop
+unfolding smoothness
 returns c =
     let l = c .before .loop in
     let q : l .e ≡ length (c .before .before .before .before .args .flat .now) = omega arith in

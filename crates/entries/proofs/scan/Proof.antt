@@ -50,7 +50,8 @@ use denote.Triple.Walked.{says, Stays, stay-none-slice, stay-none, walkOf, Walks
 use denote.Exit.{yes}
 use Rattle.mesh.specs.Questions.{namesHalfedge, hasClearSign}
 use Rattle.mesh.proofs.Lowest.{lowest-within}
-use Rattle.entries.specs.Entries.{halfedgesOf, smoothnessOf, passEntry, passedOf}
+use Rattle.entries.specs.Entries.{halfedgesOf, smoothnessOf}
+use Rattle.entries.specs.Questions.{passEntry, passedOf}
 use Rattle.entries.specs.declared.Smoothness.{Smoothness}
 use Rattle.entries.specs.declared.Passed.{Passed}
 use Rattle.entries.proofs.Passing.{none, none-passed, passes}

@@ -7,18 +7,20 @@ use lib.IntN.{ℤ}
 use lib.ListN.{length, replicate, length-replicate}
 use Rattle.mesh.specs.Fold.{foldTo}
 use Rattle.mesh.proofs.Fold.{fold-none}
-use Rattle.faces.specs.Faces.{markFlat, flatFaces}
+use Rattle.faces.specs.Faces.{markFlat}
+use Rattle.faces.specs.Lent.{FlatIn, flatFlags}
+use Rattle.faces.proofs.Flat.{flat-filled}
 use Rattle.faces.proofs.Loops.{fold-turn}
 use Rattle.faces.proofs.Lent.{flat-still}
 use Rattle.faces.proofs.flat_faces.Statement.{statement}
 use Rattle.faces.proofs.flat_faces.Tie as tie
 
-ended : (H R : List ℤ) (F F₀ : List ℕ) (n t : ℕ) → F₀ ≡ replicate n 0 → t ≤ length F₀ / 3 → length F₀ / 3 ≤ t → F ≡ foldTo (markFlat H R) F₀ t → F ≡ flatFaces H R n
-unfolding flatFaces
-ended H R F F₀ n t e a b f =
+ended : (H R : List ℤ) (F F₀ : List ℕ) (n t : ℕ) → FlatIn H n → F₀ ≡ replicate n 0 → t ≤ length F₀ / 3 → length F₀ / 3 ≤ t → F ≡ foldTo (markFlat H R) F₀ t → F ≡ flatFlags H R n
+ended H R F F₀ n t w e a b f =
     let q : length F₀ ≡ n = ap length e ∙ length-replicate n 0 in
     let r : t ≡ n / 3 = omega arith in
-    f ∙ rw (e, r)
+    let g : F ≡ foldTo (markFlat H R) (replicate n 0) (n / 3) = f ∙ rw (e, r) in
+    g ∙ flat-filled H R n w
 
 abbrev Inv-loop : tie.InvT-loop
 Inv-loop h refs flat₀ t₀ flat t = (t ≤ length flat₀ / 3) × (length flat ≡ length flat₀) × (flat ≡ foldTo (markFlat h refs) flat₀ t)
@@ -56,7 +58,7 @@ returns : tie.Need-returns Inv-loop μ-loop
 returns c =
     let a = c .before .before .before .before .before .before .before .args in
     let l = c .before .loop in
-    ended (a .h .now) (a .refs .now) (l .flat) (c .before .before .before .before .fill-bytes .last .0) (length (a .flat .now)) (l .t) (c .before .before .before .before .fill-bytes .ensures) (l .inv .0) (omega arith) (l .inv .2)
+    ended (a .h .now) (a .refs .now) (l .flat) (c .before .before .before .before .fill-bytes .last .0) (length (a .flat .now)) (l .t) (c .before .before .before .before .before .before .before .pre) (c .before .before .before .before .fill-bytes .ensures) (l .inv .0) (omega arith) (l .inv .2)
 
 pub flat-faces-spec : {M : Type 1} → statement M
 flat-faces-spec =

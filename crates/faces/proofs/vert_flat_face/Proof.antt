@@ -7,7 +7,8 @@ use lib.IntN.{ℤ}
 use lib.ListN.{length, getD}
 use Rattle.mesh.specs.Fold.{foldTo}
 use Rattle.mesh.proofs.Fold.{fold-none}
-use Rattle.faces.specs.Faces.{vertFlatFace, vertFaceAt, faceOf}
+use Rattle.faces.specs.Faces.{isFlat, vertFlatFace, vertFaceAt}
+use Rattle.faces.specs.Lent.{faceOf}
 use Rattle.faces.specs.declared.FlatFace.{FlatFace}
 use Rattle.faces.specs.declared.FlatFace.the-variants.{NoFace}
 use Rattle.faces.proofs.Loops.{fold-turn, filled-at}
@@ -16,12 +17,12 @@ use Rattle.faces.proofs.Codes.{face-none}
 use Rattle.faces.proofs.vert_flat_face.Statement.{statement}
 use Rattle.faces.proofs.vert_flat_face.Tie as tie
 
-ended : (H R : List ℤ) (F : List ℕ) (f : FlatFace) (v e : ℕ) → e ≡ length F → f ≡ foldTo (vertFaceAt H R F v) NoFace e → f ≡ vertFlatFace H R F (length F) v
+ended : (H R : List ℤ) (F : List ℕ) (f : FlatFace) (v e : ℕ) → e ≡ length F → f ≡ foldTo (vertFaceAt H R (isFlat F) v) NoFace e → f ≡ vertFlatFace H R (isFlat F) (length F) v
 unfolding vertFlatFace
 ended H R F f v e q p = p ∙ rw q
 
 abbrev Inv-loop : tie.InvT-loop
-Inv-loop h refs flat at₀ e₀ at e = (e ≤ length flat) × (length at ≡ length at₀) × ((v : ℕ) → v < length at₀ → faceOf (getD at v 0) ≡ foldTo (vertFaceAt h refs flat v) NoFace e)
+Inv-loop h refs flat at₀ e₀ at e = (e ≤ length flat) × (length at ≡ length at₀) × ((v : ℕ) → v < length at₀ → faceOf (getD at v 0) ≡ foldTo (vertFaceAt h refs (isFlat flat) v) NoFace e)
 
 abbrev μ-loop : tie.MeasureT-loop
 μ-loop h refs flat at₀ e₀ at e = length flat - e

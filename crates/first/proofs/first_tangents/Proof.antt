@@ -1,7 +1,9 @@
 -- `first::first_tangents` meets its contract: three calls in a row. Assumes nothing.
 use Rattle.first.proofs.Lent.{flat-lent, verts-lent}
 use Rattle.first.proofs.First.{first-in, first-is}
-use Rattle.faces.specs.Faces.{flatFaces}
+use Rattle.faces.specs.Faces.{isFlat}
+use Rattle.faces.specs.Lent.{flatFlags}
+use Rattle.faces.proofs.Flat.{flags-same}
 use mathlib.Core.Path.{_≡_, ap, _∙_}
 use Rattle.first.proofs.first_tangents.Statement.{statement}
 use Rattle.first.proofs.first_tangents.Tie as tie
@@ -28,8 +30,8 @@ returns : tie.Need-returns
 returns c =
     let z = c .before .before .before .before .before .before .before .before .before .before .before .before .before .before .before .before .before .before .before .before in
     let f = c .before .before .before .before .before .before .before .before .before .before .before .before .flat-faces in
-    let q : f .last .1 .1 .0 ≡ flatFaces (z .args .h .now) (z .args .refs .now) (z .args .n) = f .ensures ∙ ap (flatFaces (z .args .h .now) (z .args .refs .now)) (z .pre .1) in
-    (q, c .before .before .put-first-tangents .ensures ∙ first-is (z .pre .0) (z .args .refs .now) (f .last .1 .1 .0) (c .before .before .before .before .before .before .before .vert-flat-face .last .1 .1 .1 .0) (f .kept .1 .1 .0 ∙ z .pre .1) (c .before .before .before .before .before .before .before .vert-flat-face .ensures) (z .args .old) q)
+    let q : f .last .1 .1 .0 ≡ flatFlags (z .args .h .now) (z .args .refs .now) (z .args .n) = f .ensures ∙ ap (flatFlags (z .args .h .now) (z .args .refs .now)) (z .pre .1) in
+    (q, first-is (z .pre .0) (z .args .refs .now) (f .last .1 .1 .0) (c .before .before .before .before .before .before .before .vert-flat-face .last .1 .1 .1 .0) (f .kept .1 .1 .0 ∙ z .pre .1) (c .before .before .before .before .before .before .before .vert-flat-face .ensures) (z .args .old) _ (ap isFlat q ∙ flags-same (z .args .h .now) (z .args .refs .now) (z .args .n)) (c .before .before .put-first-tangents .ensures))
 
 pub first-tangents-spec : {M : Type 1} → statement M
 first-tangents-spec =

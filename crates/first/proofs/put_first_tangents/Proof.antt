@@ -1,14 +1,14 @@
 -- `first::put_first_tangents` meets its contract. The invariant: the list is the fold over the halfedges passed, and holds the lent weights from there on. Assumes nothing.
 use Rattle.first.proofs.Lent.{first-still}
-use Rattle.first.proofs.First.{first-same, first-other}
-use Rattle.first.specs.First.{faceAt, putFirstTangent}
+use Rattle.first.proofs.First.{first-turn}
+use Rattle.first.specs.First.{putFirstTangent}
+use Rattle.first.specs.Lent.{faceAt}
+use Rattle.smoothing.specs.Edges.{isInsideQuad}
 use Rattle.smoothing.specs.Lists.{weightAt}
 use Rattle.mesh.proofs.Fold.{fold-none}
-use Rattle.faces.proofs.Loops.{fold-turn}
 use Rattle.mesh.specs.Fold.{foldTo}
 use lib.ListN.{length}
 use native.Mathlib.Omega.{arith}
-use native.Mathlib.Nat.{le-refl}
 use mathlib.Core.Path.{_≡_, refl, sym, _∙_}
 use Prim.Native.Nat.{ℕ, _-_, _≤_}
 use Rattle.first.proofs.put_first_tangents.Statement.{statement}
@@ -17,7 +17,7 @@ use Rattle.first.proofs.put_first_tangents.Tie as tie
 abbrev Inv-loop : tie.InvT-loop
 Inv-loop n h refs pos normals face-normals at old t₀ e₀ t e =
     (e ≤ n) × (length t ≡ length t₀)
-    × (t ≡ foldTo (putFirstTangent h refs pos normals face-normals t₀ old (faceAt at)) t₀ e)
+    × (t ≡ foldTo (putFirstTangent h pos normals face-normals (isInsideQuad h refs t₀ old) (faceAt at)) t₀ e)
     × ((x : ℕ) → e ≤ x → weightAt t x ≡ weightAt t₀ x)
 
 abbrev μ-loop : tie.MeasureT-loop
@@ -39,12 +39,9 @@ loop-again : tie.Need-loop-again Inv-loop μ-loop
 loop-again c =
     let a = c .before .before .before .before .before .before .before .before .before .before .before .args in
     let l = c .before .before .before .before .before .loop in
-    let q = c .before .before .put-first-tangent .ensures in (
-      omega arith,
-      c .before .before .put-first-tangent .kept .1 .1 .1 .1 .1 .1 .1 .1 .0 ∙ l .inv .1,
-      fold-turn _ _ _ _ (l .e) (l .inv .2) (q ∙ first-same _ _ _ _ _ _ _ _ _ _ (l .e) (l .inv .3 (l .e) (le-refl _))),
-      λ x h. first-other (a .h .now) (a .refs .now) (a .pos .now) (a .normals .now) (a .«face-normals» .now) (a .old) _ _ (l .t) _ (l .e) x q (λ z. omega arith) ∙ l .inv .3 x (omega arith),
-    )
+    let p = c .before .before .put-first-tangent in
+    let t = first-turn (a .h .now) (a .refs .now) (a .pos .now) (a .normals .now) (a .«face-normals» .now) (a .old) (faceAt (a .at .now)) (a .t .now) (l .t) (p .last .1 .1 .1 .1 .1 .1 .1 .1 .0) (l .e) (l .inv .2) (l .inv .3) (p .ensures) in
+    (omega arith, p .kept .1 .1 .1 .1 .1 .1 .1 .1 .0 ∙ l .inv .1, t .0, t .1)
 
 same-length : tie.Need-same-length Inv-loop μ-loop
 same-length c = c .before .loop .inv .1

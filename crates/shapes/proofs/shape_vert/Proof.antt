@@ -1,6 +1,7 @@
 -- `shapes::shape_vert` meets its contract: three calls in a row. Assumes nothing.
-use Rattle.shapes.proofs.Lent.{making-in, crease-in}
-use Rattle.shapes.specs.Shapes.{shapeVert}
+use Rattle.faces.specs.Faces.{isFlat}
+use Rattle.makings.specs.Makings.{tangentsOf}
+use Rattle.shapes.proofs.Lent.{making-in, crease-in, crease-apart}
 use Rattle.creases.proofs.Points.{first-is}
 use native.Mathlib.Omega.{arith}
 use mathlib.Core.Path.{_∙_}
@@ -29,10 +30,13 @@ same-length-2 : tie.Need-same-length-2
 same-length-2 c = c .before .before .before .before .shape-crease .kept .1 .1 .1 .1 .1 .0
 
 returns : tie.Need-returns
-unfolding shapeVert
 returns c =
     let z = c .before .before .before .before .before .before .before .before .before .before .before .before .before .before .before .before in
-    simp (← first-is (z .pre .1 .creases) (z .args .v) (z .pre .0), ← c .before .before .before .before .before .before .before .before .first-crease .ensures, ← c .before .before .before .before .before .before .before .crease-at .ensures) (c .before .before .before .before .shape-crease .ensures)
+    let k = c .before .before .before .before .before .before .before .crease-at in
+    let a = z .args in
+    let first = c .before .before .before .before .before .before .before .before .first-crease .ensures ∙ first-is (z .pre .1 .creases) (a .v) (z .pre .0) in
+    rw first at (c .before .before .before .before .shape-crease .ensures)
+    ∙ crease-apart (z .pre .1 .creases .lists .sound) (a .pos .now) (isFlat (a .flat .now)) (a .smooth .now) (a .v) (tangentsOf (a .t .now) (a .fixed .now)) (k .result) (k .ensures)
 
 pub shape-vert-spec : {M : Type 1} → statement M
 shape-vert-spec =

@@ -6,6 +6,8 @@ use Rattle.mesh.proofs.Fold.{fold-none}
 use Rattle.faces.proofs.Loops.{fold-turn}
 use Rattle.mesh.specs.Fold.{foldTo}
 use lib.ListN.{length}
+use Rattle.faces.specs.Faces.{isFlat}
+use Rattle.creases.specs.Linked.{pairsAt}
 use native.Mathlib.Omega.{arith}
 use mathlib.Core.Path.{_≡_, refl, sym, _∙_}
 use Prim.Native.Nat.{_-_, _≤_}
@@ -15,7 +17,7 @@ use Rattle.shapes.proofs.shape_verts.Tie as tie
 abbrev Inv-loop : tie.InvT-loop
 Inv-loop n h pos flat smooth at link t₀ fixed₀ v₀ t fixed v =
     (v ≤ length at) × (length t ≡ length t₀) × (length fixed ≡ length fixed₀)
-    × (tangentsOf t fixed ≡ foldTo (shapeVert h pos flat smooth n) (tangentsOf t₀ fixed₀) v)
+    × (tangentsOf t fixed ≡ foldTo (shapeVert h pos (isFlat flat) n (pairsAt h smooth n)) (tangentsOf t₀ fixed₀) v)
 
 abbrev μ-loop : tie.MeasureT-loop
 μ-loop n h pos flat smooth at link t₀ fixed₀ v₀ t fixed v = length at - v

@@ -8,6 +8,7 @@ use Rattle.cycles.proofs.Paths.{isAt, stepsLeft}
 use Rattle.cycles.specs.Cycles.{nextAround, vertexCycle}
 use Rattle.cycles.specs.Walk.{cycleFrom}
 use lib.ListN.{length}
+use Rattle.faces.specs.Faces.{isFlat}
 use native.Mathlib.Nat.{le-refl}
 use mathlib.Core.List.{foldl}
 use mathlib.Core.Path.{_≡_, refl, _∙_}
@@ -17,7 +18,7 @@ use Rattle.shapes.proofs.sharpen_meeting.Tie as tie
 abbrev Inv-loop : tie.InvT-loop
 Inv-loop n h flat t₀ first mean current₀ t current =
     Walking (nextAround h) n (isAt first) n first current × (length t ≡ length t₀)
-    × (foldl (sharpenMeetingAt h flat mean) t (cycleFrom (nextAround h) n first current) ≡ foldl (sharpenMeetingAt h flat mean) t₀ (vertexCycle h n first))
+    × (foldl (sharpenMeetingAt h (isFlat flat) mean) t (cycleFrom (nextAround h) n first current) ≡ foldl (sharpenMeetingAt h (isFlat flat) mean) t₀ (vertexCycle h n first))
 
 abbrev μ-loop : tie.MeasureT-loop
 μ-loop n h flat t₀ first mean current₀ t current = stepsLeft (nextAround h) (isAt first) n current
@@ -46,7 +47,7 @@ loop-again c =
     let Q = next-permutes (c .before .before .before .before .before .before .before .before .before .pre .1 .tangents .sound) in (
       around-step Q (l .inv .0) (c .before .next-around .ensures) (c .if1 .left),
       m .kept .1 .1 .0 ∙ l .inv .1,
-      around-fold-step Q (l .inv .0) (c .before .next-around .ensures) (sharpenMeetingAt (a .h .now) (a .flat .now) (a .mean)) (l .t) (l .inv .2) (m .ensures) (c .if1 .left),
+      around-fold-step Q (l .inv .0) (c .before .next-around .ensures) (sharpenMeetingAt (a .h .now) (isFlat (a .flat .now)) (a .mean)) (l .t) (l .inv .2) (m .ensures) (c .if1 .left),
     )
 
 same-length : tie.Need-same-length Inv-loop μ-loop
@@ -58,7 +59,7 @@ returns c =
     let m = c .before .before .before .before .sharpen-meeting-at in
     let l = c .before .before .before .before .before .before .loop in
     let a = c .before .before .before .before .before .before .before .before .before .args in
-    around-fold-stop (next-permutes (c .before .before .before .before .before .before .before .before .before .pre .1 .tangents .sound)) (l .inv .0) (c .before .next-around .ensures) (sharpenMeetingAt (a .h .now) (a .flat .now) (a .mean)) (l .t) (l .inv .2) (m .ensures) (c .if1 .taken)
+    around-fold-stop (next-permutes (c .before .before .before .before .before .before .before .before .before .pre .1 .tangents .sound)) (l .inv .0) (c .before .next-around .ensures) (sharpenMeetingAt (a .h .now) (isFlat (a .flat .now)) (a .mean)) (l .t) (l .inv .2) (m .ensures) (c .if1 .taken)
 
 pub sharpen-meeting-spec : {M : Type 1} → statement M
 sharpen-meeting-spec =

@@ -1,2 +1,0 @@
--- The specs of `create_checked`.
-pub mod CreateChecked

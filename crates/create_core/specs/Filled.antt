@@ -1,0 +1,20 @@
+-- `create_tangents` by its scratch lists. Only contracts inside a call name these; `filled-same` of `proofs/Filled.antt` says that the tangents are those of `createTangents`.
+use Prim.Native.Nat.{ℕ}
+use mathlib.Core.Path.{_≡_}
+use mathlib.Core.List.{List}
+use mathlib.Core.Bool.{Bool}
+use lib.ListN.{length}
+use lib.IntN.{ℤ}
+use lib.Ieee.{Float}
+use Rattle.create_steps.specs.Lent.{CreateLists, pairsOf}
+use Rattle.create_core.specs.Core.{createWith}
+
+-- the lists of an accepted call: X, F, S, D, C and L are the scratch lists `fixed`, `flat`, `smooth`, `desired`, `at` and `link`
+pub record Lists (H : List ℤ) (P N A T : List Float) (X F : List ℕ) (S D : List Float) (C L : List ℕ) (n p : ℕ) : Type 0 where
+  pub lists : CreateLists H P N A T X F S C L n
+  pub desired : length D ≡ n
+  pub points : length C ≡ p
+
+-- the tangents, where S holds the smoothness of the entries
+unfoldable pub createFilled : List ℤ → List Float → List Float → List Float → List ℤ → List Float → List Float → Bool → ℕ → ℕ → List Float
+createFilled H P N A R S T old n p = createWith H P N A R (pairsOf H R S n) T old n p
