@@ -5,7 +5,7 @@ use mathlib.Core.List.{List, [], _∷_, _++_}
 use lib.ListN.{length, replicate}
 use Rattle.little_endian.specs.Numbers.{littleEndian, i32Of, f64Item, i32Item, byteItem}
 use Rattle.little_endian.specs.Filled.{items}
-use Rattle.records.specs.Records.{recordFits, recordRefusal, bodyBytes, recordsLength, lastKind, operationRefusal, parseFrom, parseRecords, parseInput}
+use Rattle.records.specs.Records.{recordFits, recordRefusal, bodyBytes, recordsLength, lastKind, operationRefusal, refusalFrom, recordsRefusal, inputRefusal, parseInput}
 use Rattle.lines.specs.Text.{ascii, decimalUpTo, decimal, hexDigit, hexUpTo, hex}
 use Rattle.lines.specs.Lines.{numberLine, numbersLine, bitsField, tangentLine, tangentLines, tangentsLines, linesOf}
 use Rattle.operations.specs.Operations.{straightenLines, spreadLines, checkLines, operationLines}
@@ -13,7 +13,7 @@ use Rattle.program.specs.Program.{outputOf}
 use Rattle.cases.proofs.Hold.{floats, meshes, calls, spreads}
 
 unfoldable programs : Unit {0}
-unfolding littleEndian i32Of f64Item i32Item byteItem items recordFits recordRefusal bodyBytes recordsLength lastKind operationRefusal parseFrom parseRecords parseInput ascii decimalUpTo decimal hexDigit hexUpTo hex numberLine numbersLine bitsField tangentLine tangentLines tangentsLines linesOf straightenLines spreadLines checkLines operationLines outputOf
+unfolding littleEndian i32Of f64Item i32Item byteItem items recordFits recordRefusal bodyBytes recordsLength lastKind operationRefusal refusalFrom recordsRefusal inputRefusal parseInput ascii decimalUpTo decimal hexDigit hexUpTo hex numberLine numbersLine bitsField tangentLine tangentLines tangentsLines linesOf straightenLines spreadLines checkLines operationLines outputOf
 programs = tt
 
 -- the k bytes of a number, the lowest first

@@ -3,23 +3,24 @@ use Prim.Native.Nat.{ℕ, zero, suc, _+_, _*_, _<_, _≤_}
 use native.Mathlib.Omega.{arith}
 use mathlib.Core.Path.{_≡_, refl, _∙_}
 use mathlib.Core.List.{List, _++_}
-use lib.ListN.{length, replicate, List·getD-append, length-replicate}
+use lib.ListN.{length, take, drop, replicate, List·getD-append, length-replicate, take-append-drop}
 use lib.IntN.{ℤ}
 use lib.Ieee.{Float, nan}
 use Rattle.float.specs.Ops.{zero as 0f}
 use Rattle.lines.specs.Lines.{bitsField, tangentLine, tangentLines, tangentsLines, linesOf, halfedgesIn}
 use Rattle.lines.specs.declared.Output.{Output}
 use Rattle.lines.specs.declared.Output.the-variants.{Tangents, Spread, Valid, Refused}
+use Rattle.mesh.specs.Check.{whenAccepted}
 use Rattle.mesh.specs.declared.Checked.{Checked}
 use Rattle.mesh.specs.declared.Checked.the-variants.{Accepted, Refused as MeshRefused}
 use Rattle.linearize.specs.Linearize.{linearizeAnswer, tangentsAfter as straightened}
 use Rattle.validate.specs.Validate.{validAnswer}
 use Rattle.validate.specs.declared.Validity.{Validity}
 use Rattle.validate.specs.declared.Validity.the-variants.{Valid as MarksValid, Refused as MarksRefused}
-use Rattle.distribute.specs.Distribute.{checkLists, distributeTangents, tangentsAfter as spread}
+use Rattle.distribute.specs.Distribute.{checkLists, distributeTangents, tangentsAfter as spread, scratchAfter}
 use Rattle.distribute.specs.declared.Spreading.{Spreading}
 use Rattle.distribute.specs.declared.Spreading.the-variants.{Spread as Spreads, Refused as SpreadRefused}
-use Rattle.operations.specs.Operations.{straightenOutput, straightenLines, spreadOutput, spreadLines, checkOutput, checkLines, Shows}
+use Rattle.operations.specs.Operations.{straightenOutput, straightenLines, spreadOutput, spreadLines, spreadTangents, spreadScratch, checkOutput, checkLines, Shows}
 
 -- ---- the front of the tangents
 
@@ -79,6 +80,26 @@ pub spread-shows : (H : List ℤ) (P N : List Float) (F : List ℕ) (T C D : Lis
 unfolding spreadLines
 spread-shows H P N F T C D n p r o after rest c d e f g l =
     shows-front after rest _ n o l (rw e (spread-few r n)) (rw (e, f, g, scratch-lengths H P N F T C D n p c d))
+
+-- ---- the lists
+
+-- a list whose front was lent: as the call leaves the front, and then the rest
+pub front-left : (after after′ rest : List Float) → after ≡ after′ → after ++ rest ≡ after′ ++ rest
+front-left after after′ rest e = rw e
+
+scratch-left : (checked : Checked) (n : ℕ) (lent : List Float) →
+    whenAccepted checked (replicate n 0f) (take n lent) ++ drop n lent ≡ whenAccepted checked (replicate n 0f ++ drop n lent) lent
+scratch-left Accepted n lent = refl
+scratch-left (MeshRefused number place) n lent = take-append-drop n lent
+
+module _ (H : List ℤ) (P N : List Float) (F : List ℕ) (T C D : List Float) (n p : ℕ) (c : length C ≡ n) (d : length D ≡ n) where
+  pub spread-tangents : (after rest : List Float) → after ≡ spread H P N F T C D n p → after ++ rest ≡ spreadTangents H P N F T n p ++ rest
+  spread-tangents after rest e = rw (e, scratch-lengths H P N F T C D n p c d)
+
+  pub spread-scratch : (after lent : List Float) → after ≡ scratchAfter (checkLists H P N F T C D n p) (take n lent) n → after ++ drop n lent ≡ spreadScratch H P N F T n p lent
+  spread-scratch after lent e = rw (e, scratch-lengths H P N F T C D n p c d) (scratch-left (checkLists H P N F T (replicate n 0f) (replicate n 0f) n p) n lent)
+
+-- ---- the mark check
 
 check-few : (r : Validity) (n : ℕ) → halfedgesIn (checkOutput r) ≤ n
 check-few (MarksValid valid) n = omega arith

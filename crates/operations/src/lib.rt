@@ -2,8 +2,9 @@
 // answer. A list may be longer than the counts call for.
 ghost use mathlib.Core.Path.{_≡_};
 ghost use Prim.Native.Nat.{_*_};
-ghost use lib.ListN.{length, take};
-ghost use Rattle.operations.specs.Operations.{straightenOutput, straightenLines, spreadOutput, spreadLines, checkOutput, checkLines, operationLines, MeshIn, SpreadIn, Shows};
+ghost use mathlib.Core.List.{_++_};
+ghost use lib.ListN.{length, take, drop};
+ghost use Rattle.operations.specs.Operations.{straightenOutput, straightenLines, spreadOutput, spreadLines, checkOutput, checkLines, operationLines, straightenTangents, spreadTangents, spreadScratch, operationTangents, operationScratch, MeshIn, SpreadIn, Shows};
 use distribute::Spreading;
 use lines::Output;
 use mesh::Checked;
@@ -43,7 +44,8 @@ fn check_output(validity: Validity) -> Output
 // The operation 1.
 fn straighten(n: usize, p: usize, h: &[i32], pos: &[f64], t: &mut [f64]) -> Output
     requires { ⌜ MeshIn n p (length (now pos)) (length (now h)) (length (now t)) ⌝ }
-    ensures { λ r. ⌜ Shows (straightenLines (take (3 * n) (now (h .entry))) (take (3 * p) (now (pos .entry))) (take (4 * n) (now (t .entry))) n p) n r (now (t .exit)) ⌝ }
+    ensures lines { λ r. ⌜ Shows (straightenLines (take (3 * n) (now (h .entry))) (take (3 * p) (now (pos .entry))) (take (4 * n) (now (t .entry))) n p) n r (now (t .exit)) ⌝ }
+    ensures tangents { λ _. ⌜ now (t .exit) ≡ straightenTangents (take (3 * n) (now (h .entry))) (take (3 * p) (now (pos .entry))) (take (4 * n) (now (t .entry))) n p ++ drop (4 * n) (now (t .entry)) ⌝ }
 {
     let hl = 3 * n;
     let pl = 3 * p;
@@ -65,7 +67,10 @@ fn spread(
     desired: &mut [f64],
 ) -> Output
     requires { ⌜ SpreadIn n p (length (now pos)) (length (now h)) (length (now t)) (length (now normals)) (length (now flags)) (length (now current)) (length (now desired)) ⌝ }
-    ensures { λ r. ⌜ Shows (spreadLines (take (3 * n) (now (h .entry))) (take (3 * p) (now (pos .entry))) (take (3 * p) (now (normals .entry))) (take n (now (flags .entry))) (take (4 * n) (now (t .entry))) n p) n r (now (t .exit)) ⌝ }
+    ensures lines { λ r. ⌜ Shows (spreadLines (take (3 * n) (now (h .entry))) (take (3 * p) (now (pos .entry))) (take (3 * p) (now (normals .entry))) (take n (now (flags .entry))) (take (4 * n) (now (t .entry))) n p) n r (now (t .exit)) ⌝ }
+    ensures tangents { λ _. ⌜ now (t .exit) ≡ spreadTangents (take (3 * n) (now (h .entry))) (take (3 * p) (now (pos .entry))) (take (3 * p) (now (normals .entry))) (take n (now (flags .entry))) (take (4 * n) (now (t .entry))) n p ++ drop (4 * n) (now (t .entry)) ⌝ }
+    ensures current { λ _. ⌜ now (current .exit) ≡ spreadScratch (take (3 * n) (now (h .entry))) (take (3 * p) (now (pos .entry))) (take (3 * p) (now (normals .entry))) (take n (now (flags .entry))) (take (4 * n) (now (t .entry))) n p (now (current .entry)) ⌝ }
+    ensures desired { λ _. ⌜ now (desired .exit) ≡ spreadScratch (take (3 * n) (now (h .entry))) (take (3 * p) (now (pos .entry))) (take (3 * p) (now (normals .entry))) (take n (now (flags .entry))) (take (4 * n) (now (t .entry))) n p (now (desired .entry)) ⌝ }
 {
     let hl = 3 * n;
     let pl = 3 * p;
@@ -109,7 +114,10 @@ pub fn operate(
     desired: &mut [f64],
 ) -> Output
     requires { ⌜ SpreadIn n p (length (now pos)) (length (now h)) (length (now t)) (length (now normals)) (length (now flags)) (length (now current)) (length (now desired)) ⌝ }
-    ensures { λ r. ⌜ Shows (operationLines operation (take (3 * n) (now (h .entry))) (take (3 * p) (now (pos .entry))) (take (3 * p) (now (normals .entry))) (take n (now (flags .entry))) (take (4 * n) (now (t .entry))) n p) n r (now (t .exit)) ⌝ }
+    ensures lines { λ r. ⌜ Shows (operationLines operation (take (3 * n) (now (h .entry))) (take (3 * p) (now (pos .entry))) (take (3 * p) (now (normals .entry))) (take n (now (flags .entry))) (take (4 * n) (now (t .entry))) n p) n r (now (t .exit)) ⌝ }
+    ensures tangents { λ _. ⌜ now (t .exit) ≡ operationTangents operation (take (3 * n) (now (h .entry))) (take (3 * p) (now (pos .entry))) (take (3 * p) (now (normals .entry))) (take n (now (flags .entry))) (take (4 * n) (now (t .entry))) n p ++ drop (4 * n) (now (t .entry)) ⌝ }
+    ensures current { λ _. ⌜ now (current .exit) ≡ operationScratch operation (take (3 * n) (now (h .entry))) (take (3 * p) (now (pos .entry))) (take (3 * p) (now (normals .entry))) (take n (now (flags .entry))) (take (4 * n) (now (t .entry))) n p (now (current .entry)) ⌝ }
+    ensures desired { λ _. ⌜ now (desired .exit) ≡ operationScratch operation (take (3 * n) (now (h .entry))) (take (3 * p) (now (pos .entry))) (take (3 * p) (now (normals .entry))) (take n (now (flags .entry))) (take (4 * n) (now (t .entry))) n p (now (desired .entry)) ⌝ }
 {
     if operation == 1 {
         return straighten(n, p, h, pos, t);

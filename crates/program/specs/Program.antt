@@ -1,8 +1,9 @@
 -- The program `tangents` of document 01, from the bytes s that it reads to the bytes that it writes. p and n are the counts of points and halfedges.
 use Prim.Native.Nat.{ℕ, _*_, _≤_}
-use mathlib.Core.List.{List, []}
+use mathlib.Core.List.{List, [], _++_}
 use mathlib.Core.Bool.{Bool, cond, _&&_}
-use lib.Dec.{leb}
+use lib.Dec.{leb, eqb}
+use lib.ListN.{length, drop}
 use lib.IntN.{ℤ}
 use lib.Ieee.{Float}
 use Rattle.little_endian.specs.Numbers.{f64Item, i32Item, byteItem}
@@ -12,7 +13,7 @@ use Rattle.records.specs.declared.Parsed.{Parsed}
 use Rattle.records.specs.declared.Parsed.the-variants.{Input, Refused as InputRefused}
 use Rattle.lines.specs.Lines.{linesOf}
 use Rattle.lines.specs.declared.Output.the-variants.{Refused}
-use Rattle.operations.specs.Operations.{operationLines}
+use Rattle.operations.specs.Operations.{operationLines, operationTangents, operationScratch}
 
 -- ---- the lists of an accepted input
 
@@ -43,7 +44,47 @@ linesFor s (Input operation p n) =
 unfoldable pub outputOf : List ℕ → List ℕ
 outputOf s = linesFor s (parseInput s)
 
--- ---- the lent lists
+-- ---- what the lent lists hold afterwards, for every input, where they have room
+
+-- `after` the operation and the counts that were read, and as lent where the records are refused
+abbrev pub whenRead : {A : Type 0} → Parsed → (ℕ → ℕ → ℕ → A) → A → A
+whenRead (Input operation p n) after lent = after operation p n
+whenRead (InputRefused number place) after lent = lent
+
+-- the numbers of the input in front, and the further places as lent
+unfoldable pub positionsAfter : List ℕ → List Float → List Float
+positionsAfter s lent = whenRead (parseInput s) (λ operation p n. positionsOf s p n ++ drop (3 * p) lent) lent
+
+unfoldable pub halfedgesAfter : List ℕ → List ℤ → List ℤ
+halfedgesAfter s lent = whenRead (parseInput s) (λ operation p n. halfedgesOf s p n ++ drop (3 * n) lent) lent
+
+-- only spreading (operation 2) has point normals and flags
+unfoldable pub normalsAfter : List ℕ → List Float → List Float
+normalsAfter s lent =
+    whenRead (parseInput s) (λ operation p n. cond (eqb operation 2) (normalsOf s p n ++ drop (3 * p) lent) lent) lent
+
+unfoldable pub flagsAfter : List ℕ → List ℕ → List ℕ
+flagsAfter s lent =
+    whenRead (parseInput s) (λ operation p n. cond (eqb operation 2) (flagsOf s p n ++ drop n lent) lent) lent
+
+-- the tangents that the operation leaves of those that were read
+unfoldable pub tangentsAfter : List ℕ → List Float → List Float
+tangentsAfter s lent =
+    whenRead (parseInput s)
+    (λ operation p n.
+    operationTangents operation (halfedgesOf s p n) (positionsOf s p n) (normalsOf s p n) (flagsOf s p n) (tangentsOf s p n) n p
+    ++ drop (4 * n) lent)
+    lent
+
+-- either scratch list
+unfoldable pub scratchAfter : List ℕ → List Float → List Float
+scratchAfter s lent =
+    whenRead (parseInput s)
+    (λ operation p n.
+    operationScratch operation (halfedgesOf s p n) (positionsOf s p n) (normalsOf s p n) (flagsOf s p n) (tangentsOf s p n) n p lent)
+    lent
+
+-- ---- the room of the lent lists
 
 -- Has each list the room that the longest input can call for: 2,729 points, 1,488 halfedges, and a line of each halfedge and two more?
 unfoldable pub hasRoom : ℕ → ℕ → ℕ → ℕ → ℕ → ℕ → ℕ → ℕ → Bool
@@ -51,9 +92,10 @@ hasRoom positions halfedges tangents normals flags current desired out =
     leb 8187 positions && leb 4464 halfedges && leb 5952 tangents && leb 8187 normals && leb 1488 flags
     && leb 1488 current && leb 1488 desired && leb 143040 out
 
--- all of the output, or nothing
-abbrev pub whenRoom : Bool → List ℕ → List ℕ
-whenRoom room s = cond room (outputOf s) []
+-- the same of the lists themselves
+abbrev pub listsHaveRoom : List Float → List ℤ → List Float → List Float → List ℕ → List Float → List Float → List ℕ → Bool
+listsHaveRoom positions halfedges tangents normals flags current desired out =
+    hasRoom (length positions) (length halfedges) (length tangents) (length normals) (length flags) (length current) (length desired) (length out)
 
 -- lists of at least these lengths
 pub record Room (positions halfedges tangents normals flags current desired : ℕ) : Type 0 where

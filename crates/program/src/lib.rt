@@ -1,10 +1,12 @@
 // What the program `tangents` (document 01) does between reading its input and writing its output: the records are read
 // into lent lists, the operation is done, and the answer goes as lines into a lent buffer.
 ghost use mathlib.Core.Path.{_≡_};
+ghost use mathlib.Core.Bool.{cond};
+ghost use mathlib.Core.List.{[]};
 ghost use lib.ListN.{length};
 ghost use Rattle.lines.specs.Text.{Put};
 ghost use Rattle.operations.specs.Operations.{Shows};
-ghost use Rattle.program.specs.Program.{outputOf, hasRoom, whenRoom, Room};
+ghost use Rattle.program.specs.Program.{outputOf, positionsAfter, halfedgesAfter, tangentsAfter, normalsAfter, flagsAfter, scratchAfter, hasRoom, listsHaveRoom, Room};
 use lines::Output;
 use records::Parsed;
 
@@ -32,7 +34,14 @@ fn respond(
     desired: &mut [f64],
 ) -> Output
     requires { ⌜ Room (length (now pos)) (length (now h)) (length (now t)) (length (now normals)) (length (now flags)) (length (now current)) (length (now desired)) ⌝ }
-    ensures { λ r. ⌜ Shows (outputOf (now (input .entry))) 1488 r (now (t .exit)) ⌝ }
+    ensures output { λ r. ⌜ Shows (outputOf (now (input .entry))) 1488 r (now (t .exit)) ⌝ }
+    ensures positions { λ _. ⌜ now (pos .exit) ≡ positionsAfter (now (input .entry)) (now (pos .entry)) ⌝ }
+    ensures halfedges { λ _. ⌜ now (h .exit) ≡ halfedgesAfter (now (input .entry)) (now (h .entry)) ⌝ }
+    ensures tangents { λ _. ⌜ now (t .exit) ≡ tangentsAfter (now (input .entry)) (now (t .entry)) ⌝ }
+    ensures normals { λ _. ⌜ now (normals .exit) ≡ normalsAfter (now (input .entry)) (now (normals .entry)) ⌝ }
+    ensures flags { λ _. ⌜ now (flags .exit) ≡ flagsAfter (now (input .entry)) (now (flags .entry)) ⌝ }
+    ensures current { λ _. ⌜ now (current .exit) ≡ scratchAfter (now (input .entry)) (now (current .entry)) ⌝ }
+    ensures desired { λ _. ⌜ now (desired .exit) ≡ scratchAfter (now (input .entry)) (now (desired .entry)) ⌝ }
 {
     match records::read_input(input, pos, h, t, normals, flags) {
         Parsed::Input {
@@ -92,8 +101,10 @@ fn has_room(
     OUTPUT_ROOM <= out
 }
 
-// The program's answer to an input: writes the whole output to the front of `out` and returns its length. Where a list has
-// less than the room above, it writes nothing and returns 0. What the other lists hold afterwards is left free.
+// The program's answer to an input: writes the whole output to the front of `out` and returns its length. The other lists
+// then hold the numbers that were read, the tangents as the operation leaves them, and zeros for the scratch of an accepted
+// spreading; further places stay as lent, and so does all where the records are refused. Where a list has less than the room
+// above, it changes no list and returns 0.
 pub fn answer(
     input: &[u8],
     pos: &mut [f64],
@@ -105,7 +116,14 @@ pub fn answer(
     desired: &mut [f64],
     out: &mut [u8],
 ) -> usize
-    ensures { λ r. ⌜ Put (now (out .entry)) 0 (whenRoom (hasRoom (length (now (pos .entry))) (length (now (h .entry))) (length (now (t .entry))) (length (now (normals .entry))) (length (now (flags .entry))) (length (now (current .entry))) (length (now (desired .entry))) (length (now (out .entry)))) (now (input .entry))) (now (out .exit)) r ⌝ }
+    ensures output { λ r. ⌜ Put (now (out .entry)) 0 (cond (listsHaveRoom (now (pos .entry)) (now (h .entry)) (now (t .entry)) (now (normals .entry)) (now (flags .entry)) (now (current .entry)) (now (desired .entry)) (now (out .entry))) (outputOf (now (input .entry))) []) (now (out .exit)) r ⌝ }
+    ensures positions { λ _. ⌜ now (pos .exit) ≡ cond (listsHaveRoom (now (pos .entry)) (now (h .entry)) (now (t .entry)) (now (normals .entry)) (now (flags .entry)) (now (current .entry)) (now (desired .entry)) (now (out .entry))) (positionsAfter (now (input .entry)) (now (pos .entry))) (now (pos .entry)) ⌝ }
+    ensures halfedges { λ _. ⌜ now (h .exit) ≡ cond (listsHaveRoom (now (pos .entry)) (now (h .entry)) (now (t .entry)) (now (normals .entry)) (now (flags .entry)) (now (current .entry)) (now (desired .entry)) (now (out .entry))) (halfedgesAfter (now (input .entry)) (now (h .entry))) (now (h .entry)) ⌝ }
+    ensures tangents { λ _. ⌜ now (t .exit) ≡ cond (listsHaveRoom (now (pos .entry)) (now (h .entry)) (now (t .entry)) (now (normals .entry)) (now (flags .entry)) (now (current .entry)) (now (desired .entry)) (now (out .entry))) (tangentsAfter (now (input .entry)) (now (t .entry))) (now (t .entry)) ⌝ }
+    ensures normals { λ _. ⌜ now (normals .exit) ≡ cond (listsHaveRoom (now (pos .entry)) (now (h .entry)) (now (t .entry)) (now (normals .entry)) (now (flags .entry)) (now (current .entry)) (now (desired .entry)) (now (out .entry))) (normalsAfter (now (input .entry)) (now (normals .entry))) (now (normals .entry)) ⌝ }
+    ensures flags { λ _. ⌜ now (flags .exit) ≡ cond (listsHaveRoom (now (pos .entry)) (now (h .entry)) (now (t .entry)) (now (normals .entry)) (now (flags .entry)) (now (current .entry)) (now (desired .entry)) (now (out .entry))) (flagsAfter (now (input .entry)) (now (flags .entry))) (now (flags .entry)) ⌝ }
+    ensures current { λ _. ⌜ now (current .exit) ≡ cond (listsHaveRoom (now (pos .entry)) (now (h .entry)) (now (t .entry)) (now (normals .entry)) (now (flags .entry)) (now (current .entry)) (now (desired .entry)) (now (out .entry))) (scratchAfter (now (input .entry)) (now (current .entry))) (now (current .entry)) ⌝ }
+    ensures desired { λ _. ⌜ now (desired .exit) ≡ cond (listsHaveRoom (now (pos .entry)) (now (h .entry)) (now (t .entry)) (now (normals .entry)) (now (flags .entry)) (now (current .entry)) (now (desired .entry)) (now (out .entry))) (scratchAfter (now (input .entry)) (now (desired .entry))) (now (desired .entry)) ⌝ }
 {
     let room = has_room(
         pos.len(),

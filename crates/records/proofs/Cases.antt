@@ -7,12 +7,12 @@ use lib.IntN.{pos, negsuc}
 use lib.Ieee.{nan, ofBits}
 use Rattle.float.specs.Ops.{lit}
 use Rattle.little_endian.specs.Numbers.{littleEndian, i32Of, f64Item, i32Item, byteItem}
-use Rattle.records.specs.Records.{recordFits, recordRefusal, bodyBytes, recordsLength, bodyAt, lastKind, operationRefusal, parseFrom, parseRecords, parseInput}
+use Rattle.records.specs.Records.{recordFits, recordRefusal, bodyBytes, recordsLength, bodyAt, lastKind, operationRefusal, refusalFrom, recordsRefusal, inputRefusal, parseInput}
 use Rattle.little_endian.specs.Filled.{items}
 use Rattle.records.specs.declared.Parsed.the-variants.{Input, Refused}
 
 unfoldable all : Unit {0}
-unfolding ofBits littleEndian i32Of f64Item i32Item byteItem recordFits recordRefusal bodyBytes recordsLength lastKind operationRefusal parseFrom parseRecords parseInput items
+unfolding ofBits littleEndian i32Of f64Item i32Item byteItem recordFits recordRefusal bodyBytes recordsLength lastKind operationRefusal refusalFrom recordsRefusal inputRefusal parseInput items
 all = tt
 
 -- the k bytes of a number, the lowest first

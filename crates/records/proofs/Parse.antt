@@ -10,7 +10,7 @@ use borrow.Author.Tests.{le-leb, lt-leb, eq-eqb, ne-eqb, leb-true, eqb-true}
 use lib.ListN.{length}
 use lib.Dec.{leb, eqb}
 use Rattle.little_endian.specs.Numbers.{u16At, u32At}
-use Rattle.records.specs.Records.{recordFits, recordRefusal, bodyBytes, recordsLength, lastKind, operationRefusal, operationOf, pointsOf, halfedgesOf, orElse, parseFrom, parseRecords, parseInput}
+use Rattle.records.specs.Records.{recordFits, recordRefusal, bodyBytes, recordsLength, lastKind, operationRefusal, operationIn, pointsIn, halfedgesIn, Refusal, none, orElse, refusalFrom, recordsRefusal, inputRefusal, refusedOr, parsedOf, parseInput}
 use Rattle.records.specs.declared.Parsed.{Parsed}
 use Rattle.records.specs.declared.Parsed.the-variants.{Input, Refused}
 
@@ -65,9 +65,9 @@ within s at kind bytes e =
 
 -- ---- the records in order
 
-pub refused : (number place : ℕ) (next : Parsed) → (number ≡ 0 → ⊥) → Refused number place ≡ orElse number place next
-refused zero place next f = absurd (f refl)
-refused (suc number) place next f = refl
+pub refused : (number place : ℕ) (next : Refusal) (o p n : ℕ) → (number ≡ 0 → ⊥) → Refused number place ≡ parsedOf (orElse number place next) o p n
+refused zero place next o p n f = absurd (f refl)
+refused (suc number) place next o p n f = refl
 
 module _ (p n k place bytes : ℕ) (e : place ≡ recordsLength p n k) (b : bytes ≡ bodyBytes p n (k + 1)) where
   pub next-place : place + 6 + bytes ≡ recordsLength p n (k + 1)
@@ -78,12 +78,12 @@ module _ (p n k place bytes : ℕ) (e : place ≡ recordsLength p n k) (b : byte
     one-more : last - k ≡ suc (last - (k + 1))
     one-more = omega arith
 
-    pub next-refused : (number : ℕ) → number ≡ recordRefusal s place (k + 1) bytes → (number ≡ 0 → ⊥) → Refused number place ≡ parseFrom s operation p n (last - k) k
-    unfolding parseFrom
-    next-refused number r f = rw one-more (rw (← e, ← add-one, ← b, ← r) (refused number place _ f))
+    pub next-refused : (number : ℕ) → number ≡ recordRefusal s place (k + 1) bytes → (number ≡ 0 → ⊥) → Refused number place ≡ parsedOf (refusalFrom s p n (last - k) k) operation p n
+    unfolding refusalFrom
+    next-refused number r f = rw one-more (rw (← e, ← add-one, ← b, ← r) (refused number place _ operation p n f))
 
-    pub next-record : recordRefusal s place (k + 1) bytes ≡ 0 → parseFrom s operation p n (last - (k + 1)) (k + 1) ≡ parseFrom s operation p n (last - k) k
-    unfolding parseFrom
+    pub next-record : recordRefusal s place (k + 1) bytes ≡ 0 → parsedOf (refusalFrom s p n (last - (k + 1)) (k + 1)) operation p n ≡ parsedOf (refusalFrom s p n (last - k) k) operation p n
+    unfolding refusalFrom
     next-record z =
         let y : recordRefusal s (recordsLength p n k) (suc k) (bodyBytes p n (suc k)) ≡ 0 = rw (← e, ← add-one k, ← b) z in
         rw (one-more, y, add-one)
@@ -93,12 +93,12 @@ module _ (s : List ℕ) (operation p n last k place : ℕ) (h : last ≤ k) (e :
   none-left : last - k ≡ 0
   none-left = omega arith
 
-  pub left-over : (place ≡ length s → ⊥) → Refused 24 place ≡ parseFrom s operation p n (last - k) k
-  unfolding parseFrom
+  pub left-over : (place ≡ length s → ⊥) → Refused 24 place ≡ parsedOf (refusalFrom s p n (last - k) k) operation p n
+  unfolding refusalFrom
   left-over f = rw (none-left, ← e, ne-eqb place (length s) f)
 
-  pub at-end : place ≡ length s → Input operation p n ≡ parseFrom s operation p n (last - k) k
-  unfolding parseFrom
+  pub at-end : place ≡ length s → Input operation p n ≡ parsedOf (refusalFrom s p n (last - k) k) operation p n
+  unfolding refusalFrom
   at-end f = rw (none-left, ← e, eq-eqb place (length s) f)
 
 last-from : (b : Bool) → (5 ≤ cond b 7 5) × (cond b 7 5 ≤ 7)
@@ -115,80 +115,90 @@ pub positions-at : (p n : ℕ) → 17 ≡ recordsLength p n 2
 unfolding recordsLength bodyBytes
 positions-at p n = refl
 
+-- the answer where this is the first no
+abbrev pub parsed : List ℕ → Refusal → Parsed
+parsed s refusal = parsedOf refusal (operationIn s) (pointsIn s) (halfedgesIn s)
+
 module _ (s : List ℕ) where
-  pub no-operation : (x : ℕ) → x ≡ recordRefusal s 0 1 1 → (x ≡ 0 → ⊥) → Refused x 0 ≡ parseRecords s
-  unfolding parseRecords
-  no-operation x e f = rw (← e) (refused x 0 _ f)
+  pub no-operation : (x : ℕ) → x ≡ recordRefusal s 0 1 1 → (x ≡ 0 → ⊥) → Refused x 0 ≡ parsed s (recordsRefusal s)
+  unfolding recordsRefusal
+  no-operation x e f = rw (← e) (refused x 0 _ _ _ _ f)
 
   module _ (a : recordRefusal s 0 1 1 ≡ 0) where
-    pub unknown-operation : (x : ℕ) → x ≡ operationRefusal (operationOf s) → (x ≡ 0 → ⊥) → Refused x 0 ≡ parseRecords s
-    unfolding parseRecords
-    unknown-operation x e f = rw (a, ← e) (refused x 0 _ f)
+    pub unknown-operation : (x : ℕ) → x ≡ operationRefusal (operationIn s) → (x ≡ 0 → ⊥) → Refused x 0 ≡ parsed s (recordsRefusal s)
+    unfolding recordsRefusal
+    unknown-operation x e f = rw (a, ← e) (refused x 0 _ _ _ _ f)
 
-    module _ (b : operationRefusal (operationOf s) ≡ 0) where
-      pub no-counts : (x : ℕ) → x ≡ recordRefusal s 7 2 4 → (x ≡ 0 → ⊥) → Refused x 7 ≡ parseRecords s
-      unfolding parseRecords
-      no-counts x e f = rw (a, b, ← e) (refused x 7 _ f)
+    module _ (b : operationRefusal (operationIn s) ≡ 0) where
+      pub no-counts : (x : ℕ) → x ≡ recordRefusal s 7 2 4 → (x ≡ 0 → ⊥) → Refused x 7 ≡ parsed s (recordsRefusal s)
+      unfolding recordsRefusal
+      no-counts x e f = rw (a, b, ← e) (refused x 7 _ _ _ _ f)
 
-      pub bodies-left : recordRefusal s 7 2 4 ≡ 0 → (p n : ℕ) → p ≡ pointsOf s → n ≡ halfedgesOf s → parseFrom s (operationOf s) p n (lastKind (operationOf s) - 2) 2 ≡ parseRecords s
-      unfolding parseRecords
+      pub bodies-left : recordRefusal s 7 2 4 ≡ 0 → (p n : ℕ) → p ≡ pointsIn s → n ≡ halfedgesIn s →
+          parsedOf (refusalFrom s p n (lastKind (operationIn s) - 2) 2) (operationIn s) p n ≡ parsed s (recordsRefusal s)
+      unfolding recordsRefusal
       bodies-left z p n e f = rw (a, b, z, e, f)
 
 -- ---- an input that is accepted
 
-pub passed-on : (x place : ℕ) (next : Parsed) (o p n : ℕ) → orElse x place next ≡ Input o p n → (x ≡ 0) × (next ≡ Input o p n)
-passed-on zero place next o p n e = (refl, e)
-passed-on (suc x) place next o p n e = let z : _≡_ {A = ℕ} 0 1 = cc in absurd (omega arith)
+-- no question before was answered no
+pub passed-on : (x place : ℕ) (next : Refusal) → orElse x place next .number ≡ 0 → (x ≡ 0) × (next .number ≡ 0)
+passed-on zero place next e = (refl, e)
+passed-on (suc x) place next e = absurd (omega arith)
+
+-- the number is 0, and the operation and the counts are those that were read
+pub record Through (x operation q m o p n : ℕ) : Type 0 where
+  pub no-number : x ≡ 0
+  pub same-operation : operation ≡ o
+  pub same-points : q ≡ p
+  pub same-halfedges : m ≡ n
+
+pub through : (x place operation q m o p n : ℕ) → refusedOr x place (Input operation q m) ≡ Input o p n → Through x operation q m o p n
+through zero place operation q m o p n e = record { no-number = refl; same-operation = cc; same-points = cc; same-halfedges = cc }
+through (suc x) place operation q m o p n e = let z : _≡_ {A = ℕ} 0 1 = cc in absurd (omega arith)
 
 pub passed-test : (b : Bool) (x : ℕ) → cond b 0 (suc x) ≡ 0 → b ≡ true
 passed-test true x e = refl
 passed-test false x e = absurd (omega arith)
 
--- the operation and the counts are those that were read, and the records fill the input
-record Whole (s : List ℕ) (more k operation p n o q m : ℕ) : Type 0 where
-  same-operation : operation ≡ o
-  same-points : p ≡ q
-  same-halfedges : n ≡ m
-  whole : length s ≡ recordsLength p n (k + more)
-
-accepted-from : (s : List ℕ) (operation p n more k o q m : ℕ) → parseFrom s operation p n more k ≡ Input o q m → Whole s more k operation p n o q m
-unfolding parseFrom
-accepted-from s operation p n zero k o q m e =
-    let z = passed-on _ _ (Input operation p n) o q m e in
-    let l = eqb-true _ _ (passed-test (eqb (recordsLength p n k) (length s)) 23 (z .0)) in
-    let i = z .1 in
-    record { same-operation = cc; same-points = cc; same-halfedges = cc; whole = rw add-zero (sym l) }
-accepted-from s operation p n (suc more) k o q m e =
-    let z = passed-on (recordRefusal s (recordsLength p n k) (suc k) (bodyBytes p n (suc k))) (recordsLength p n k) (parseFrom s operation p n more (suc k)) o q m e in
-    let w = accepted-from s operation p n more (suc k) o q m (z .1) in
-    record { same-operation = w .same-operation; same-points = w .same-points; same-halfedges = w .same-halfedges; whole = rw (add-suc, ← suc-add) (w .whole) }
+-- the records fill the input
+whole-from : (s : List ℕ) (p n more k : ℕ) → refusalFrom s p n more k .number ≡ 0 → length s ≡ recordsLength p n (k + more)
+unfolding refusalFrom
+whole-from s p n zero k e =
+    let z = passed-on _ _ none e in
+    rw add-zero (sym (eqb-true _ _ (passed-test (eqb (recordsLength p n k) (length s)) 23 (z .0))))
+whole-from s p n (suc more) k e =
+    let z = passed-on (recordRefusal s (recordsLength p n k) (suc k) (bodyBytes p n (suc k))) (recordsLength p n k) (refusalFrom s p n more (suc k)) e in
+    rw (add-suc, ← suc-add) (whole-from s p n more (suc k) (z .1))
 
 -- what is known of the answer of an accepted input
 pub record Accepted (s : List ℕ) (o p n : ℕ) : Type 0 where
   pub known : operationRefusal o ≡ 0
   pub whole : length s ≡ recordsLength p n (lastKind o)
 
-accepted-records : (s : List ℕ) (o p n : ℕ) → parseRecords s ≡ Input o p n → Accepted s o p n
-unfolding parseRecords
-accepted-records s o p n e =
-    let bodies = parseFrom s (operationOf s) (pointsOf s) (halfedgesOf s) (lastKind (operationOf s) - 2) 2 in
+accepted-records : (s : List ℕ) → recordsRefusal s .number ≡ 0 → Accepted s (operationIn s) (pointsIn s) (halfedgesIn s)
+unfolding recordsRefusal
+accepted-records s e =
+    let bodies = refusalFrom s (pointsIn s) (halfedgesIn s) (lastKind (operationIn s) - 2) 2 in
     let counts = orElse (recordRefusal s 7 2 4) 7 bodies in
-    let a = passed-on (recordRefusal s 0 1 1) 0 (orElse (operationRefusal (operationOf s)) 0 counts) o p n e in
-    let b = passed-on (operationRefusal (operationOf s)) 0 counts o p n (a .1) in
-    let d = passed-on (recordRefusal s 7 2 4) 7 bodies o p n (b .1) in
-    let w = accepted-from s (operationOf s) (pointsOf s) (halfedgesOf s) (lastKind (operationOf s) - 2) 2 o p n (d .1) in
-    let l = last-range (operationOf s) in
-    let g : 2 + (lastKind (operationOf s) - 2) ≡ lastKind (operationOf s) = omega arith in
-    record {
-      known = rw (w .same-operation) at (b .0);
-      whole = w .whole ∙ rw (g, w .same-operation, w .same-points, w .same-halfedges);
-    }
+    let a = passed-on (recordRefusal s 0 1 1) 0 (orElse (operationRefusal (operationIn s)) 0 counts) e in
+    let b = passed-on (operationRefusal (operationIn s)) 0 counts (a .1) in
+    let d = passed-on (recordRefusal s 7 2 4) 7 bodies (b .1) in
+    let l = last-range (operationIn s) in
+    let g : 2 + (lastKind (operationIn s) - 2) ≡ lastKind (operationIn s) = omega arith in
+    record { known = b .0; whole = whole-from s (pointsIn s) (halfedgesIn s) (lastKind (operationIn s) - 2) 2 (d .1) ∙ rw g }
+
+-- what got through
+pub got-through : (s : List ℕ) (o p n : ℕ) → parseInput s ≡ Input o p n → Through (inputRefusal s .number) (operationIn s) (pointsIn s) (halfedgesIn s) o p n
+unfolding parseInput
+got-through s o p n e = through _ (inputRefusal s .place) _ _ _ o p n e
 
 pub accepted : (s : List ℕ) (o p n : ℕ) → parseInput s ≡ Input o p n → (length s ≤ 65536) × Accepted s o p n
-unfolding parseInput
+unfolding inputRefusal
 accepted s o p n e =
-    let a = passed-on _ _ _ o p n e in
-    (leb-true (length s) 65536 (passed-test (leb (length s) 65536) 19 (a .0)), accepted-records s o p n (a .1))
+    let g = got-through s o p n e in
+    let a = passed-on _ _ (recordsRefusal s) (g .no-number) in
+    (leb-true (length s) 65536 (passed-test (leb (length s) 65536) 19 (a .0)), rw (g .same-operation, g .same-points, g .same-halfedges) at (accepted-records s (a .1)))
 
 -- ---- the places of the bodies
 

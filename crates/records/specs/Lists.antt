@@ -8,7 +8,7 @@ use lib.IntN.{ℤ}
 use lib.Ieee.{Float}
 use Rattle.little_endian.specs.Numbers.{f64Item, i32Item, byteItem}
 use Rattle.little_endian.specs.Filled.{filled}
-use Rattle.records.specs.Records.{recordsLength, bodyAt, orElse, parseInput}
+use Rattle.records.specs.Records.{recordsLength, bodyAt, Refusal, none, orElse, inputRefusal, operationIn, pointsIn, halfedgesIn, parsedOf}
 use Rattle.records.specs.declared.Parsed.{Parsed}
 use Rattle.records.specs.declared.Parsed.the-variants.{Input, Refused}
 
@@ -36,17 +36,18 @@ hasRoom operation p n positions halfedges tangents normals flags =
     && leb (ifSpread operation (3 * p)) normals
     && leb (ifSpread operation n) flags
 
--- The answer of a reading. A list too short, which no list of the program is, is 2 at 0, asked after 24.
-unfoldable pub withRoom : Lists → Parsed → Parsed
-withRoom L (Refused number place) = Refused number place
-withRoom L (Input operation p n) =
-    orElse
-    (cond (hasRoom operation p n (length (L .positions)) (length (L .halfedges)) (length (L .tangents)) (length (L .normals)) (length (L .flags))) 0 2)
-    0
-    (Input operation p n)
+-- Have the lists room for the input? 2 where not, else 0. The lists of the program always have.
+abbrev pub roomRefusal : List ℕ → Lists → ℕ
+roomRefusal s L =
+    cond (hasRoom (operationIn s) (pointsIn s) (halfedgesIn s) (length (L .positions)) (length (L .halfedges)) (length (L .tangents)) (length (L .normals)) (length (L .flags))) 0 2
 
+-- the first no of a reading: the room is asked about after the input, and has place 0
+unfoldable pub readRefusal : List ℕ → Lists → Refusal
+readRefusal s L = orElse (inputRefusal s .number) (inputRefusal s .place) (orElse (roomRefusal s L) 0 none)
+
+-- the answer of a reading
 unfoldable pub readAnswer : List ℕ → Lists → Parsed
-readAnswer s L = withRoom L (parseInput s)
+readAnswer s L = parsedOf (readRefusal s L) (operationIn s) (pointsIn s) (halfedgesIn s)
 
 -- What the lists hold after that answer: the numbers of the input s in front and the rest as lent, or all as lent where it is a refusal.
 unfoldable pub readLists : Parsed → List ℕ → Lists → Lists

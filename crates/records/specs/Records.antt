@@ -1,5 +1,6 @@
 -- The program's input as document 01 has it: records of a u32 body length, a u16 kind and the body, kinds 1, 2, 3, .. in order. An input is refused by the first question that is answered no: 20 to 24, with its place.
 use Prim.Native.Nat.{ℕ, zero, suc, _+_, _*_, _-_}
+use mathlib.Core.Path.{_≡_}
 use mathlib.Core.List.{List}
 use mathlib.Core.Bool.{Bool, cond, _&&_}
 use lib.ListN.{length, getD}
@@ -7,6 +8,32 @@ use lib.Dec.{leb, eqb}
 use Rattle.little_endian.specs.Numbers.{u16At, u32At}
 use Rattle.records.specs.declared.Parsed.{Parsed}
 use Rattle.records.specs.declared.Parsed.the-variants.{Input, Refused}
+
+-- ---- document 01's values of an answer
+
+-- number and place of a refusal; 0 for an input that got through
+abbrev pub numberOf : Parsed → ℕ
+numberOf (Input operation p n) = 0
+numberOf (Refused number place) = number
+
+abbrev pub placeOf : Parsed → ℕ
+placeOf (Input operation p n) = 0
+placeOf (Refused number place) = place
+
+-- the operation and the counts of points and halfedges; 0 for a refusal, which has none
+abbrev pub operationOf : Parsed → ℕ
+operationOf (Input operation p n) = operation
+operationOf (Refused number place) = 0
+
+abbrev pub pointsOf : Parsed → ℕ
+pointsOf (Input operation p n) = p
+pointsOf (Refused number place) = 0
+
+abbrev pub halfedgesOf : Parsed → ℕ
+halfedgesOf (Input operation p n) = n
+halfedgesOf (Refused number place) = 0
+
+-- ---- the records
 
 -- the longest input of the program
 abbrev pub maxInput : ℕ
@@ -60,41 +87,76 @@ lastKind operation = cond (eqb operation 2) 7 5
 unfoldable pub operationRefusal : ℕ → ℕ
 operationRefusal operation = cond (leb 1 operation && leb operation 3) 0 23
 
--- a refusal's number and its place, or what follows where the number is 0
-abbrev pub orElse : ℕ → ℕ → Parsed → Parsed
-orElse zero place next = next
-orElse (suc number) place next = Refused (suc number) place
+-- ---- the first question that is answered no
 
--- the records of the kinds k + 1, k + 2, .., so many, and then the end of the input (24)
-unfoldable pub parseFrom : List ℕ → ℕ → ℕ → ℕ → ℕ → ℕ → Parsed
-parseFrom s operation p n zero k =
-    orElse (cond (eqb (recordsLength p n k) (length s)) 0 24) (recordsLength p n k) (Input operation p n)
-parseFrom s operation p n (suc more) k =
+-- its number and place; both 0 where each is answered yes
+pub record Refusal : Type 0 where
+  pub number : ℕ
+  pub place : ℕ
+
+abbrev pub none : Refusal
+none = record { number = 0; place = 0 }
+
+-- a no's number and its place, or what follows where the number is 0
+abbrev pub orElse : ℕ → ℕ → Refusal → Refusal
+orElse zero place next = next
+orElse (suc number) place next = record { number = suc number; place = place }
+
+-- the first no of the records of the kinds k + 1, k + 2, .., so many, and then of the end of the input (24)
+unfoldable pub refusalFrom : List ℕ → ℕ → ℕ → ℕ → ℕ → Refusal
+refusalFrom s p n zero k = orElse (cond (eqb (recordsLength p n k) (length s)) 0 24) (recordsLength p n k) none
+refusalFrom s p n (suc more) k =
     orElse (recordRefusal s (recordsLength p n k) (suc k) (bodyBytes p n (suc k))) (recordsLength p n k)
-    (parseFrom s operation p n more (suc k))
+    (refusalFrom s p n more (suc k))
 
 -- where the record of the counts is
 abbrev pub countsAt : ℕ
 countsAt = headerBytes + 1
 
 -- the bodies of the first two records: the operation, and the two counts
-abbrev pub operationOf : List ℕ → ℕ
-operationOf s = getD s headerBytes 0
+abbrev pub operationIn : List ℕ → ℕ
+operationIn s = getD s headerBytes 0
 
-abbrev pub pointsOf : List ℕ → ℕ
-pointsOf s = u16At s (countsAt + headerBytes)
+abbrev pub pointsIn : List ℕ → ℕ
+pointsIn s = u16At s (countsAt + headerBytes)
 
-abbrev pub halfedgesOf : List ℕ → ℕ
-halfedgesOf s = u16At s (countsAt + headerBytes + 2)
+abbrev pub halfedgesIn : List ℕ → ℕ
+halfedgesIn s = u16At s (countsAt + headerBytes + 2)
 
--- the records of an input of any length
-unfoldable pub parseRecords : List ℕ → Parsed
-parseRecords s =
+-- the first no of the records of an input of any length
+unfoldable pub recordsRefusal : List ℕ → Refusal
+recordsRefusal s =
     orElse (recordRefusal s 0 1 1) 0
-    (orElse (operationRefusal (operationOf s)) 0
+    (orElse (operationRefusal (operationIn s)) 0
     (orElse (recordRefusal s countsAt 2 4) countsAt
-    (parseFrom s (operationOf s) (pointsOf s) (halfedgesOf s) (lastKind (operationOf s) - 2) 2)))
+    (refusalFrom s (pointsIn s) (halfedgesIn s) (lastKind (operationIn s) - 2) 2)))
 
--- the program's input: too long is 20 at 0
+-- the first no of the program's input: too long is 20 at 0
+unfoldable pub inputRefusal : List ℕ → Refusal
+inputRefusal s = orElse (cond (leb (length s) maxInput) 0 20) 0 (recordsRefusal s)
+
+-- ---- the answer
+
+-- a refusal, or the operation and the counts where the number is 0
+abbrev pub refusedOr : ℕ → ℕ → Parsed → Parsed
+refusedOr zero place input = input
+refusedOr (suc number) place input = Refused (suc number) place
+
+abbrev pub parsedOf : Refusal → ℕ → ℕ → ℕ → Parsed
+parsedOf refusal operation p n = refusedOr (refusal .number) (refusal .place) (Input operation p n)
+
 unfoldable pub parseInput : List ℕ → Parsed
-parseInput s = orElse (cond (leb (length s) maxInput) 0 20) 0 (parseRecords s)
+parseInput s = parsedOf (inputRefusal s) (operationIn s) (pointsIn s) (halfedgesIn s)
+
+-- a value of an answer: 0 where there is a refusal
+abbrev pub unlessRefused : ℕ → ℕ → ℕ
+unlessRefused zero value = value
+unlessRefused (suc number) value = 0
+
+-- what holds of each answer r, where this is the first no, and o, p and n are the operation and the counts of points and halfedges that were read
+pub record Values (refusal : Refusal) (o p n : ℕ) (r : Parsed) : Type 0 where
+  pub number : numberOf r ≡ refusal .number
+  pub place : placeOf r ≡ refusal .place
+  pub operation : operationOf r ≡ unlessRefused (refusal .number) o
+  pub points : pointsOf r ≡ unlessRefused (refusal .number) p
+  pub halfedges : halfedgesOf r ≡ unlessRefused (refusal .number) n

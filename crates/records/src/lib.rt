@@ -4,8 +4,8 @@ ghost use Prim.Native.Nat.{_+_, _*_, _<_, _≤_, _^_, _-_};
 ghost use lib.ListN.{length};
 ghost use Rattle.little_endian.specs.Numbers.{f64Item, i32Item, byteItem};
 ghost use Rattle.little_endian.specs.Filled.{filled};
-ghost use Rattle.records.specs.Records.{recordRefusal, bodyBytes, bodyAt, lastKind, operationRefusal, parseFrom, parseRecords, parseInput};
-ghost use Rattle.records.specs.Lists.{MeshRoom, SpreadRoom, ifSpread, hasRoom, listsOf, readAnswer, readLists};
+ghost use Rattle.records.specs.Records.{recordRefusal, bodyBytes, bodyAt, lastKind, operationRefusal, refusalFrom, recordsRefusal, operationIn, pointsIn, halfedgesIn, parsedOf, parseInput, Values};
+ghost use Rattle.records.specs.Lists.{MeshRoom, SpreadRoom, ifSpread, hasRoom, listsOf, readRefusal, readAnswer, readLists};
 
 // The longest input of the program.
 pub const MAX_INPUT: usize = 65536;
@@ -111,7 +111,7 @@ fn operation_refusal(operation: u8) -> usize
 // The records after the counts, and the end of the input.
 fn parse_bodies(s: &[u8], operation: u8, points: usize, halfedges: usize) -> Parsed
     requires { ⌜ (points < 2 ^ 32) × (halfedges < 2 ^ 32) × (17 ≤ length (now s)) ⌝ }
-    ensures { λ r. ⌜ r ≡ parseFrom (now (s .entry)) operation points halfedges (lastKind operation - 2) 2 ⌝ }
+    ensures { λ r. ⌜ r ≡ parsedOf (refusalFrom (now (s .entry)) points halfedges (lastKind operation - 2) 2) operation points halfedges ⌝ }
 {
     let last = last_kind(operation);
     let mut kind = 2;
@@ -137,7 +137,7 @@ fn parse_bodies(s: &[u8], operation: u8, points: usize, halfedges: usize) -> Par
 
 // The records of an input of any length.
 fn parse_records(s: &[u8]) -> Parsed
-    ensures { λ r. ⌜ r ≡ parseRecords (now (s .entry)) ⌝ }
+    ensures { λ r. ⌜ r ≡ parsedOf (recordsRefusal (now (s .entry))) (operationIn (now (s .entry))) (pointsIn (now (s .entry))) (halfedgesIn (now (s .entry))) ⌝ }
 {
     let first = record_refusal(s, 0, 1, 1);
     if first != 0 {
@@ -257,6 +257,7 @@ pub fn read_input(
     ensures answer { λ r. ⌜ r ≡ readAnswer (now (input .entry)) (listsOf (now (pos .entry)) (now (h .entry)) (now (t .entry)) (now (vn .entry)) (now (flags .entry))) ⌝ }
     ensures lists { λ r. ⌜ listsOf (now (pos .exit)) (now (h .exit)) (now (t .exit)) (now (vn .exit)) (now (flags .exit))
         ≡ readLists r (now (input .entry)) (listsOf (now (pos .entry)) (now (h .entry)) (now (t .entry)) (now (vn .entry)) (now (flags .entry))) ⌝ }
+    ensures values { λ r. ⌜ Values (readRefusal (now (input .entry)) (listsOf (now (pos .entry)) (now (h .entry)) (now (t .entry)) (now (vn .entry)) (now (flags .entry)))) (operationIn (now (input .entry))) (pointsIn (now (input .entry))) (halfedgesIn (now (input .entry))) r ⌝ }
 {
     let parsed = parse_input(input);
     let Parsed::Input {

@@ -1,6 +1,8 @@
 -- `operations::check` meets its contract. Assumes nothing.
 use native.Mathlib.Omega.{arith}
 use Prim.Native.Nat.{_*_}
+use mathlib.Core.Path.{_≡_}
+use Rattle.validate.specs.Validate.{validAnswer}
 use Rattle.little_endian.proofs.Fronts.{front}
 use lib.ListN.{take}
 use Rattle.operations.proofs.Shown.{check-shows}
@@ -36,8 +38,11 @@ returns : tie.Need-returns
 returns c =
     let a = c .before .before .before .before .before .before .before .args in
     let v = c .before .valid-tangents in
-    check-shows (take (3 * a .n) (a .h .now)) (take (3 * a .p) (a .pos .now)) (take (4 * a .n) (a .t .now)) (a .n) (a .p) (v .result) (c .check-output .result) (a .t .now)
-    (c .check-output .ensures) (v .ensures)
+    let H = take (3 * a .n) (a .h .now) in
+    let P = take (3 * a .p) (a .pos .now) in
+    let T = take (4 * a .n) (a .t .now) in
+    let answer : v .result ≡ validAnswer H P T (a .n) (a .p) = v .ensures .0 in
+    check-shows H P T (a .n) (a .p) (v .result) (c .check-output .result) (a .t .now) (c .check-output .ensures) answer
 
 pub check-spec : {M : Type 1} → statement M
 check-spec =

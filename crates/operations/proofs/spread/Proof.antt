@@ -5,7 +5,7 @@ use Prim.Native.Nat.{_*_}
 use lib.ListN.{take, drop}
 use lib.Seq.{length-take-le}
 use Rattle.little_endian.proofs.Fronts.{front}
-use Rattle.operations.proofs.Shown.{spread-shows}
+use Rattle.operations.proofs.Shown.{spread-shows, spread-tangents, spread-scratch}
 use borrow.Author.Needs.{needs}
 use Rattle.operations.proofs.spread.Statement.{statement}
 use Rattle.operations.proofs.spread.Tie as tie
@@ -67,10 +67,20 @@ same-length-3 c = search needs
 returns : tie.Need-returns
 returns c =
     let a = c .before .before .before .before .before .before .before .before .before .before .before .before .before .before .before .before .before .before .before .before .before .args in
+    let i = c .before .before .before .before .before .before .before .before .before .before .before .before .before .before .before .before .before .before .before .before .before .pre in
     let d = c .before .before .before .before .before .before .before .distribute-tangents in
-    spread-shows (take (3 * a .n) (a .h .now)) (take (3 * a .p) (a .pos .now)) (take (3 * a .p) (a .normals .now)) (take (a .n) (a .flags .now)) (take (4 * a .n) (a .t .now)) (take (a .n) (a .current .now)) (take (a .n) (a .desired .now)) (a .n) (a .p) (d .result) (c .spread-output .result) (d .last .1 .1 .1 .1 .1 .1 .0) (drop (4 * a .n) (a .t .now))
-    (length-take-le (a .n) (a .current .now) (omega (arith, c .before .before .before .before .before .before .before .before .before .before .before .before .before .before .before .before .before .before .before .before .before .pre .current-in))) (length-take-le (a .n) (a .desired .now) (omega (arith, c .before .before .before .before .before .before .before .before .before .before .before .before .before .before .before .before .before .before .before .before .before .pre .desired-in)))
-    (c .spread-output .ensures) (d .ensures .0) (d .ensures .1 .0) (d .kept .1 .1 .1 .1 .1 .1 .0 ∙ length-take-le (4 * a .n) (a .t .now) (omega (arith, c .before .before .before .before .before .before .before .before .before .before .before .before .before .before .before .before .before .before .before .before .before .pre .mesh-in .tangents-in)))
+    let H = take (3 * a .n) (a .h .now) in
+    let P = take (3 * a .p) (a .pos .now) in
+    let N = take (3 * a .p) (a .normals .now) in
+    let F = take (a .n) (a .flags .now) in
+    let T = take (4 * a .n) (a .t .now) in
+    let C = take (a .n) (a .current .now) in
+    let D = take (a .n) (a .desired .now) in
+    let lc = length-take-le (a .n) (a .current .now) (omega (arith, i .current-in)) in
+    let ld = length-take-le (a .n) (a .desired .now) (omega (arith, i .desired-in)) in
+    let shown = spread-shows H P N F T C D (a .n) (a .p) (d .result) (c .spread-output .result) (d .last .1 .1 .1 .1 .1 .1 .0) (drop (4 * a .n) (a .t .now)) lc ld
+    (c .spread-output .ensures) (d .ensures .0) (d .ensures .1 .0) (d .kept .1 .1 .1 .1 .1 .1 .0 ∙ length-take-le (4 * a .n) (a .t .now) (omega (arith, i .mesh-in .tangents-in))) in
+    (shown, (spread-tangents H P N F T C D (a .n) (a .p) lc ld _ _ (d .ensures .1 .0), (spread-scratch H P N F T C D (a .n) (a .p) lc ld _ _ (d .ensures .1 .1 .0), spread-scratch H P N F T C D (a .n) (a .p) lc ld _ _ (d .ensures .1 .1 .1 .0))))
 
 pub spread-spec : {M : Type 1} → statement M
 spread-spec =

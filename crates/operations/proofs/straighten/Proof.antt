@@ -1,11 +1,12 @@
 -- `operations::straighten` meets its contract: the part of the tangents that was lent comes back in front of the rest. Assumes nothing.
 use native.Mathlib.Omega.{arith}
-use mathlib.Core.Path.{_∙_}
+use mathlib.Core.Path.{_≡_, _∙_}
+use Rattle.operations.specs.Operations.{straightenTangents}
 use Prim.Native.Nat.{_*_}
 use lib.ListN.{take, drop}
 use lib.Seq.{length-take-le}
 use Rattle.little_endian.proofs.Fronts.{front}
-use Rattle.operations.proofs.Shown.{straighten-shows}
+use Rattle.operations.proofs.Shown.{straighten-shows, front-left}
 use borrow.Author.Needs.{needs}
 use Rattle.operations.proofs.straighten.Statement.{statement}
 use Rattle.operations.proofs.straighten.Tie as tie
@@ -44,8 +45,16 @@ returns : tie.Need-returns
 returns c =
     let a = c .before .before .before .before .before .before .before .before .before .args in
     let l = c .before .before .before .linearize-flat-tangents in
-    straighten-shows (take (3 * a .n) (a .h .now)) (take (3 * a .p) (a .pos .now)) (take (4 * a .n) (a .t .now)) (a .n) (a .p) (l .result) (c .straighten-output .result) (l .last .1 .1 .1 .1 .0) (drop (4 * a .n) (a .t .now))
-    (c .straighten-output .ensures) (l .ensures .0) (l .ensures .1) (l .kept .1 .1 .1 .1 .0 ∙ length-take-le (4 * a .n) (a .t .now) (omega (arith, c .before .before .before .before .before .before .before .before .before .pre .tangents-in)))
+    let H = take (3 * a .n) (a .h .now) in
+    let P = take (3 * a .p) (a .pos .now) in
+    let T = take (4 * a .n) (a .t .now) in
+    let after = l .last .1 .1 .1 .1 .0 in
+    let rest = drop (4 * a .n) (a .t .now) in
+    let left : after ≡ straightenTangents H P T (a .n) (a .p) = l .ensures .1 .0 in
+    let length-left = l .kept .1 .1 .1 .1 .0 ∙ length-take-le (4 * a .n) (a .t .now) (omega (arith, c .before .before .before .before .before .before .before .before .before .pre .tangents-in)) in (
+      straighten-shows H P T (a .n) (a .p) (l .result) (c .straighten-output .result) after rest (c .straighten-output .ensures) (l .ensures .0) left length-left,
+      front-left after (straightenTangents H P T (a .n) (a .p)) rest left,
+    )
 
 pub straighten-spec : {M : Type 1} → statement M
 straighten-spec =

@@ -1,5 +1,5 @@
 -- `records::parse_bodies` meets its contract: before each turn `place` is where the next record is due, and what is left to parse is the answer. Assumes nothing.
-use Rattle.records.specs.Records.{recordsLength, lastKind, parseFrom}
+use Rattle.records.specs.Records.{recordsLength, lastKind, refusalFrom, parsedOf}
 use Rattle.records.proofs.Parse.{next-refused, next-place, next-record, within, left-over, at-end, last-range, positions-at}
 use lib.ListN.{length}
 use mathlib.Core.Path.{_≡_, sym, _∙_}
@@ -13,7 +13,7 @@ Inv-loop s operation points halfedges last kind₀ place₀ kind place =
     (kind ≤ last)
     × (place ≡ recordsLength points halfedges kind)
     × (place ≤ length s)
-    × (parseFrom s operation points halfedges (last - kind) kind ≡ parseFrom s operation points halfedges (lastKind operation - 2) 2)
+    × (parsedOf (refusalFrom s points halfedges (last - kind) kind) operation points halfedges ≡ parsedOf (refusalFrom s points halfedges (lastKind operation - 2) 2) operation points halfedges)
 
 abbrev μ-loop : tie.MeasureT-loop
 μ-loop s operation points halfedges last kind₀ place₀ kind place = last - kind

@@ -1,7 +1,7 @@
 -- `records::read_input` meets its contract: a refusal goes back with the lists as lent, and an accepted input fills them. Assumes nothing.
 use Rattle.records.specs.Lists.{listsOf}
 use Rattle.records.proofs.Parse.{few}
-use Rattle.records.proofs.Read.{goes-back, as-lent, no-room, read, mesh-room, spread-room, spread-lists, mesh-lists}
+use Rattle.records.proofs.Read.{read-values, goes-back, lists-go-back, as-lent, no-room, read, mesh-room, spread-room, spread-lists, mesh-lists}
 use borrow.Author.Tests.{not-true, not-false}
 use mathlib.Core.Path.{sym, _∙_}
 use borrow.Author.Needs.{needs}
@@ -20,7 +20,11 @@ enum-told c = search needs
 returns : tie.Need-returns
 returns c =
     let a = c .before .before .before .before .before .before .before .before .args in
-    goes-back (a .input .now) (listsOf (a .pos .now) (a .h .now) (a .t .now) (a .vn .now) (a .flags .now)) (c .before .before .parse-input .result) (c .enum-told .given .0 .0) (c .enum-told .given .0 .1 .0) (c .before .before .parse-input .ensures) (c .enum-told .given .1)
+    let L = listsOf (a .pos .now) (a .h .now) (a .t .now) (a .vn .now) (a .flags .now) in
+    let r = c .before .before .parse-input in
+    let g = c .enum-told .given in
+    let e = goes-back (a .input .now) L (r .result) (g .0 .0) (g .0 .1 .0) (r .ensures) (g .1) in
+    (e, (lists-go-back (a .input .now) L (r .result) (g .0 .0) (g .0 .1 .0) (r .ensures) (g .1), read-values _ _ _ e))
 
 has-room-requires : tie.Need-has-room-requires
 has-room-requires c κs =
@@ -31,7 +35,8 @@ returns-2 : tie.Need-returns-2
 returns-2 c =
     let a = c .before .before .before .before .before .before .before .before .before .before .before .args in
     let g = c .before .before .before .parsed .given in
-    (no-room (a .input .now) (a .pos .now) (a .h .now) (a .t .now) (a .vn .now) (a .flags .now) (g .0 .0) (g .0 .1 .0) (g .0 .1 .1 .0) (sym (g .1) ∙ c .before .before .before .before .before .parse-input .ensures) (c .before .has-room .result) (c .before .has-room .ensures) (not-true _ (c .if1 .taken)), as-lent (a .input .now) (listsOf (a .pos .now) (a .h .now) (a .t .now) (a .vn .now) (a .flags .now)) 2 0)
+    let e = no-room (a .input .now) (a .pos .now) (a .h .now) (a .t .now) (a .vn .now) (a .flags .now) (g .0 .0) (g .0 .1 .0) (g .0 .1 .1 .0) (sym (g .1) ∙ c .before .before .before .before .before .parse-input .ensures) (c .before .has-room .result) (c .before .has-room .ensures) (not-true _ (c .if1 .taken)) in
+    (e, (as-lent (a .input .now) (listsOf (a .pos .now) (a .h .now) (a .t .now) (a .vn .now) (a .flags .now)) 2 0, read-values _ _ _ e))
 
 fill-mesh-requires : tie.Need-fill-mesh-requires
 fill-mesh-requires c κs =
@@ -68,10 +73,9 @@ returns-3 c =
     let g = c .before .before .before .before .before .before .before .before .before .before .before .before .before .before .before .before .before .before .before .before .parsed .given in
     let r = c .before .before .before .before .before .before .before .before .before .before .before .before .before .before .before .before .before .before .has-room in
     let f = c .before .before .before .before .before .before .before .before .before .before .before .before .before .fill-mesh in
-    let w = c .before .before .before .before .fill-spread in (
-      read (a .input .now) (a .pos .now) (a .h .now) (a .t .now) (a .vn .now) (a .flags .now) (g .0 .0) (g .0 .1 .0) (g .0 .1 .1 .0) (sym (g .1) ∙ c .before .before .before .before .before .before .before .before .before .before .before .before .before .before .before .before .before .before .before .before .before .before .parse-input .ensures) (r .result) (r .ensures) (not-false _ (c .before .before .before .before .before .before .before .before .before .before .before .before .before .before .before .before .before .if1 .left)),
-      spread-lists (a .input .now) (a .pos .now) (a .h .now) (a .t .now) (a .vn .now) (a .flags .now) (g .0 .0) (g .0 .1 .0) (g .0 .1 .1 .0) (sym (g .1) ∙ c .before .before .before .before .before .before .before .before .before .before .before .before .before .before .before .before .before .before .before .before .before .before .parse-input .ensures) (r .result) (r .ensures) (not-false _ (c .before .before .before .before .before .before .before .before .before .before .before .before .before .before .before .before .before .if1 .left)) (c .before .before .before .before .before .before .before .if2 .taken) _ _ _ _ _ (f .ensures .0) (f .ensures .1) (f .ensures .2) (w .ensures .0) (w .ensures .1),
-    )
+    let w = c .before .before .before .before .fill-spread in
+    let e = read (a .input .now) (a .pos .now) (a .h .now) (a .t .now) (a .vn .now) (a .flags .now) (g .0 .0) (g .0 .1 .0) (g .0 .1 .1 .0) (sym (g .1) ∙ c .before .before .before .before .before .before .before .before .before .before .before .before .before .before .before .before .before .before .before .before .before .before .parse-input .ensures) (r .result) (r .ensures) (not-false _ (c .before .before .before .before .before .before .before .before .before .before .before .before .before .before .before .before .before .if1 .left)) in
+    (e, (spread-lists (a .input .now) (a .pos .now) (a .h .now) (a .t .now) (a .vn .now) (a .flags .now) (g .0 .0) (g .0 .1 .0) (g .0 .1 .1 .0) (sym (g .1) ∙ c .before .before .before .before .before .before .before .before .before .before .before .before .before .before .before .before .before .before .before .before .before .before .parse-input .ensures) (r .result) (r .ensures) (not-false _ (c .before .before .before .before .before .before .before .before .before .before .before .before .before .before .before .before .before .if1 .left)) (c .before .before .before .before .before .before .before .if2 .taken) _ _ _ _ _ (f .ensures .0) (f .ensures .1) (f .ensures .2) (w .ensures .0) (w .ensures .1), read-values _ _ _ e))
 
 same-length-6 : tie.Need-same-length-6
 same-length-6 c = search needs
@@ -87,10 +91,9 @@ returns-4 c =
     let a = c .before .before .before .before .before .before .before .before .before .before .before .before .before .before .before .before .before .before .before .before .before .args in
     let g = c .before .before .before .before .before .before .before .before .before .before .before .before .before .parsed .given in
     let r = c .before .before .before .before .before .before .before .before .before .before .before .has-room in
-    let f = c .before .before .before .before .before .before .fill-mesh in (
-      read (a .input .now) (a .pos .now) (a .h .now) (a .t .now) (a .vn .now) (a .flags .now) (g .0 .0) (g .0 .1 .0) (g .0 .1 .1 .0) (sym (g .1) ∙ c .before .before .before .before .before .before .before .before .before .before .before .before .before .before .before .parse-input .ensures) (r .result) (r .ensures) (not-false _ (c .before .before .before .before .before .before .before .before .before .before .if1 .left)),
-      mesh-lists (a .input .now) (a .pos .now) (a .h .now) (a .t .now) (a .vn .now) (a .flags .now) (g .0 .0) (g .0 .1 .0) (g .0 .1 .1 .0) (sym (g .1) ∙ c .before .before .before .before .before .before .before .before .before .before .before .before .before .before .before .parse-input .ensures) (r .result) (r .ensures) (not-false _ (c .before .before .before .before .before .before .before .before .before .before .if1 .left)) (c .if2 .left) _ _ _ (f .ensures .0) (f .ensures .1) (f .ensures .2),
-    )
+    let f = c .before .before .before .before .before .before .fill-mesh in
+    let e = read (a .input .now) (a .pos .now) (a .h .now) (a .t .now) (a .vn .now) (a .flags .now) (g .0 .0) (g .0 .1 .0) (g .0 .1 .1 .0) (sym (g .1) ∙ c .before .before .before .before .before .before .before .before .before .before .before .before .before .before .before .parse-input .ensures) (r .result) (r .ensures) (not-false _ (c .before .before .before .before .before .before .before .before .before .before .if1 .left)) in
+    (e, (mesh-lists (a .input .now) (a .pos .now) (a .h .now) (a .t .now) (a .vn .now) (a .flags .now) (g .0 .0) (g .0 .1 .0) (g .0 .1 .1 .0) (sym (g .1) ∙ c .before .before .before .before .before .before .before .before .before .before .before .before .before .before .before .parse-input .ensures) (r .result) (r .ensures) (not-false _ (c .before .before .before .before .before .before .before .before .before .before .if1 .left)) (c .if2 .left) _ _ _ (f .ensures .0) (f .ensures .1) (f .ensures .2), read-values _ _ _ e))
 
 pub read-input-spec : {M : Type 1} → statement M
 read-input-spec =

@@ -35,7 +35,7 @@ slice-aggregate-write : tie.Need-slice-aggregate-write
 slice-aggregate-write c = search needs
 
 write-requires : tie.Need-write-requires
-write-requires c κs = let a = c .before .before .before .before .before .before .before .before .before .answer in omega (arith, a .ensures .within, a .kept .1 .1 .1 .1 .1 .1 .1 .1 .0)
+write-requires c κs = let a = c .before .before .before .before .before .before .before .before .before .answer in omega (arith, a .ensures .0 .within, a .kept .1 .1 .1 .1 .1 .1 .1 .1 .0)
 
 returns : tie.Need-returns
 returns c = search needs
