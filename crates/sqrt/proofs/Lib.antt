@@ -1,10 +1,11 @@
 -- The laws that the proofs of `sqrt` share, and the theorems: `Nearest` proves the claims of `specs/Nearest.antt`.
 pub mod Squares
-mod StepLaws
+mod Newton
+mod Reciprocals
+mod LastBits
 mod Normalization
-mod Ranges
 mod Rounding
-mod Encoding
+pub mod Encoding
 mod RootEncoding
 mod Comparisons
 pub mod Nearest

@@ -1,27 +1,38 @@
 -- The definitions that the contracts of the private functions cite. Definitions only; nothing here is part of what `sqrt::sqrt` promises.
 use mathlib.Core.Path.{_≡_}
-use Prim.Native.Nat.{ℕ, zero, suc, _+_, _-_, _*_, _/_, _%_, _^_, _≤_, _<_}
+use Prim.Native.Nat.{ℕ, zero, suc, _+_, _*_, _/_, _%_, _^_, _≤_, _<_}
 
 -- s is the integer square root of n
 pub record FloorSqrt (n s : ℕ) : Type 0 where
   pub at-most : s * s ≤ n
   pub above : n < (s + 1) * (s + 1)
 
--- the same with the remainder r
-pub record IsSqrtRem (n s r : ℕ) : Type 0 where
-  pub same : s * s + r ≡ n
-  pub remainder : r ≤ 2 * s
+-- n lies in the segment i of 128: segments 0 to 63 are of the numbers of 54 bits, by the 6 bits below the leading one, 64 to 127 those of 53 bits
+pub record InSegment (i n : ℕ) : Type 0 where
+  pub place : i < 128
+  pub wide : i < 64 → ((128 + 2 * i) * 2 ^ 46 ≤ n) × (n < (130 + 2 * i) * 2 ^ 46)
+  pub narrow : 64 ≤ i → (i * 2 ^ 46 ≤ n) × (n < (i + 1) * 2 ^ 46)
 
--- g is the integer square root of each number from 16 * i to 16 * i + 15, or one more, and has 7 bits
-pub record Estimate (i g : ℕ) : Type 0 where
-  pub least : 64 ≤ g
-  pub most : g ≤ 127
-  pub low : (g - 1) * (g - 1) ≤ 16 * i
-  pub high : 16 * i + 15 < (g + 1) * (g + 1)
+-- t * t * n is within a 128th of 2 ^ 84 at both ends of the segment i, and c is t * t * t / 2 ^ 16 or above it by at most 1
+pub record Seed (i t c : ℕ) : Type 0 where
+  pub wide : i < 64 → (127 * 2 ^ 31 ≤ t * t * (128 + 2 * i)) × (t * t * (130 + 2 * i) ≤ 129 * 2 ^ 31)
+  pub narrow : 64 ≤ i → (127 * 2 ^ 31 ≤ t * t * i) × (t * t * (i + 1) ≤ 129 * 2 ^ 31)
+  pub cube : t * t * t ≤ c * 2 ^ 16
+  pub tight : c * 2 ^ 16 ≤ t * t * t + 2 ^ 16
 
--- what Zimmermann's step takes: s * s + r by its root and remainder, and two further digits a1 and a0 in the base b
-abbrev pub StepInput : ℕ → ℕ → ℕ → ℕ → ℕ → Type 0
-StepInput s r b a1 a0 = (s < 2 ^ 27) × (r ≤ 2 * s) × (b ≤ 2 * s) × (b ≤ 2 ^ 27) × (a1 < b) × (a0 < b)
+-- r is below 2 ^ 58 / √n, and r * r * n is below 2 ^ 116 by e at most
+pub record Reciprocal (n r e : ℕ) : Type 0 where
+  pub below : r * r * n < 2 ^ 116
+  pub near : 2 ^ 116 ≤ r * r * n + e
+
+-- s is at most √(1024 * n), with a remainder of at most 47 * s, and r is close to 2 ^ 63 / s
+pub record RootEstimate (n s r : ℕ) : Type 0 where
+  pub least : 2 ^ 52 ≤ n
+  pub below : n < 2 ^ 54
+  pub root : s * s ≤ 1024 * n
+  pub remainder : 1024 * n ≤ s * s + 47 * s
+  pub reciprocal : r * r * n < 2 ^ 116
+  pub product : 2 ^ 63 ≤ s * r + 20 * 2 ^ 32
 
 -- the bits of positive infinity: those of a finite value with no sign are below it
 abbrev pub infinityBits : ℕ

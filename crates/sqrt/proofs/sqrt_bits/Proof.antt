@@ -1,41 +1,44 @@
 -- `sqrt::sqrt_bits` meets its contract, by the laws of `proofs/RootEncoding.antt`. Assumes nothing.
 use borrow.Author.Needs.{needs}
-use Prim.Native.Nat.{_%_}
+use mathlib.Core.Path.{_≡_, sym, ap, _∙_, subst}
+use Prim.Native.Nat.{ℕ, _+_, _*_, _/_, _%_, _^_, _<_}
 use native.Mathlib.Omega.{arith}
-use Rattle.sqrt.proofs.RootEncoding.{Bits54, doubled, mod-two, bits54, encoded-root}
+use lib.Ieee.{binary64, ofBits}
+use Rattle.sqrt.specs.Sqrt.{isqrt, squareRoot}
+use Rattle.sqrt.specs.Steps.{InSegment, infinityBits, IsNormalized}
+use Rattle.sqrt.proofs.Squares.{isqrt-floor}
+use Rattle.sqrt.proofs.Reciprocals.{in-segment}
+use Rattle.sqrt.proofs.RootEncoding.{mod-two, bits54, encoded-root}
 use Rattle.sqrt.proofs.sqrt_bits.Statement.{statement}
 use Rattle.sqrt.proofs.sqrt_bits.Tie as tie
 
-normalize-requires : tie.Need-normalize-requires
-normalize-requires c κs = search needs
+-- the bits r of the root are finite, and encode the root of the value with the bits b
+abbrev Encodes : ℕ → ℕ → Type 0
+Encodes b r = (r < infinityBits) × (ofBits binary64 r ≡ squareRoot binary64 (ofBits binary64 b))
 
-add-sqrt-54 : tie.Need-add-sqrt-54
-add-sqrt-54 c = search needs
+module _ (b m f n q : ℕ) (h : b < infinityBits) (x : IsNormalized b m f) (n-is : n ≡ m * (f % 2 + 1)) (q-is : q ≡ (isqrt (n * 2 ^ 54) + 1) / 2) where
+  root-is : q ≡ (isqrt (m * (f % 2 + 1) * 2 ^ 54) + 1) / 2
+  root-is = q-is ∙ ap (λ (n : ℕ). (isqrt (n * 2 ^ 54) + 1) / 2) n-is
 
-mul-sqrt-54 : tie.Need-mul-sqrt-54
-mul-sqrt-54 c = omega (arith, doubled (c .before .before .normalize .result .m) (c .before .before .normalize .result .f % 2) (mod-two _))
+  encodes : Encodes b (f / 2 * 2 ^ 52 + q)
+  encodes =
+      let s = isqrt-floor (m * (f % 2 + 1) * 2 ^ 54) in
+      let d = bits54 m f (isqrt (m * (f % 2 + 1) * 2 ^ 54)) (x .below) (x .least) s in
+      subst (λ (q : ℕ). Encodes b (f / 2 * 2 ^ 52 + q)) (sym root-is) (omega (arith, d .most, x .high), encoded-root b m f _ h x s d)
 
-sqrt-54-requires : tie.Need-sqrt-54-requires
-sqrt-54-requires c κs = omega (arith, doubled (c .before .before .normalize .result .m) (c .before .before .normalize .result .f % 2) (mod-two _))
+encoded : (c : tie.After-struct-known) → Encodes (c .before .before .before .before .args .b) (c .before .before .before .normalize .result .f / 2 * 2 ^ 52 + c .before .sqrt-significand .result)
+encoded c = encodes _ _ _ _ _ (c .before .before .before .before .pre .1) (c .before .before .before .normalize .ensures .0) (c .before .before .radicand .ensures) (c .before .sqrt-significand .ensures)
 
-mul-result : tie.Need-mul-result
-mul-result c = search needs
-
-root-bits : (c : tie.After-struct-known3) → Bits54 (c .before .sqrt-54 .result)
-root-bits c =
-    let n = c .before .before .before .before .normalize .ensures in
-    bits54 _ _ _ (n .below) (n .least) (c .before .sqrt-54 .ensures)
+sqrt-significand-requires : tie.Need-sqrt-significand-requires
+sqrt-significand-requires c κs =
+    let x = c .before .normalize .ensures in
+    subst (λ (n : ℕ). InSegment (c .before .normalize .result .i) n) (sym (c .radicand .ensures)) (in-segment _ _ _ (x .0 .least) (x .0 .below) (mod-two _) (x .1))
 
 add-result : tie.Need-add-result
-add-result c = omega (arith, root-bits c)
-
-add-result-2 : tie.Need-add-result-2
-add-result-2 c = search needs
+add-result c = omega (arith, encoded c .0)
 
 returns : tie.Need-returns
-returns c =
-    let n = c .before .before .before .before .normalize .ensures in
-    (omega (arith, root-bits c .most, n .high), encoded-root _ _ _ _ (c .before .before .before .before .before .pre .1) n (c .before .sqrt-54 .ensures) (root-bits c))
+returns c = encoded c
 
 pub sqrt-bits-spec : {M : Type 1} → statement M
-sqrt-bits-spec = tie.close (tie.spec normalize-requires add-sqrt-54 mul-sqrt-54 sqrt-54-requires mul-result add-result add-result-2 returns)
+sqrt-bits-spec = tie.close (tie.spec (λ c κs. search needs) (λ c κs. search needs) sqrt-significand-requires (λ c. search needs) add-result returns)
