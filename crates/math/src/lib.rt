@@ -2,6 +2,11 @@
 // they lean on. Every branch is the Rust's, and every float operation is rounded once. tan, asin, atan and atan2 are
 // left out.
 ghost use mathlib.Core.Path.{_≡_};
+ghost use mathlib.Core.Bool.{not};
+ghost use Prim.Native.Nat.{_<_};
+ghost use lib.Dec.{T};
+ghost use lib.Ieee.{isNan};
+ghost use Rattle.float.specs.F64.{bitsOf};
 ghost use Rattle.math.specs.Kernels.{absHighWord, signBit, sinKernel, cosKernel};
 ghost use Rattle.math.specs.Rem.{predI32, succI32, firstRemainder, nextRemainder, remainderValue, exponentField, nearestMultiple, lastRemainder, reducedOf, remPio2Medium, subtractMultiple, addMultiple, multipleBySign, remPio2Near, remPio2Far, remPio2Large, remPio2};
 ghost use Rattle.math.specs.Trig.{quadrantOf, sinReduced, cosReduced, sinOf, cosOf};
@@ -400,21 +405,24 @@ fn acos_r(z: f64) -> f64
 }
 
 fn clear_low_word(x: f64) -> f64
+    requires { ⌜ T (not (isNan x)) ⌝ }
     ensures { λ r. ⌜ r ≡ clearLowWord x ⌝ }
 {
-    float::of_bits(float::bits(x) / 0x1_0000_0000 * 0x1_0000_0000)
+    f64::from_bits(f64::to_bits(x) / 0x1_0000_0000 * 0x1_0000_0000)
 }
 
-fn acos_beyond(x: f64, ix: u64) -> f64
+// `acos` from |x| = 1 on; b has the bits of x.
+fn acos_beyond(x: f64, b: u64, ix: u64) -> f64
+    requires { ⌜ b ≡ bitsOf x ⌝ }
     ensures { λ r. ⌜ r ≡ acosBeyond x ix ⌝ }
 {
     if ix != 0x3ff0_0000 {
         return 0.0 / (x - x);
     }
-    if float::bits(x) % 0x1_0000_0000 != 0 {
+    if b % 0x1_0000_0000 != 0 {
         return 0.0 / (x - x);
     }
-    if sign_bit(x) {
+    if b >= 0x8000_0000_0000_0000 {
         return 2.0 * PIO2_HI + f64::from_bits(0x3987_0000_0000_0000);
     }
     0.0
@@ -438,7 +446,9 @@ fn acos_negative(x: f64) -> f64
     2.0 * (PIO2_HI - (s + w))
 }
 
+// x is at least 0 and below 1, so that the root is a number.
 fn acos_positive(x: f64) -> f64
+    requires { ⌜ bitsOf x < 0x3ff0_0000_0000_0000 ⌝ }
     ensures { λ r. ⌜ r ≡ acosPositive x ⌝ }
 {
     let z = (1.0 - x) * 0.5;
@@ -452,15 +462,19 @@ fn acos_positive(x: f64) -> f64
 pub fn acos(x: f64) -> f64
     ensures { λ r. ⌜ r ≡ acosOf x ⌝ }
 {
-    let ix = abs_high_word(x);
+    if x != x {
+        return x;
+    }
+    let b = f64::to_bits(x);
+    let ix = (b >> 32) % 0x8000_0000;
     if ix >= 0x3ff0_0000 {
-        return acos_beyond(x, ix);
+        return acos_beyond(x, b, ix);
     }
     if ix < 0x3fe0_0000 {
         return acos_small(x, ix);
     }
-    if sign_bit(x) {
-        return acos_negative(x);
+    if b < 0x8000_0000_0000_0000 {
+        return acos_positive(x);
     }
-    acos_positive(x)
+    acos_negative(x)
 }
