@@ -1,5 +1,5 @@
 -- How three scratch lists hold the Rust's map `vert_tangents`: S the smoothness of each of the n halfedges, A with a place per point, L with a place per halfedge. Only contracts inside a call name these; `vert-tangents` of `proofs/Verts.antt` says that the two agree.
-use Prim.Native.Nat.{ℕ, zero, suc, _+_, _-_, _<_}
+use Prim.Native.Nat.{ℕ, zero, suc, _+_, _*_, _-_, _<_}
 use mathlib.Core.Path.{_≡_}
 use mathlib.Core.List.{List, [], _∷_, map}
 use mathlib.Core.Bool.{cond}
@@ -7,7 +7,7 @@ use lib.ListN.{length, getD}
 use lib.IntN.{ℤ}
 use lib.Dec.{eqb, leb}
 use lib.Ieee.{Float}
-use Rattle.mesh.specs.Mesh.{startVert, pairedHalfedge}
+use Rattle.mesh.specs.Mesh.{halfedgeStride, startVert, pairedHalfedge}
 use Rattle.mesh.specs.Sound.{Sound}
 use Rattle.faces.specs.Faces.{vertHalfedge}
 use Rattle.edges.specs.Edges.{Pair}
@@ -60,6 +60,7 @@ LinkedAll H S A L n = (v : ℕ) → v < length A → Linked n L (vertHalfedge H 
 -- what the lists must be for a call: `lists-in` of `proofs/Lent.antt` gives it on an accepted mesh
 pub record Lists (H : List ℤ) (S : List Float) (A L : List ℕ) (n : ℕ) : Type 0 where
   pub sound : Sound H n (length A)
+  pub whole : length H ≡ n * halfedgeStride
   pub smooth : length S ≡ n
   pub links : length L ≡ n
 

@@ -3,9 +3,11 @@
 ghost use mathlib.Core.Path.{_≡_};
 ghost use Prim.Native.Nat.{ℕ, suc, _+_, _<_, _^_};
 ghost use lib.ListN.{length, getD, set};
-ghost use Rattle.mesh.specs.Mesh.{startVert, pairedHalfedge};
+ghost use Rattle.mesh.specs.Mesh.{startVert};
+ghost use Rattle.mesh.specs.Inside.{Inside};
 ghost use Rattle.faces.specs.Faces.{isFlat, vertHalfedge};
 ghost use Rattle.edges.specs.Smoothness.{smoothness, pairAt};
+ghost use Rattle.edges.specs.Lent.{SidesIn};
 ghost use Rattle.creases.specs.Creases.{throughOf, countOf, addSides, sumsOf, meanOf, creaseOf};
 ghost use Rattle.creases.specs.Linked.{pairsAt, halfedgeOf, LinkedFrom, LinkedAll, Lists, CreaseLists};
 
@@ -35,7 +37,7 @@ pub struct Sums {
 
 // Puts e in front of the list of the point where it starts.
 fn link_halfedge(n: usize, h: &[i32], at: &mut [usize], link: &mut [usize], e: usize)
-    requires { ⌜ (e < length (now link)) × (startVert (now h) e < length (now at)) × (n + 1 + e < 2 ^ 64) ⌝ }
+    requires { ⌜ (e < length (now link)) × (startVert (now h) e < length (now at)) × (n + 1 + e < 2 ^ 64) × Inside (now h) e ⌝ }
     ensures { λ _. ⌜ (now (link .exit) ≡ set (now (link .entry)) e (getD (now (at .entry)) (startVert (now (h .entry)) e) 0)) × (now (at .exit) ≡ set (now (at .entry)) (startVert (now (h .entry)) e) (suc n + e)) ⌝ }
 {
     let v = mesh::start_vert(h, e);
@@ -111,7 +113,7 @@ fn count(s: f64) -> f64
 
 // The sums with both sides of crease e.
 fn add_sides(h: &[i32], smooth: &[f64], sums: Sums, e: usize) -> Sums
-    requires { ⌜ (e < length (now smooth)) × (pairedHalfedge (now h) e < length (now smooth)) ⌝ }
+    requires { ⌜ SidesIn (now h) (now smooth) e ⌝ }
     ensures { λ r. ⌜ r ≡ addSides sums (pairAt (now (h .entry)) (now (smooth .entry)) e) ⌝ }
 {
     let a = smooth[e];
@@ -153,7 +155,7 @@ fn mean(sums: Sums) -> f64
 
 // A crease through a point, of the halfedges `first` and `second`.
 fn through(h: &[i32], smooth: &[f64], first: usize, second: usize) -> Crease
-    requires { ⌜ (first < length (now smooth)) × (second < length (now smooth)) × (pairedHalfedge (now h) first < length (now smooth)) × (pairedHalfedge (now h) second < length (now smooth)) ⌝ }
+    requires { ⌜ SidesIn (now h) (now smooth) first × SidesIn (now h) (now smooth) second ⌝ }
     ensures { λ r. ⌜ r ≡ throughOf (pairAt (now (h .entry)) (now (smooth .entry)) first) (pairAt (now (h .entry)) (now (smooth .entry)) second) ⌝ }
 {
     Crease::Through {

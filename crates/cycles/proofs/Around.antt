@@ -22,9 +22,6 @@ use Rattle.cycles.proofs.Count.{at-most-one}
 
 module _ {H : List ℤ} {n p : ℕ} (S : Sound H n p) where
   -- what `next_around` and `prev_around` require
-  pub next-fits : (e : ℕ) → e < n → pairedHalfedge H e + 1 < 2 ^ 64
-  next-fits e h = omega (arith, S .paired-below e h, S .few-halfedges)
-
   pub prev-fits : (e : ℕ) → e < n → e + 1 < 2 ^ 64
   prev-fits e h = omega (arith, S .few-halfedges)
 

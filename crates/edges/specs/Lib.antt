@@ -1,3 +1,4 @@
 -- The specs of `edges`, in the order of reading.
 pub mod Edges
 pub mod Smoothness
+pub mod Lent

@@ -3,9 +3,9 @@
 ghost use mathlib.Core.Path.{_≡_};
 ghost use Prim.Native.Nat.{_<_};
 ghost use lib.ListN.{length};
-ghost use Rattle.mesh.specs.Mesh.{pairedHalfedge};
 ghost use Rattle.faces.specs.Faces.{isFlat};
 ghost use Rattle.faces.specs.Lent.{FlatIn};
+ghost use Rattle.edges.specs.Lent.{SidesIn};
 ghost use Rattle.edges.specs.Smoothness.{isFlatBoundary, addFlatBoundary, smoothness, pairSmoothness, isCrease};
 
 // Does halfedge e lie in a flat face, and across it another face?
@@ -49,7 +49,7 @@ pub fn add_flat_boundaries(h: &[i32], refs: &[i32], flat: &[u8], smooth: &mut [f
 
 // The smoothness of the other side of e's edge.
 pub fn pair_smoothness(h: &[i32], smooth: &[f64], e: usize) -> f64
-    requires { ⌜ pairedHalfedge (now h) e < length (now smooth) ⌝ }
+    requires { ⌜ SidesIn (now h) (now smooth) e ⌝ }
     ensures { λ r. ⌜ r ≡ pairSmoothness (now (h .entry)) (now (smooth .entry)) e ⌝ }
 {
     let k = mesh::paired_halfedge(h, e);
@@ -58,7 +58,7 @@ pub fn pair_smoothness(h: &[i32], smooth: &[f64], e: usize) -> f64
 
 // Is f the forward halfedge of a crease?
 pub fn is_crease(h: &[i32], smooth: &[f64], f: usize) -> bool
-    requires { ⌜ (f < length (now smooth)) × (pairedHalfedge (now h) f < length (now smooth)) ⌝ }
+    requires { ⌜ SidesIn (now h) (now smooth) f ⌝ }
     ensures { λ r. ⌜ r ≡ isCrease (now (h .entry)) (now (smooth .entry)) f ⌝ }
 {
     if !mesh::is_forward(h, f) {

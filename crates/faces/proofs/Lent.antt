@@ -1,17 +1,20 @@
 -- On an accepted mesh the lent lists hold what `faces` reads and writes. Assumes nothing.
-use Prim.Native.Nat.{ℕ, _<_}
+use Prim.Native.Nat.{ℕ, _*_, _<_}
 use native.Mathlib.Omega.{arith}
 use mathlib.Core.Path.{_≡_, sym, subst}
 use mathlib.Core.List.{List}
 use lib.IntN.{ℤ}
+use lib.ListN.{length}
+use Rattle.mesh.specs.Mesh.{halfedgeStride}
 use Rattle.mesh.specs.Sound.{Sound}
+use Rattle.mesh.proofs.Accepted.{inside}
 use Rattle.faces.specs.Lent.{FlatIn, VertsIn}
 
-pub flat-in : (H : List ℤ) (n p : ℕ) → Sound H n p → FlatIn H n
-flat-in H n p s = record { triangles = s .triangles; paired-in = s .paired-below }
+pub flat-in : (H : List ℤ) (n p : ℕ) → Sound H n p → length H ≡ n * halfedgeStride → FlatIn H n
+flat-in H n p s whole = record { triangles = s .triangles; paired-in = s .paired-below; inside = inside s whole }
 
-pub verts-in : (H : List ℤ) (n p : ℕ) → Sound H n p → VertsIn H n p
-verts-in H n p s = record { start-in = s .start-below }
+pub verts-in : (H : List ℤ) (n p : ℕ) → Sound H n p → length H ≡ n * halfedgeStride → VertsIn H n p
+verts-in H n p s whole = record { start-in = s .start-below; inside = inside s whole }
 
 -- a list that keeps its length
 pub flat-still : (H : List ℤ) (j a b : ℕ) → b ≡ a → j < a → FlatIn H a → (j < b) × FlatIn H b

@@ -7,20 +7,23 @@ use lib.ListN.{replicate}
 use lib.IntN.{ℤ}
 use lib.Dec.{eqb}
 use Rattle.mesh.specs.Mesh.{startVert, pairedHalfedge}
+use Rattle.mesh.specs.Inside.{Inside}
 use Rattle.faces.specs.Faces.{flatFaces}
 use Rattle.faces.specs.declared.FlatFace.{FlatFace}
 use Rattle.faces.specs.declared.FlatFace.the-variants.{NoFace, OneFace, MoreFaces}
 
--- ---- lengths: `flat-in` and `verts-in` of `proofs/Lent.antt` give them on an accepted mesh
+-- ---- lengths and numbers: `flat-in` and `verts-in` of `proofs/Lent.antt` give them on an accepted mesh
 
 -- A list of m places has one for each halfedge. Of such a list `flat_faces` uses the first m / 3 places, one for each triangle.
 pub record FlatIn (H : List ℤ) (m : ℕ) : Type 0 where
   pub triangles : m % 3 ≡ 0
   pub paired-in : (e : ℕ) → e < m → pairedHalfedge H e < m
+  pub inside : (e : ℕ) → e < m → Inside H e
 
 -- a list of p places has one for each point of the n halfedges
 pub record VertsIn (H : List ℤ) (n p : ℕ) : Type 0 where
   pub start-in : (e : ℕ) → e < n → startVert H e < p
+  pub inside : (e : ℕ) → e < n → Inside H e
 
 -- ---- the flat faces at a point as a number: 0, t * 2 + 1, t * 2 + 2
 

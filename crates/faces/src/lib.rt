@@ -4,6 +4,7 @@ ghost use mathlib.Core.Path.{_≡_};
 ghost use mathlib.Core.Bool.{cond};
 ghost use Prim.Native.Nat.{ℕ, _+_, _*_, _≤_, _<_, _^_};
 ghost use lib.ListN.{length, getD, replicate};
+ghost use Rattle.mesh.specs.Inside.{Inside};
 ghost use Rattle.faces.specs.Faces.{neighborTri, isFaceNeighbor, faceNeighbors, markNeighbor, markFlat, isFlat, addFlatFace, vertFaceAt, vertFlatFace, vertHalfedge};
 ghost use Rattle.faces.specs.Lent.{FlatIn, VertsIn, faceOf, flatFlags};
 
@@ -39,14 +40,14 @@ pub fn fill(s: &mut [usize], x: usize)
 
 // The triangle across edge j of triangle t.
 fn neighbor_tri(h: &[i32], t: usize, j: usize) -> usize
-    requires { ⌜ t * 3 + j < 2 ^ 64 ⌝ }
+    requires { ⌜ Inside (now h) (t * 3 + j) ⌝ }
     ensures { λ r. ⌜ r ≡ neighborTri (now (h .entry)) t j ⌝ }
 {
     mesh::paired_halfedge(h, t * 3 + j) / 3
 }
 
 fn is_face_neighbor(h: &[i32], refs: &[i32], t: usize, j: usize) -> bool
-    requires { ⌜ t * 3 + j < 2 ^ 64 ⌝ }
+    requires { ⌜ Inside (now h) (t * 3 + j) ⌝ }
     ensures { λ r. ⌜ r ≡ isFaceNeighbor (now (h .entry)) (now (refs .entry)) t j ⌝ }
 {
     mesh::same_face(refs, neighbor_tri(h, t, j), t)
@@ -59,7 +60,7 @@ fn one_if(b: bool) -> usize
 }
 
 fn face_neighbors(h: &[i32], refs: &[i32], t: usize) -> usize
-    requires { ⌜ t * 3 + 2 < 2 ^ 64 ⌝ }
+    requires { ⌜ ((j : ℕ) → j < 3 → Inside (now h) (t * 3 + j)) ⌝ }
     ensures { λ r. ⌜ r ≡ faceNeighbors (now (h .entry)) (now (refs .entry)) t ⌝ }
 {
     let a = one_if(is_face_neighbor(h, refs, t, 0));

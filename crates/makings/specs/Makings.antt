@@ -7,6 +7,7 @@ use lib.IntN.{ℤ}
 use lib.Ieee.{Float}
 use Rattle.linalg.specs.declared.Vec3.{Vec3}
 use Rattle.linalg.specs.Vec.{neg3}
+use Rattle.mesh.specs.Mesh.{halfedgeStride}
 use Rattle.mesh.specs.Sound.{Sound}
 use Rattle.smoothing.specs.Directions.{circularTangent}
 use Rattle.smoothing.specs.Lists.{putTangent}
@@ -18,6 +19,7 @@ use Rattle.smoothing.specs.Edges.{edgeVec}
 pub record TangentsIn (H : List ℤ) (T : List Float) (n : ℕ) : Type 0 where
   pub points : ℕ
   pub sound : Sound H n points
+  pub whole : length H ≡ n * halfedgeStride
   pub tangents : length T ≡ n * 4
 
 -- a position for each point, a tangent and a fixed flag for each halfedge

@@ -1,21 +1,22 @@
 // The mesh of the Rust's src/types.rs as flat lists, and the questions 1 to 11 that document 01 puts to a call.
-// Reads past the end of a list give a default, so that a check survives lists of any length and content.
+// The questions read lists of any length and content, and past the end a default; the other reads are of accepted meshes.
 mod questions;
+mod triangles;
 
-use questions::all_at;
 use questions::counts_fit;
 use questions::test_at;
+use triangles::index_of;
+use triangles::triangle_holds;
 ghost use mathlib.Core.Path.{_≡_};
 ghost use mathlib.Core.List.{[]};
 ghost use mathlib.Core.Bool.{_&&_};
 ghost use Prim.Native.Nat.{_+_, _*_, _%_, _<_, _≤_, _^_};
 ghost use lib.ListN.{length};
-ghost use lib.Dec.{leb};
-ghost use Rattle.mesh.specs.Mesh.{halfedgeStride, numberAt, field, startVert, endVert, pairedHalfedge, isForward, nextHalfedge, prevHalfedge, eqZ, refAt, sameFace};
+ghost use Rattle.mesh.specs.Mesh.{maxHalfedges, maxPoints, halfedgeStride, numberAt, field, startVert, endVert, pairedHalfedge, isForward, nextHalfedge, prevHalfedge, eqZ, refAt, sameFace};
+ghost use Rattle.mesh.specs.Inside.{noIndex, Inside};
 ghost use Rattle.mesh.specs.Scalar.{radiansOf};
-ghost use Rattle.mesh.specs.Lowest.{lowest};
 ghost use Rattle.mesh.specs.Questions.{hasLength, signClear, testAt};
-ghost use Rattle.mesh.specs.All.{allAt, askEach};
+ghost use Rattle.mesh.specs.All.{trianglesHold, askEach};
 ghost use Rattle.mesh.specs.Check.{numberOf, placeOf, each, _then_, checkMesh, checkRefs, checkEntries, checkFlags};
 
 // The limits of question 1.
@@ -62,7 +63,7 @@ fn number_at(s: &[i32], e: usize, stride: usize, k: usize) -> i32
     if at < s.len() { s[at] } else { 0 }
 }
 
-// Number k of halfedge e, as the number of a point or a halfedge.
+// Number k of halfedge e of any list, as the number of a point or a halfedge. What the questions read.
 fn field(h: &[i32], e: usize, k: usize) -> usize
     requires { ⌜ k ≤ 4 ⌝ }
     ensures { λ r. ⌜ r ≡ field (now (h .entry)) e k ⌝ }
@@ -71,37 +72,41 @@ fn field(h: &[i32], e: usize, k: usize) -> usize
     if x < 0 { NO_INDEX } else { x as usize }
 }
 
-// The same within the list.
-fn field_within(h: &[i32], e: usize, k: usize) -> usize
-    requires { ⌜ e * halfedgeStride + k < length (now h) ⌝ }
+// Number k of a halfedge e that is known to lie in the list, as on an accepted mesh: read without a test.
+fn known_field(h: &[i32], e: usize, k: usize) -> usize
+    requires { ⌜ (e * halfedgeStride + k < length (now h)) × (field (now h) e k < noIndex) ⌝ }
     ensures { λ r. ⌜ r ≡ field (now (h .entry)) e k ⌝ }
 {
-    let x = h[e * HALFEDGE_STRIDE + k];
-    if x < 0 { NO_INDEX } else { x as usize }
+    index_of(h[e * HALFEDGE_STRIDE + k])
 }
 
 pub fn start_vert(h: &[i32], e: usize) -> usize
+    requires { ⌜ Inside (now h) e ⌝ }
     ensures { λ r. ⌜ r ≡ startVert (now (h .entry)) e ⌝ }
 {
-    field(h, e, 0)
+    known_field(h, e, 0)
 }
 
 pub fn end_vert(h: &[i32], e: usize) -> usize
+    requires { ⌜ Inside (now h) e ⌝ }
     ensures { λ r. ⌜ r ≡ endVert (now (h .entry)) e ⌝ }
 {
-    field(h, e, 1)
+    known_field(h, e, 1)
 }
 
 pub fn paired_halfedge(h: &[i32], e: usize) -> usize
+    requires { ⌜ Inside (now h) e ⌝ }
     ensures { λ r. ⌜ r ≡ pairedHalfedge (now (h .entry)) e ⌝ }
 {
-    field(h, e, 2)
+    known_field(h, e, 2)
 }
 
 pub fn is_forward(h: &[i32], e: usize) -> bool
+    requires { ⌜ Inside (now h) e ⌝ }
     ensures { λ r. ⌜ r ≡ isForward (now (h .entry)) e ⌝ }
 {
-    number_at(h, e, HALFEDGE_STRIDE, 0) < number_at(h, e, HALFEDGE_STRIDE, 1)
+    let at = e * HALFEDGE_STRIDE;
+    h[at] < h[at + 1]
 }
 
 pub fn next_halfedge(e: usize) -> usize
@@ -235,20 +240,20 @@ fn ask_numbers(
     ask(sofar, number, q, numbers, &[], &[], &[], n, p, places)
 }
 
-// Are the questions 3 to 7 answered yes at every halfedge? One pass, which an accepted mesh does not leave early.
+// Are the questions 3 to 7 answered yes at every halfedge? One pass, a triangle at a time, which an accepted mesh does not leave early.
 fn all_hold(h: &[i32], n: usize, p: usize) -> bool
-    requires { ⌜ n % 3 ≡ 0 ⌝ }
-    ensures { λ r. ⌜ r ≡ hasLength (length (now (h .entry))) n halfedgeStride && leb n (lowest (allAt (now (h .entry)) n p) n) ⌝ }
+    requires { ⌜ (n % 3 ≡ 0) × (n ≤ maxHalfedges) × (p ≤ maxPoints) ⌝ }
+    ensures { λ r. ⌜ r ≡ hasLength (length (now (h .entry))) n halfedgeStride && trianglesHold (now (h .entry)) n p ⌝ }
 {
     if !has_length(h.len(), n, HALFEDGE_STRIDE) {
         return false;
     }
-    let mut e = 0;
-    while e < n {
-        if !all_at(h, n, p, e) {
+    let mut t = 0;
+    while t < n / 3 {
+        if !triangle_holds(h, n, p, t * 3) {
             return false;
         }
-        e += 1;
+        t += 1;
     }
     true
 }

@@ -115,7 +115,8 @@ fn asked_flat(
     points: &mut [usize],
 ) -> bool {
     let p = points.len();
-    let checked = mesh::check_mesh(h, flags.len(), p, true);
+    let lengths = mesh::has_length(h.len(), flags.len(), mesh::HALFEDGE_STRIDE);
+    let checked = mesh::check_mesh(h, flags.len(), p, lengths);
     let Checked::Accepted = checked else {
         return same_checked(checked, c);
     };

@@ -1,7 +1,11 @@
 // Leaves over a mesh: `tangent_from_normal`, `is_inside_quad` and `is_marked_inside_quad`.
+ghost use Rattle.replay_mesh_leaves.specs.Lists.{NormalLists, QuadLists};
 use linalg::Vec4;
+use mesh::Checked;
 use replay_cases::Case;
+use replay_cases::float_part;
 use replay_cases::floats;
+use replay_cases::same_checked;
 use replay_cases::signed;
 
 // The bits of a tangent are those at s[at..].
@@ -10,35 +14,7 @@ fn same_tangent(s: &[u8], at: usize, v: Vec4) -> bool {
     replay::same_floats(s, at, &numbers, 4)
 }
 
-// The tangent of halfedge e from its own normal, or zeros where a list is too short for it.
-fn tfn_at(h: &[i32], pos: &[f64], normals: &[f64], own: &[f64], e: usize) -> Vec4 {
-    let none = Vec4 {
-        x: 0.0,
-        y: 0.0,
-        z: 0.0,
-        w: 0.0,
-    };
-    let start = mesh::start_vert(h, e);
-    let end = mesh::end_vert(h, e);
-    let pair = mesh::paired_halfedge(h, e);
-    if pos.len() / 3 <= start {
-        return none;
-    }
-    if pos.len() / 3 <= end {
-        return none;
-    }
-    if normals.len() / 3 <= e / 3 {
-        return none;
-    }
-    if normals.len() / 3 <= pair / 3 {
-        return none;
-    }
-    if own.len() / 3 <= e {
-        return none;
-    }
-    smoothing::tangent_from_normal(h, pos, normals, smoothing::point_at(own, e), e)
-}
-
+// The tangent of each halfedge from its own normal.
 fn tfn_all(
     s: &[u8],
     at: usize,
@@ -47,15 +23,48 @@ fn tfn_all(
     normals: &[f64],
     own: &[f64],
     n: usize,
-) -> bool {
+    p: usize,
+) -> bool
+    requires { ⌜ NormalLists (now h) (now pos) (now normals) (now own) n p ⌝ }
+{
     let mut from = replay::after(at, 4);
     for e in 0..n {
-        if !same_tangent(s, from, tfn_at(h, pos, normals, own, e)) {
+        let normal = smoothing::point_at(own, e);
+        let tangent = smoothing::tangent_from_normal(h, pos, normals, normal, e);
+        if !same_tangent(s, from, tangent) {
             return false;
         }
         from = replay::after(from, 32);
     }
     true
+}
+
+fn asked_tfn(
+    s: &[u8],
+    at: usize,
+    c: Case,
+    h: &[i32],
+    pos: &[f64],
+    normals: &[f64],
+    own: &[f64],
+) -> bool {
+    let n = c.n;
+    let p = c.p;
+    let lengths = mesh::both(
+        mesh::both(
+            mesh::has_length(h.len(), n, mesh::HALFEDGE_STRIDE),
+            mesh::has_length(pos.len(), p, 3),
+        ),
+        mesh::both(
+            mesh::has_length(normals.len(), n, 1),
+            mesh::has_length(own.len(), n, 3),
+        ),
+    );
+    let checked = mesh::check_mesh(h, n, p, lengths);
+    let Checked::Accepted = checked else {
+        return same_checked(checked, c);
+    };
+    tfn_all(s, at, h, pos, normals, own, n, p)
 }
 
 pub fn tfn(s: &[u8], c: Case) -> bool {
@@ -71,45 +80,22 @@ pub fn tfn(s: &[u8], c: Case) -> bool {
     let hl = b.len;
     let nl = d.len;
     let ol = e.len;
-    tfn_all(
+    asked_tfn(
         s,
         e.next,
+        c,
         &h[..hl],
         &pos[..pl],
         &normals[..nl],
         &own[..ol],
-        c.n,
     )
 }
 
-// Is halfedge e inside a quad: 1 or 0, and 2 where a list is too short for it.
-fn quad_at(h: &[i32], refs: &[i32], t: &[f64], old: bool, e: usize) -> u64 {
-    let pair = mesh::paired_halfedge(h, e);
-    if t.len() / 4 <= e {
-        return 2;
-    }
-    if t.len() / 4 <= pair {
-        return 2;
-    }
-    if smoothing::is_inside_quad(h, refs, t, old, e) {
-        1
-    } else {
-        0
-    }
+fn number(yes: bool) -> u64 {
+    if yes { 1 } else { 0 }
 }
 
-// Is it marked?
-fn mark_at(t: &[f64], e: usize) -> u64 {
-    if t.len() / 4 <= e {
-        return 2;
-    }
-    if smoothing::is_marked_inside_quad(t, e) {
-        1
-    } else {
-        0
-    }
-}
-
+// Is each halfedge inside a quad: 1 or 0.
 fn inside_all(
     s: &[u8],
     at: usize,
@@ -118,22 +104,48 @@ fn inside_all(
     t: &[f64],
     old: bool,
     n: usize,
-) -> bool {
+    p: usize,
+) -> bool
+    requires { ⌜ QuadLists (now h) (now t) n p ⌝ }
+{
     for e in 0..n {
-        if replay::byte(s, replay::after(at, e)) != quad_at(h, refs, t, old, e) {
+        let inside = smoothing::is_inside_quad(h, refs, t, old, e);
+        if replay::byte(s, replay::after(at, e)) != number(inside) {
             return false;
         }
     }
     true
 }
 
-fn marked_all(s: &[u8], at: usize, t: &[f64], n: usize) -> bool {
+// Is it marked?
+fn marked_all(s: &[u8], at: usize, h: &[i32], t: &[f64], n: usize, p: usize) -> bool
+    requires { ⌜ QuadLists (now h) (now t) n p ⌝ }
+{
     for e in 0..n {
-        if replay::byte(s, replay::after(at, e)) != mark_at(t, e) {
+        let marked = smoothing::is_marked_inside_quad(t, e);
+        if replay::byte(s, replay::after(at, e)) != number(marked) {
             return false;
         }
     }
     true
+}
+
+fn asked_quad(s: &[u8], at: usize, c: Case, h: &[i32], refs: &[i32], t: &[f64], old: bool) -> bool {
+    let n = c.n;
+    let p = c.p;
+    let lengths = mesh::both(
+        mesh::has_length(h.len(), n, mesh::HALFEDGE_STRIDE),
+        mesh::has_length(t.len(), n, 4),
+    );
+    let checked = mesh::check_mesh(h, n, p, lengths);
+    let Checked::Accepted = checked else {
+        return same_checked(checked, c);
+    };
+    if !inside_all(s, at, h, refs, t, old, n, p) {
+        return false;
+    }
+    let then = replay::after(replay::after(at, n), 4);
+    marked_all(s, then, h, t, n, p)
 }
 
 // Without old tangents the unit is lent a list of zeros, which has no mark.
@@ -147,9 +159,14 @@ pub fn quad(s: &[u8], c: Case) -> bool {
     let d = floats(s, replay::after(b.next, 4), &mut t);
     let hl = a.len;
     let rl = b.len;
-    let from = replay::after(d.next, 4);
-    if !inside_all(s, from, &h[..hl], &refs[..rl], &t, old, c.n) {
-        return false;
-    }
-    marked_all(s, replay::after(replay::after(from, c.n), 4), &t, c.n)
+    let tl = replay::after_fours(0, c.n);
+    asked_quad(
+        s,
+        replay::after(d.next, 4),
+        c,
+        &h[..hl],
+        &refs[..rl],
+        float_part(&t, 0, tl),
+        old,
+    )
 }

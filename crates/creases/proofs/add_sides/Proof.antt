@@ -8,10 +8,10 @@ mul-a : tie.Need-mul-a
 mul-a c = search needs
 
 shared-slice-read-a : tie.Need-shared-slice-read-a
-shared-slice-read-a c = c .before .before .pre .0
+shared-slice-read-a c = c .before .before .pre .own
 
 pair-smoothness-requires : tie.Need-pair-smoothness-requires
-pair-smoothness-requires c κs = c .before .before .pre .1
+pair-smoothness-requires c κs = c .before .before .pre
 
 count-requires : tie.Need-count-requires
 count-requires c κs = tt

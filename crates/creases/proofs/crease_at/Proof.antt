@@ -67,7 +67,7 @@ through-requires c κs =
     let z = i .before .before .before .before .before in
     let a = sides-in (z .pre .1 .lists) _ (first-below (z .pre .1) (z .args .v) (z .pre .0) (i .if1 .left)) in
     let b = sides-in (z .pre .1 .lists) _ (second-below (z .pre .1) (z .args .v) (z .pre .0) (i .if1 .left) (j .if2 .left)) in
-    (a .0, b .0, a .1, b .1)
+    (a, b)
 
 returns-3 : tie.Need-returns-3
 returns-3 c =

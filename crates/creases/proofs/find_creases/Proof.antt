@@ -1,5 +1,5 @@
 -- `creases::find_creases` meets its contract: three calls in a row. Assumes nothing.
-use mathlib.Core.Path.{_≡_, refl, sym, ap, _∙_, subst}
+use mathlib.Core.Path.{refl, sym, ap, _∙_, subst}
 use Prim.Native.Nat.{ℕ}
 use native.Mathlib.Omega.{arith}
 use Rattle.faces.specs.Faces.{isFlat}
@@ -13,10 +13,12 @@ use Rattle.creases.proofs.find_creases.Tie as tie
 add-flat-boundaries-requires : tie.Need-add-flat-boundaries-requires
 add-flat-boundaries-requires c κs =
     let z = c .before .before .before .before .before in
-    (subst (FlatIn (z .args .h .now)) (sym (z .pre .0)) (flat-in _ _ _ (z .pre .1 .sound)), z .pre .1 .smooth ∙ sym (z .pre .0))
+    (subst (FlatIn (z .args .h .now)) (sym (z .pre .0)) (flat-in _ _ _ (z .pre .1 .sound) (z .pre .1 .whole)), z .pre .1 .smooth ∙ sym (z .pre .0))
 
 vert-halfedge-requires : tie.Need-vert-halfedge-requires
-vert-halfedge-requires c κs = verts-in _ _ _ (c .before .before .before .before .before .before .before .before .before .pre .1 .sound)
+vert-halfedge-requires c κs =
+    let w = c .before .before .before .before .before .before .before .before .before .pre .1 in
+    verts-in _ _ _ (w .sound) (w .whole)
 
 link-creases-requires : tie.Need-link-creases-requires
 link-creases-requires c κs =

@@ -3,6 +3,7 @@ use mathlib.Core.Path.{refl, sym, _∙_}
 use Prim.Native.Nat.{_<_}
 use native.Mathlib.Omega.{arith}
 use borrow.Author.Tests.{not-true, not-false}
+use Rattle.mesh.proofs.Accepted.{inside}
 use Rattle.faces.specs.Faces.{vertHalfedge}
 use Rattle.creases.proofs.Lent.{lists-still, halfedge-in, sides-in}
 use Rattle.creases.proofs.Linked.{edge-passed, edge-linked}
@@ -21,7 +22,9 @@ returns c =
     (z .pre .2)
 
 paired-halfedge-requires : tie.Need-paired-halfedge-requires
-paired-halfedge-requires c κs = tt
+paired-halfedge-requires c κs =
+    let z = c .before .before .before .before .before in
+    inside (z .pre .1 .sound) (z .pre .1 .whole) _ (z .pre .0)
 
 link-halfedge-requires : tie.Need-link-halfedge-requires
 link-halfedge-requires c κs =

@@ -5,7 +5,7 @@ use Rattle.creases.proofs.link_halfedge.Statement.{statement}
 use Rattle.creases.proofs.link_halfedge.Tie as tie
 
 start-vert-requires : tie.Need-start-vert-requires
-start-vert-requires c κs = tt
+start-vert-requires c κs = c .before .before .pre .3
 
 mul-link : tie.Need-mul-link
 mul-link c = search needs

@@ -5,22 +5,22 @@ use Rattle.creases.proofs.through.Statement.{statement}
 use Rattle.creases.proofs.through.Tie as tie
 
 pair-smoothness-requires : tie.Need-pair-smoothness-requires
-pair-smoothness-requires c κs = c .before .pre .2
+pair-smoothness-requires c κs = c .before .pre .0
 
 mul-t6 : tie.Need-mul-t6
 mul-t6 c = search needs
 
 shared-slice-read-t8 : tie.Need-shared-slice-read-t8
-shared-slice-read-t8 c = c .before .before .before .pre .1
+shared-slice-read-t8 c = c .before .before .before .pre .1 .own
 
 pair-smoothness-requires-2 : tie.Need-pair-smoothness-requires-2
-pair-smoothness-requires-2 c κs = c .before .before .before .pre .3
+pair-smoothness-requires-2 c κs = c .before .before .before .pre .1
 
 mul-t12 : tie.Need-mul-t12
 mul-t12 c = search needs
 
 shared-slice-read-t14 : tie.Need-shared-slice-read-t14
-shared-slice-read-t14 c = c .before .before .before .before .before .pre .0
+shared-slice-read-t14 c = c .before .before .before .before .before .pre .0 .own
 
 returns : tie.Need-returns
 unfolding throughOf

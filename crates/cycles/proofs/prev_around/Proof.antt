@@ -1,14 +1,13 @@
 -- `cycles::prev_around` meets its contract.
-use borrow.Author.Needs.{needs}
 use Rattle.cycles.specs.Cycles.{prevAround}
 use Rattle.cycles.proofs.prev_around.Statement.{statement}
 use Rattle.cycles.proofs.prev_around.Tie as tie
 
 prev-halfedge-requires : tie.Need-prev-halfedge-requires
-prev-halfedge-requires c κs = search needs
+prev-halfedge-requires c κs = c .pre .0
 
 paired-halfedge-requires : tie.Need-paired-halfedge-requires
-paired-halfedge-requires c κs = search needs
+paired-halfedge-requires c κs = rw (c .prev-halfedge .ensures) (c .before .pre .1)
 
 returns : tie.Need-returns
 unfolding prevAround

@@ -6,14 +6,14 @@ use Rattle.edges.proofs.is_crease.Statement.{statement}
 use Rattle.edges.proofs.is_crease.Tie as tie
 
 is-forward-requires : tie.Need-is-forward-requires
-is-forward-requires c κs = tt
+is-forward-requires c κs = c .before .pre .inside
 
 returns : tie.Need-returns
 unfolding isCrease
 returns c = simp (← c .before .is-forward .ensures, not-true (c .before .is-forward .result) (c .if1 .taken))
 
 pair-smoothness-requires : tie.Need-pair-smoothness-requires
-pair-smoothness-requires c κs = c .before .before .before .pre .1
+pair-smoothness-requires c κs = c .before .before .before .pre
 
 mul-either : tie.Need-mul-either
 mul-either c = search needs

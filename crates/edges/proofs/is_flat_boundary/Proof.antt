@@ -14,7 +14,7 @@ unfolding isFlatBoundary
 returns c = simp (ne-eqb _ _ (c .if1 .taken))
 
 paired-halfedge-requires : tie.Need-paired-halfedge-requires
-paired-halfedge-requires c κs = search needs
+paired-halfedge-requires c κs = let z = c .before .before .before in z .pre .1 .inside _ (z .pre .0)
 
 shared-slice-read-if2 : tie.Need-shared-slice-read-if2
 shared-slice-read-if2 c = omega (arith, c .before .paired-halfedge .ensures, c .before .before .before .before .before .pre .1 .paired-in _ (c .before .before .before .before .before .pre .0))

@@ -4,7 +4,7 @@ use Rattle.edges.proofs.pair_smoothness.Statement.{statement}
 use Rattle.edges.proofs.pair_smoothness.Tie as tie
 
 paired-halfedge-requires : tie.Need-paired-halfedge-requires
-paired-halfedge-requires c κs = tt
+paired-halfedge-requires c κs = c .before .pre .inside
 
 mul-result : tie.Need-mul-result
 mul-result c = search needs

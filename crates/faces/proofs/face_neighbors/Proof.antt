@@ -1,17 +1,18 @@
 -- `faces::face_neighbors` meets its contract: the code is the definition. Assumes nothing.
+use native.Mathlib.Omega.{arith}
 use borrow.Author.Needs.{needs}
 use Rattle.faces.specs.Faces.{faceNeighbors}
 use Rattle.faces.proofs.face_neighbors.Statement.{statement}
 use Rattle.faces.proofs.face_neighbors.Tie as tie
 
 is-face-neighbor-requires : tie.Need-is-face-neighbor-requires
-is-face-neighbor-requires c κs = search needs
+is-face-neighbor-requires c κs = c .pre 0 (omega arith)
 
 is-face-neighbor-requires-2 : tie.Need-is-face-neighbor-requires-2
-is-face-neighbor-requires-2 c κs = search needs
+is-face-neighbor-requires-2 c κs = c .before .before .pre 1 (omega arith)
 
 is-face-neighbor-requires-3 : tie.Need-is-face-neighbor-requires-3
-is-face-neighbor-requires-3 c κs = search needs
+is-face-neighbor-requires-3 c κs = c .before .before .before .before .pre 2 (omega arith)
 
 add-result : tie.Need-add-result
 add-result c = search needs

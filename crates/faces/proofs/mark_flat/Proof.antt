@@ -14,7 +14,7 @@ use Rattle.faces.proofs.mark_flat.Statement.{statement}
 use Rattle.faces.proofs.mark_flat.Tie as tie
 
 face-neighbors-requires : tie.Need-face-neighbors-requires
-face-neighbors-requires c κs = search needs
+face-neighbors-requires c κs = λ j l. c .before .pre .1 .inside _ (omega (arith, c .before .pre .0))
 
 returns : tie.Need-returns
 unfolding markFlat

@@ -6,10 +6,10 @@ use Rattle.faces.proofs.mark_neighbor.Statement.{statement}
 use Rattle.faces.proofs.mark_neighbor.Tie as tie
 
 is-face-neighbor-requires : tie.Need-is-face-neighbor-requires
-is-face-neighbor-requires c κs = search needs
+is-face-neighbor-requires c κs = c .before .pre .1 .inside _ (c .before .pre .0)
 
 neighbor-tri-requires : tie.Need-neighbor-tri-requires
-neighbor-tri-requires c κs = search needs
+neighbor-tri-requires c κs = let z = c .before .before .before in z .pre .1 .inside _ (z .pre .0)
 
 slice-write-flat : tie.Need-slice-write-flat
 slice-write-flat c = omega (arith, c .neighbor-tri .ensures, c .before .before .before .before .pre .1 .paired-in _ (c .before .before .before .before .pre .0))

@@ -15,6 +15,9 @@ returns : tie.Need-returns
 unfolding vertFaceAt
 returns c = λ v l. simp (ne-eqb _ _ (c .if1 .taken))
 
+start-vert-requires : tie.Need-start-vert-requires
+start-vert-requires c κs = let z = c .before .before .before .before in z .pre .1 .inside _ (z .pre .0)
+
 mul-code : tie.Need-mul-code
 mul-code c = omega (arith, c .start-vert .ensures, c .before .before .before .before .before .pre .1 .start-in _ (c .before .before .before .before .before .pre .0))
 
@@ -46,7 +49,7 @@ vert-face-at-spec =
     (tie.spec
     shared-slice-read-if1
     returns
-    (λ c κs. tt)
+    start-vert-requires
     mul-code
     slice-read-code
     add-flat-face-requires

@@ -53,7 +53,7 @@ sub-e : tie.Need-sub-e Inv-loop μ-loop
 sub-e c = omega arith
 
 start-vert-requires : tie.Need-start-vert-requires Inv-loop μ-loop
-start-vert-requires c κs = tt
+start-vert-requires c κs = c .before .before .before .before .before .before .before .pre .inside _ (omega arith)
 
 mul-at : tie.Need-mul-at Inv-loop μ-loop
 mul-at c = omega (arith, c .start-vert .ensures, c .before .before .before .before .before .before .before .before .pre .start-in (c .before .before .loop .e - 1) (omega arith))

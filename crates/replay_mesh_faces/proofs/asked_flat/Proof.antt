@@ -5,6 +5,9 @@ use borrow.Author.Needs.{needs}
 use Rattle.replay_mesh_faces.proofs.asked_flat.Statement.{statement}
 use Rattle.replay_mesh_faces.proofs.asked_flat.Tie as tie
 
+has-length-requires : tie.Need-has-length-requires
+has-length-requires c κs = tt
+
 check-mesh-requires : tie.Need-check-mesh-requires
 check-mesh-requires c κs = search needs
 
@@ -21,7 +24,7 @@ returns : tie.Need-returns
 returns c = search needs
 
 flat-all-requires : tie.Need-flat-all-requires
-flat-all-requires c κs = asked _ _ _ _ (sym (c .before .before .before .before .check-mesh .ensures) ∙ c .before .before .enum-told .given .1)
+flat-all-requires c κs = asked _ _ _ _ (c .before .before .before .before .before .has-length .ensures) (sym (c .before .before .before .before .check-mesh .ensures) ∙ c .before .before .enum-told .given .1)
 
 same-length : tie.Need-same-length
 same-length c = search needs
@@ -36,6 +39,7 @@ pub asked-flat-spec : {M : Type 1} → statement M
 asked-flat-spec =
     tie.close
     (tie.spec
+    has-length-requires
     check-mesh-requires
     enum-told
     enum-told-2

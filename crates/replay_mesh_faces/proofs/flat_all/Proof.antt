@@ -1,11 +1,12 @@
 -- `replay_mesh_faces::flat_all` is safe and ends: the flags keep their number. Assumes nothing.
+use Rattle.faces.proofs.Lent.{flat-in}
 use Rattle.replay_mesh_faces.proofs.Lent.{points-still}
 use borrow.Author.Needs.{needs}
 use Rattle.replay_mesh_faces.proofs.flat_all.Statement.{statement}
 use Rattle.replay_mesh_faces.proofs.flat_all.Tie as tie
 
 flat-faces-requires : tie.Need-flat-faces-requires
-flat-faces-requires c κs = search needs
+flat-faces-requires c κs = let w = c .before .before .before .before .pre in flat-in _ _ _ (w .sound) (w .whole)
 
 after-requires : tie.Need-after-requires
 after-requires c κs = search needs

@@ -1,41 +1,18 @@
 -- `replay_mesh_leaves::inside_all` is safe and ends. Assumes nothing.
 use Prim.Native.Nat.{_≤_, _-_}
 use borrow.Author.Needs.{needs}
+use Rattle.smoothing.proofs.Edges.{inside-quad-in}
 use Rattle.replay_mesh_leaves.proofs.inside_all.Statement.{statement}
 use Rattle.replay_mesh_leaves.proofs.inside_all.Tie as tie
 
 abbrev Inv-loop : tie.InvT-loop
-Inv-loop s at h refs t old n e₀ e = e ≤ n
+Inv-loop s at h refs t old n p e₀ e = e ≤ n
 
 abbrev μ-loop : tie.MeasureT-loop
-μ-loop s at h refs t old n e₀ e = n - e
+μ-loop s at h refs t old n p e₀ e = n - e
 
-loop-holds : tie.Need-loop-holds Inv-loop μ-loop
-loop-holds c = search needs
-
-after-requires : tie.Need-after-requires Inv-loop μ-loop
-after-requires c κs = search needs
-
-byte-requires : tie.Need-byte-requires Inv-loop μ-loop
-byte-requires c κs = search needs
-
-quad-at-requires : tie.Need-quad-at-requires Inv-loop μ-loop
-quad-at-requires c κs = search needs
-
-returns : tie.Need-returns Inv-loop μ-loop
-returns c = search needs
-
-add-e : tie.Need-add-e Inv-loop μ-loop
-add-e c = search needs
-
-loop-less : tie.Need-loop-less Inv-loop μ-loop
-loop-less c = search needs
-
-loop-again : tie.Need-loop-again Inv-loop μ-loop
-loop-again c = search needs
-
-returns-2 : tie.Need-returns-2 Inv-loop μ-loop
-returns-2 c = search needs
+is-inside-quad-requires : tie.Need-is-inside-quad-requires Inv-loop μ-loop
+is-inside-quad-requires c κs = let l = c .before .before .before .before .pre in inside-quad-in _ _ _ _ (l .sound) (l .whole) (l .tangents) (c .before .loop .e) (c .loop-test .taken)
 
 pub inside-all-spec : {M : Type 1} → statement M
 inside-all-spec =
@@ -43,12 +20,13 @@ inside-all-spec =
     (tie.spec
     Inv-loop
     μ-loop
-    loop-holds
-    after-requires
-    byte-requires
-    quad-at-requires
-    returns
-    add-e
-    loop-less
-    loop-again
-    returns-2)
+    (λ c. search needs)
+    is-inside-quad-requires
+    (λ c κs. search needs)
+    (λ c κs. search needs)
+    (λ c κs. search needs)
+    (λ c. search needs)
+    (λ c. search needs)
+    (λ c. search needs)
+    (λ c. search needs)
+    (λ c. search needs))

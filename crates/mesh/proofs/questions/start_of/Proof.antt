@@ -1,0 +1,10 @@
+-- `mesh::questions::start_of` meets its contract.
+use native.Mathlib.Omega.{arith}
+use Rattle.mesh.proofs.questions.start_of.Statement.{statement}
+use Rattle.mesh.proofs.questions.start_of.Tie as tie
+
+returns : tie.Need-returns
+returns c = c .field .ensures
+
+pub start-of-spec : {M : Type 1} → statement M
+start-of-spec = tie.close (tie.spec (λ c κs. omega arith) returns)

@@ -1,0 +1,2 @@
+-- The laws of `replay_mesh_leaves`.
+mod Lent

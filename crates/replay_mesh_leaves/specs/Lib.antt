@@ -1,0 +1,2 @@
+-- The specs of `replay_mesh_leaves`.
+pub mod Lists
