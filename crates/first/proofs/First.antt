@@ -7,24 +7,23 @@ use mathlib.Core.Bool.{Bool, true, false}
 use lib.ListN.{length, replicate, length-replicate}
 use lib.IntN.{ℤ}
 use lib.Ieee.{Float}
-use lib.Dec.{eqb}
-use borrow.Author.Tests.{eqb-true, eqb-false}
 use Rattle.float.specs.Ops as Ops
-use Rattle.mesh.specs.Mesh.{startVert}
+use Rattle.mesh.specs.Mesh.{startVert, pairedHalfedge}
 use Rattle.mesh.specs.Fold.{foldTo}
 use Rattle.mesh.specs.Sound.{Sound}
-use Rattle.mesh.proofs.Fold.{fold-keeps}
 use Rattle.faces.specs.declared.FlatFace.{FlatFace}
 use Rattle.faces.specs.declared.FlatFace.the-variants.{NoFace, OneFace, MoreFaces}
 use Rattle.faces.specs.Faces.{flatFaces, isFlat, vertFlatFace}
 use Rattle.faces.proofs.Verts.{vert-face-in}
 use Rattle.faces.proofs.Loops.{fold-turn}
-use Rattle.linalg.specs.declared.Vec4.{Vec4}
-use Rattle.smoothing.specs.Lists.{tangentAt, putTangent, weightAt}
+use Rattle.smoothing.specs.Lists.{putTangent, weightAt}
 use Rattle.smoothing.specs.Edges.{isInsideQuad}
-use Rattle.smoothing.proofs.Tangents.{length-put, tangent-put-same, tangent-put-other, weight-put-other, same-tangents}
-use Rattle.first.specs.First.{firstTangent, putFirstTangent, firstTangents}
-use Rattle.first.specs.Lent.{FaceIn, FirstLists, faceAt, FirstIn}
+use Rattle.smoothing.specs.Inner.{tangentsFromNormals, putEdge}
+use Rattle.smoothing.proofs.Tangents.{weight-put-other}
+use Rattle.smoothing.proofs.Pairs.{inside-pair}
+use Rattle.smoothing.proofs.Places.{tangent-places, each-same, edges-same}
+use Rattle.first.specs.First.{insideQuadTangent, firstTangent, putFirstTangent, firstTangents}
+use Rattle.first.specs.Lent.{FaceIn, FirstLists, faceAt, FirstIn, normalAt, firstAt, edgeTangents}
 
 -- two loops whose bodies agree
 fold-same : {S : Type 0} (f g : S → ℕ → S) (s : S) (n : ℕ) → ((t : S) (k : ℕ) → k < n → f t k ≡ g t k) → foldTo f s n ≡ foldTo g s n
@@ -32,35 +31,6 @@ unfolding foldTo
 fold-same f g s zero h = refl
 fold-same f g s (suc n) h =
     h (foldTo f s n) n (omega arith) ∙ ap (λ t. g t n) (fold-same f g s n (λ t k l. h t k (omega arith)))
-
--- ---- a loop that writes a tangent of each halfedge leaves nothing of the list before it
-
-module _ (v : ℕ → Vec4) where
-  abbrev put : List Float → ℕ → List Float
-  put T e = putTangent T e (v e)
-
-  length-puts : (T : List Float) (n : ℕ) → length (foldTo put T n) ≡ length T
-  length-puts T n = fold-keeps put T (λ (S : List Float). length S ≡ length T) n (λ S e l q. length-put S e (v e) ∙ q) refl n (omega arith)
-
-  put-turn : (L : List Float) (n e : ℕ) → n * 4 + 4 ≤ length L → (e < n → tangentAt L e ≡ v e) → e ≤ n → tangentAt (put L n) e ≡ v e
-  put-turn L n e h before l = go (eqb e n) refl
-    where
-      go : (b : Bool) → eqb e n ≡ b → tangentAt (put L n) e ≡ v e
-      go true q = let p : e ≡ n = eqb-true e n q in rw p (tangent-put-same L n (v n) h)
-      go false q =
-          let p : e ≡ n → ⊥ = eqb-false e n q in
-          tangent-put-other L n (v n) e p ∙ before (omega arith)
-
-  put-at : (T : List Float) (n : ℕ) → n * 4 ≤ length T → (e : ℕ) → e < n → tangentAt (foldTo put T n) e ≡ v e
-  unfolding foldTo
-  put-at T zero h e l = absurd (omega arith)
-  put-at T (suc n) h e l =
-      put-turn (foldTo put T n) n e (omega (arith, length-puts T n)) (put-at T n (omega arith) e) (omega arith)
-
-  pub puts-same : (S T : List Float) (n : ℕ) → length S ≡ n * 4 → length T ≡ n * 4 → foldTo put S n ≡ foldTo put T n
-  puts-same S T n a b =
-      same-tangents n (foldTo put S n) (foldTo put T n) (length-puts S n ∙ a) (length-puts T n ∙ b)
-      (λ e l. put-at S n (omega arith) e l ∙ sym (put-at T n (omega arith) e l))
 
 -- ---- one turn
 
@@ -78,7 +48,7 @@ module _ (H : List ℤ) (P N A : List Float) where
   -- any list of n tangents may stand for the zeros
   first-from : (inside : ℕ → Bool) (faces : ℕ → FlatFace) (S T : List Float) (n : ℕ) → length S ≡ n * 4 → length T ≡ n * 4 → foldTo (putFirstTangent H P N A inside faces) S n ≡ foldTo (putFirstTangent H P N A inside faces) T n
   unfolding putFirstTangent
-  first-from inside faces = puts-same (λ e. firstTangent H P N A inside (faces (startVert H e)) e)
+  first-from inside faces S T n = each-same (tangent-places n) (λ e. firstTangent H P N A inside (faces (startVert H e)) e) S T
 
 -- of the old tangents only e's own weight is read
 inside-same : (H R : List ℤ) (old : Bool) (O T : List Float) (e : ℕ) → weightAt T e ≡ weightAt O e → isInsideQuad H R T old e ≡ isInsideQuad H R O old e
@@ -98,6 +68,30 @@ module _ (H R : List ℤ) (P N A : List Float) (old : Bool) (faces : ℕ → Fla
     λ x h. ap (λ (L : List Float). weightAt L x) q ∙ first-other H P N A (isInsideQuad H R T old) faces T e x (λ z. omega arith) ∙ ahead x (omega arith),
   )
 
+-- ---- edge by edge, where there are no old tangents
+
+module _ {H : List ℤ} {P N A : List Float} {C : List ℕ} {T : List Float} {n : ℕ} (w : FirstIn H P N A C T n) (R : List ℤ) where
+  inside-there : (e : ℕ) → e < n → isInsideQuad H R T false (pairedHalfedge H e) ≡ isInsideQuad H R T false e
+  inside-there = inside-pair H R n (length C) T (w .lists .sound)
+
+  pub edge-inside : (e : ℕ) → e < n → isInsideQuad H R T false e ≡ true → edgeTangents H R P N A C T e ≡ record { here = insideQuadTangent; there = insideQuadTangent }
+  unfolding edgeTangents firstTangent
+  edge-inside e h q = rw (inside-there e h, q)
+
+  pub edge-outside : (e : ℕ) → e < n → isInsideQuad H R T false e ≡ false → edgeTangents H R P N A C T e ≡ tangentsFromNormals H P A (normalAt H N A C e) (normalAt H N A C (pairedHalfedge H e)) e
+  unfolding edgeTangents firstTangent tangentsFromNormals
+  edge-outside e h q = rw (inside-there e h, q)
+
+  -- the loop over the edges is that over the halfedges
+  pub edges-are : foldTo (putEdge putTangent H (firstAt H R P N A C T false)) T n ≡ foldTo (putFirstTangent H P N A (isInsideQuad H R T false) (faceAt C)) T n
+  unfolding putFirstTangent
+  edges-are = edges-same (tangent-places n) (firstAt H R P N A C T false) (w .lists .sound) T T (w .lists .tangents) (w .lists .tangents)
+
+-- one turn of it: without old tangents the list is not read
+pub edge-turn : (H R : List ℤ) (P N A : List Float) (C : List ℕ) (O T T′ : List Float) (e : ℕ) → T ≡ foldTo (putEdge putTangent H (firstAt H R P N A C O false)) O e → T′ ≡ putEdge putTangent H (firstAt H R P N A C T false) T e → T′ ≡ foldTo (putEdge putTangent H (firstAt H R P N A C O false)) O (e + 1)
+unfolding isInsideQuad
+edge-turn H R P N A C O T T′ e p q = fold-turn (putEdge putTangent H (firstAt H R P N A C O false)) O T T′ e p q
+
 -- ---- the list C′, once it is filled
 
 face-in : (n : ℕ) (f : FlatFace) → ((t : ℕ) → f ≡ OneFace t → t * 3 + 3 ≤ n) → FaceIn n f
@@ -114,6 +108,7 @@ module _ {H : List ℤ} {P N A : List Float} {C : List ℕ} {T : List Float} {n 
   first-in k = record {
     lists = record {
       sound = subst (Sound H n) (sym k) (w .sound);
+      whole = w .whole;
       positions = w .positions ∙ ap (λ (m : ℕ). m * 3) (sym k);
       normals = w .normals ∙ ap (λ (m : ℕ). m * 3) (sym k);
       face-normals = w .face-normals;

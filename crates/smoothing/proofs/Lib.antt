@@ -2,3 +2,7 @@
 pub mod Directions
 pub mod Tangents
 pub mod Edges
+mod Floats
+pub mod Inner
+pub mod Pairs
+pub mod Places

@@ -10,26 +10,45 @@ use Rattle.linalg.specs.declared.Vec3.{Vec3}
 use Rattle.linalg.specs.declared.Vec4.{Vec4}
 use Rattle.linalg.specs.Vec.{add3, sub3, dotOf, crossOf}
 use Rattle.mesh.specs.Mesh.{startVert, endVert, pairedHalfedge, nextHalfedge, sameFace}
+use Rattle.mesh.specs.Inside.{Inside}
 use Rattle.smoothing.specs.Directions.{circularTangent}
 use Rattle.smoothing.specs.Lists.{pointAt, weightAt}
 
--- ---- what the lists must hold for a call: `edge-in`, `faces-in` and `quad-in` of `proofs/Edges.antt` give it on an accepted mesh
+-- ---- what the lists must hold for a call: `edge-in`, `normals-in`, `faces-in`, `quad-in` and `inside-quad-in` of `proofs/Edges.antt` give it on an accepted mesh
 
 -- both ends of halfedge e have a position
 pub record EdgeIn (H : List ℤ) (P : List Float) (e : ℕ) : Type 0 where
+  pub inside : Inside H e
   pub start-in : startVert H e * 3 + 3 ≤ length P
   pub end-in : endVert H e * 3 + 3 ≤ length P
 
--- and both triangles at it have a normal
-pub record FacesIn (H : List ℤ) (P A : List Float) (e : ℕ) : Type 0 where
-  pub edge : EdgeIn H P e
+-- both triangles at it have a normal
+pub record NormalsIn (H : List ℤ) (A : List Float) (e : ℕ) : Type 0 where
+  pub inside : Inside H e
   pub here-in : e / 3 * 3 + 3 ≤ length A
   pub there-in : pairedHalfedge H e / 3 * 3 + 3 ≤ length A
+
+-- both of these
+pub record FacesIn (H : List ℤ) (P A : List Float) (e : ℕ) : Type 0 where
+  pub edge : EdgeIn H P e
+  pub normals : NormalsIn H A e
 
 -- halfedge e and its pair have a tangent
 pub record QuadIn (H : List ℤ) (T : List Float) (e : ℕ) : Type 0 where
   pub here-in : e * 4 + 4 ≤ length T
   pub there-in : pairedHalfedge H e * 4 + 4 ≤ length T
+
+-- halfedge e and the other two of its triangle are read
+pub record TriangleIn (H : List ℤ) (e : ℕ) : Type 0 where
+  pub here : Inside H e
+  pub next : Inside H (nextHalfedge e)
+  pub last : Inside H (nextHalfedge (nextHalfedge e))
+
+-- what `is_inside_quad` reads: both triangles at halfedge e, and its tangent
+pub record InsideQuadIn (H : List ℤ) (T : List Float) (e : ℕ) : Type 0 where
+  pub here : TriangleIn H e
+  pub there : TriangleIn H (pairedHalfedge H e)
+  pub tangent-in : e * 4 + 4 ≤ length T
 
 -- ---- the tangent from a normal
 

@@ -1,13 +1,28 @@
 // The leaves of src/smoothing.rs: directions, angles and circular tangents, each the Rust's, operation by operation; and
 // tangents, points and normals as values of flat lists.
 ghost use mathlib.Core.Path.{_≡_};
-ghost use Prim.Native.Nat.{_+_, _*_, _≤_, _<_, _^_};
+ghost use Prim.Native.Nat.{_+_, _*_, _≤_};
 ghost use lib.ListN.{length};
+ghost use Rattle.mesh.specs.Inside.{Inside};
 ghost use Rattle.smoothing.specs.Directions.{vec3FromVec4, isDegenerate, directionBy, safeNormalize, wrapOf, angleBetween, equalNormals, equalUnits, circularTangent};
 ghost use Rattle.smoothing.specs.Lists.{pointAt, tangentAt, putTangent, weightAt, isMarkedInsideQuad};
-ghost use Rattle.smoothing.specs.Edges.{EdgeIn, FacesIn, QuadIn, edgeVec, biTangent, tangentFromNormal, sameFaceAcross, noOtherNeighbor, isInsideQuad};
+ghost use Rattle.smoothing.specs.Edges.{EdgeIn, NormalsIn, FacesIn, TriangleIn, InsideQuadIn, edgeVec, biTangent, tangentFromNormal, sameFaceAcross, noOtherNeighbor, isInsideQuad};
+ghost use Rattle.smoothing.specs.Inner.{angleOfCosine, LengthOf, edgeNormal, directionFromNormal, EdgesIn, PairIn, edgeVecs, tangentsFromNormals};
+ghost use Rattle.linalg.specs.Vec.{crossOf};
 use linalg::Vec3;
 use linalg::Vec4;
+
+// The edges of a halfedge and of its pair.
+pub struct EdgeVecs {
+    pub here: Vec3,
+    pub there: Vec3,
+}
+
+// The tangents of a halfedge and of its pair.
+pub struct TwoTangents {
+    pub here: Vec4,
+    pub there: Vec4,
+}
 
 const K_PI: f64 = 3.14159265358979323846264338327950288;
 
@@ -66,10 +81,10 @@ pub fn wrap(radians: f64) -> f64
     }
 }
 
-pub fn angle_between(a: Vec3, b: Vec3) -> f64
-    ensures { λ r. ⌜ r ≡ angleBetween a b ⌝ }
+// `angle_between`, of the dot product of the two directions: a number is cheaper to pass than two vectors.
+pub fn angle_of_cosine(d: f64) -> f64
+    ensures { λ r. ⌜ r ≡ angleOfCosine d ⌝ }
 {
-    let d = linalg::dot(a, b);
     if d >= 1.0 {
         0.0
     } else if d <= -1.0 {
@@ -77,6 +92,12 @@ pub fn angle_between(a: Vec3, b: Vec3) -> f64
     } else {
         math::acos(d)
     }
+}
+
+pub fn angle_between(a: Vec3, b: Vec3) -> f64
+    ensures { λ r. ⌜ r ≡ angleBetween a b ⌝ }
+{
+    angle_of_cosine(linalg::dot(a, b))
 }
 
 // Do two normals agree within a tolerance, about 0.81 degrees? Of their unit vectors.
@@ -92,13 +113,12 @@ pub fn equal_normals(a: Vec3, b: Vec3) -> bool
     equal_units(safe_normalize(a), safe_normalize(b))
 }
 
-// The length of the edge is worked out once, for its direction and for itself.
-pub fn circular_tangent(tangent: Vec3, edge_vec: Vec3) -> Vec4
+// `circular_tangent`, where the edge's squared length and its length are known.
+pub fn circular_tangent_by(tangent: Vec3, edge_vec: Vec3, len2: f64, len: f64) -> Vec4
+    requires { ⌜ LengthOf «edge_vec» len2 len ⌝ }
     ensures { λ r. ⌜ r ≡ circularTangent tangent «edge_vec» ⌝ }
 {
     let dir = safe_normalize(tangent);
-    let len2 = linalg::dot(edge_vec, edge_vec);
-    let len = sqrt::sqrt(len2);
     let weight = float::max(0.5, linalg::dot(dir, direction_by(edge_vec, len2, len)));
     let bz2 = Vec4 {
         x: dir.x * 0.5 * len,
@@ -118,6 +138,14 @@ pub fn circular_tangent(tangent: Vec3, edge_vec: Vec3) -> Vec4
         z: bz3.z / bz3.w,
         w: bz3.w,
     }
+}
+
+// The length of the edge is worked out once, for its direction and for itself.
+pub fn circular_tangent(tangent: Vec3, edge_vec: Vec3) -> Vec4
+    ensures { λ r. ⌜ r ≡ circularTangent tangent «edge_vec» ⌝ }
+{
+    let len2 = linalg::dot(edge_vec, edge_vec);
+    circular_tangent_by(tangent, edge_vec, len2, sqrt::sqrt(len2))
 }
 
 // The point, or the normal, k of a list with three numbers each.
@@ -193,6 +221,33 @@ fn bi_tangent(normal: Vec3, edge_normal: Vec3, edge_vec: Vec3) -> Vec3
     }
 }
 
+// The sum of the normals of the triangles at halfedge e.
+fn edge_normal(h: &[i32], face_normals: &[f64], e: usize) -> Vec3
+    requires { ⌜ NormalsIn (now h) (now «face_normals») e ⌝ }
+    ensures { λ r. ⌜ r ≡ edgeNormal (now (h .entry)) (now («face_normals» .entry)) e ⌝ }
+{
+    let pair = mesh::paired_halfedge(h, e);
+    linalg::add(
+        point_at(face_normals, e / 3),
+        point_at(face_normals, pair / 3),
+    )
+}
+
+// The direction of the tangent of halfedge e from a normal, where its edge is known.
+pub fn direction_from_normal(
+    h: &[i32],
+    face_normals: &[f64],
+    normal: Vec3,
+    edge: Vec3,
+    e: usize,
+) -> Vec3
+    requires { ⌜ NormalsIn (now h) (now «face_normals») e ⌝ }
+    ensures { λ r. ⌜ r ≡ directionFromNormal (now (h .entry)) (now («face_normals» .entry)) normal edge e ⌝ }
+{
+    let bi = bi_tangent(normal, edge_normal(h, face_normals, e), edge);
+    linalg::cross(bi, normal)
+}
+
 pub fn tangent_from_normal(
     h: &[i32],
     pos: &[f64],
@@ -204,17 +259,59 @@ pub fn tangent_from_normal(
     ensures { λ r. ⌜ r ≡ tangentFromNormal (now (h .entry)) (now (pos .entry)) (now («face_normals» .entry)) normal e ⌝ }
 {
     let edge = edge_vec(h, pos, e);
-    let pair = mesh::paired_halfedge(h, e);
-    let edge_normal = linalg::add(
-        point_at(face_normals, e / 3),
-        point_at(face_normals, pair / 3),
-    );
+    circular_tangent(
+        direction_from_normal(h, face_normals, normal, edge, e),
+        edge,
+    )
+}
+
+// The edges of halfedge e and of its pair. Each is a difference: where two coordinates are the same both are +0, and the negative
+// of one would be -0.
+fn edge_vecs(h: &[i32], pos: &[f64], e: usize) -> EdgeVecs
+    requires { ⌜ EdgesIn (now h) (now pos) e ⌝ }
+    ensures { λ r. ⌜ r ≡ edgeVecs (now (h .entry)) (now (pos .entry)) e ⌝ }
+{
+    let end = point_at(pos, mesh::end_vert(h, e));
+    let start = point_at(pos, mesh::start_vert(h, e));
+    let here = linalg::sub(end, start);
+    let there = linalg::sub(start, end);
+    EdgeVecs { here, there }
+}
+
+// The tangent from a normal, where the edge, its length and its normal are known.
+fn tangent_across(normal: Vec3, edge_normal: Vec3, edge: Vec3, len2: f64, len: f64) -> Vec4
+    requires { ⌜ LengthOf edge len2 len ⌝ }
+    ensures { λ r. ⌜ r ≡ circularTangent (crossOf (biTangent normal «edge_normal» edge) normal) edge ⌝ }
+{
     let bi = bi_tangent(normal, edge_normal, edge);
-    circular_tangent(linalg::cross(bi, normal), edge)
+    circular_tangent_by(linalg::cross(bi, normal), edge, len2, len)
+}
+
+// The tangents of halfedge e and of its pair from a normal each. The squared length and the sum of the two triangles' normals are the
+// same either way, so each is worked out once, with one root.
+pub fn tangents_from_normals(
+    h: &[i32],
+    pos: &[f64],
+    face_normals: &[f64],
+    a: Vec3,
+    b: Vec3,
+    e: usize,
+) -> TwoTangents
+    requires { ⌜ PairIn (now h) (now pos) (now «face_normals») e ⌝ }
+    ensures { λ r. ⌜ r ≡ tangentsFromNormals (now (h .entry)) (now (pos .entry)) (now («face_normals» .entry)) a b e ⌝ }
+{
+    let edges = edge_vecs(h, pos, e);
+    let normal = edge_normal(h, face_normals, e);
+    let len2 = linalg::dot(edges.here, edges.here);
+    let len = sqrt::sqrt(len2);
+    let here = tangent_across(a, normal, edges.here, len2, len);
+    let there = tangent_across(b, normal, edges.there, len2, len);
+    TwoTangents { here, there }
 }
 
 // Is the triangle across halfedge e of triangle t's face?
 fn same_face_across(h: &[i32], refs: &[i32], e: usize, t: usize) -> bool
+    requires { ⌜ Inside (now h) e ⌝ }
     ensures { λ r. ⌜ r ≡ sameFaceAcross (now (h .entry)) (now (refs .entry)) e t ⌝ }
 {
     mesh::same_face(refs, t, mesh::paired_halfedge(h, e) / 3)
@@ -222,7 +319,7 @@ fn same_face_across(h: &[i32], refs: &[i32], e: usize, t: usize) -> bool
 
 // Has neither of the other two halfedges of e's triangle its face across?
 fn no_other_neighbor(h: &[i32], refs: &[i32], e: usize) -> bool
-    requires { ⌜ e + 2 < 2 ^ 64 ⌝ }
+    requires { ⌜ TriangleIn (now h) e ⌝ }
     ensures { λ r. ⌜ r ≡ noOtherNeighbor (now (h .entry)) (now (refs .entry)) e ⌝ }
 {
     let next = mesh::next_halfedge(e);
@@ -234,7 +331,7 @@ fn no_other_neighbor(h: &[i32], refs: &[i32], e: usize) -> bool
 
 // `old` says whether old tangents exist: their weights decide, else the face references.
 pub fn is_inside_quad(h: &[i32], refs: &[i32], t: &[f64], old: bool, e: usize) -> bool
-    requires { ⌜ QuadIn (now h) (now t) e ⌝ }
+    requires { ⌜ InsideQuadIn (now h) (now t) e ⌝ }
     ensures { λ r. ⌜ r ≡ isInsideQuad (now (h .entry)) (now (refs .entry)) (now (t .entry)) old e ⌝ }
 {
     if old {

@@ -9,10 +9,10 @@ use Rattle.first.proofs.first_tangents.Statement.{statement}
 use Rattle.first.proofs.first_tangents.Tie as tie
 
 flat-faces-requires : tie.Need-flat-faces-requires
-flat-faces-requires c κs = flat-lent (c .before .before .before .before .before .before .before .pre .0 .sound) (c .before .before .before .before .before .before .before .args .flat .now) (c .before .before .before .before .before .before .before .pre .1)
+flat-faces-requires c κs = flat-lent (c .before .before .before .before .before .before .before .pre .0 .sound) (c .before .before .before .before .before .before .before .pre .0 .whole) (c .before .before .before .before .before .before .before .args .flat .now) (c .before .before .before .before .before .before .before .pre .1)
 
 vert-flat-face-requires : tie.Need-vert-flat-face-requires
-vert-flat-face-requires c κs = verts-lent (c .before .before .before .before .before .before .before .before .before .before .before .before .pre .0 .sound) (c .before .before .before .before .flat-faces .last .1 .1 .0) (c .before .before .before .before .flat-faces .kept .1 .1 .0 ∙ c .before .before .before .before .before .before .before .before .before .before .before .before .pre .1)
+vert-flat-face-requires c κs = verts-lent (c .before .before .before .before .before .before .before .before .before .before .before .before .pre .0 .sound) (c .before .before .before .before .before .before .before .before .before .before .before .before .pre .0 .whole) (c .before .before .before .before .flat-faces .last .1 .1 .0) (c .before .before .before .before .flat-faces .kept .1 .1 .0 ∙ c .before .before .before .before .before .before .before .before .before .before .before .before .pre .1)
 
 put-first-tangents-requires : tie.Need-put-first-tangents-requires
 put-first-tangents-requires c κs = first-in (c .before .before .before .before .before .before .before .before .before .before .before .before .before .before .before .before .before .pre .0) (c .before .before .before .before .before .before .before .before .before .before .before .before .before .before .before .before .before .args .refs .now) (c .before .before .before .before .before .before .before .before .before .flat-faces .last .1 .1 .0) (c .before .before .before .before .vert-flat-face .last .1 .1 .1 .0) (c .before .before .before .before .before .before .before .before .before .flat-faces .kept .1 .1 .0 ∙ c .before .before .before .before .before .before .before .before .before .before .before .before .before .before .before .before .before .pre .1) (c .before .before .before .before .vert-flat-face .ensures) (c .before .before .before .before .vert-flat-face .kept .1 .1 .1 .0)

@@ -1,67 +1,27 @@
--- `first::put_first_tangents` meets its contract. The invariant: the list is the fold over the halfedges passed, and holds the lent weights from there on. Assumes nothing.
-use Rattle.first.proofs.Lent.{first-still}
-use Rattle.first.proofs.First.{first-turn}
-use Rattle.first.specs.First.{putFirstTangent}
-use Rattle.first.specs.Lent.{faceAt}
-use Rattle.smoothing.specs.Edges.{isInsideQuad}
-use Rattle.smoothing.specs.Lists.{weightAt}
-use Rattle.mesh.proofs.Fold.{fold-none}
-use Rattle.mesh.specs.Fold.{foldTo}
-use lib.ListN.{length}
-use native.Mathlib.Omega.{arith}
-use mathlib.Core.Path.{_≡_, refl, sym, _∙_}
-use Prim.Native.Nat.{ℕ, _-_, _≤_}
+-- `first::put_first_tangents` meets its contract: each way is what the test picks. Assumes nothing.
+use borrow.Author.Needs.{needs}
 use Rattle.first.proofs.put_first_tangents.Statement.{statement}
 use Rattle.first.proofs.put_first_tangents.Tie as tie
 
-abbrev Inv-loop : tie.InvT-loop
-Inv-loop n h refs pos normals face-normals at old t₀ e₀ t e =
-    (e ≤ n) × (length t ≡ length t₀)
-    × (t ≡ foldTo (putFirstTangent h pos normals face-normals (isInsideQuad h refs t₀ old) (faceAt at)) t₀ e)
-    × ((x : ℕ) → e ≤ x → weightAt t x ≡ weightAt t₀ x)
+put-each-requires : tie.Need-put-each-requires
+put-each-requires c κs = search needs
 
-abbrev μ-loop : tie.MeasureT-loop
-μ-loop n h refs pos normals face-normals at old t₀ e₀ t e = n - e
+same-length : tie.Need-same-length
+same-length c = search needs
 
-loop-holds : tie.Need-loop-holds Inv-loop μ-loop
-loop-holds c = (omega arith, refl, sym (fold-none _ _), λ x h. refl)
+returns : tie.Need-returns
+returns c = rw (c .before .before .before .before .if1 .taken) (c .before .before .put-each .ensures)
 
-put-first-tangent-requires : tie.Need-put-first-tangent-requires Inv-loop μ-loop
-put-first-tangent-requires c κs = (omega arith, first-still (c .before .before .loop .inv .1) (c .before .before .before .before .before .before .before .before .pre))
+put-edges-requires : tie.Need-put-edges-requires
+put-edges-requires c κs = search needs
 
-add-e : tie.Need-add-e Inv-loop μ-loop
-add-e c = omega arith
+same-length-2 : tie.Need-same-length-2
+same-length-2 c = search needs
 
-loop-less : tie.Need-loop-less Inv-loop μ-loop
-loop-less c = omega arith
-
-loop-again : tie.Need-loop-again Inv-loop μ-loop
-loop-again c =
-    let a = c .before .before .before .before .before .before .before .before .before .before .before .args in
-    let l = c .before .before .before .before .before .loop in
-    let p = c .before .before .put-first-tangent in
-    let t = first-turn (a .h .now) (a .refs .now) (a .pos .now) (a .normals .now) (a .«face-normals» .now) (a .old) (faceAt (a .at .now)) (a .t .now) (l .t) (p .last .1 .1 .1 .1 .1 .1 .1 .1 .0) (l .e) (l .inv .2) (l .inv .3) (p .ensures) in
-    (omega arith, p .kept .1 .1 .1 .1 .1 .1 .1 .1 .0 ∙ l .inv .1, t .0, t .1)
-
-same-length : tie.Need-same-length Inv-loop μ-loop
-same-length c = c .before .loop .inv .1
-
-returns : tie.Need-returns Inv-loop μ-loop
-returns c =
-    let l = c .before .loop in
-    let q : l .e ≡ c .before .before .before .before .before .before .before .args .n = omega arith in
-    rw q at (l .inv .2)
+returns-2 : tie.Need-returns-2
+returns-2 c = rw (c .before .before .before .before .if1 .left) (c .before .before .put-edges .ensures)
 
 pub put-first-tangents-spec : {M : Type 1} → statement M
 put-first-tangents-spec =
     tie.close
-    (tie.spec
-    Inv-loop
-    μ-loop
-    loop-holds
-    put-first-tangent-requires
-    add-e
-    loop-less
-    loop-again
-    same-length
-    returns)
+    (tie.spec put-each-requires same-length returns put-edges-requires same-length-2 returns-2)

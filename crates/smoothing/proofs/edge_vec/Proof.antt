@@ -4,8 +4,14 @@ use Rattle.smoothing.specs.Edges.{edgeVec}
 use Rattle.smoothing.proofs.edge_vec.Statement.{statement}
 use Rattle.smoothing.proofs.edge_vec.Tie as tie
 
+end-vert-requires : tie.Need-end-vert-requires
+end-vert-requires c κs = search needs
+
 point-at-requires : tie.Need-point-at-requires
 point-at-requires c κs = search needs
+
+start-vert-requires : tie.Need-start-vert-requires
+start-vert-requires c κs = search needs
 
 point-at-requires-2 : tie.Need-point-at-requires-2
 point-at-requires-2 c κs = search needs
@@ -18,9 +24,9 @@ pub edge-vec-spec : {M : Type 1} → statement M
 edge-vec-spec =
     tie.close
     (tie.spec
-    (λ c κs. tt)
+    end-vert-requires
     point-at-requires
-    (λ c κs. tt)
+    start-vert-requires
     point-at-requires-2
     (λ c κs. tt)
     returns)

@@ -12,6 +12,9 @@ returns : tie.Need-returns
 unfolding isInsideQuad
 returns c = simp (c .before .if1 .taken, ← c .weight-at .ensures)
 
+same-face-across-requires : tie.Need-same-face-across-requires
+same-face-across-requires c κs = search needs
+
 returns-2 : tie.Need-returns-2
 unfolding isInsideQuad
 returns-2 c = simp (c .before .before .if1 .left, ← c .before .same-face-across .ensures, not-true (c .before .same-face-across .result) (c .if2 .taken))
@@ -23,8 +26,11 @@ returns-3 : tie.Need-returns-3
 unfolding isInsideQuad
 returns-3 c = simp (c .before .before .before .before .if1 .left, ← c .before .before .before .same-face-across .ensures, not-false (c .before .before .before .same-face-across .result) (c .before .before .if2 .left), ← c .before .no-other-neighbor .ensures, not-true (c .before .no-other-neighbor .result) (c .if3 .taken))
 
+paired-halfedge-requires : tie.Need-paired-halfedge-requires
+paired-halfedge-requires c κs = search needs
+
 no-other-neighbor-requires-2 : tie.Need-no-other-neighbor-requires-2
-no-other-neighbor-requires-2 c κs = search needs
+no-other-neighbor-requires-2 c κs = rw (c .paired-halfedge .ensures) (c .before .before .before .before .before .before .before .pre .there)
 
 returns-4 : tie.Need-returns-4
 unfolding isInsideQuad
@@ -36,10 +42,10 @@ is-inside-quad-spec =
     (tie.spec
     weight-at-requires
     returns
-    (λ c κs. tt)
+    same-face-across-requires
     returns-2
     no-other-neighbor-requires
     returns-3
-    (λ c κs. tt)
+    paired-halfedge-requires
     no-other-neighbor-requires-2
     returns-4)

@@ -9,12 +9,18 @@ use Rattle.smoothing.proofs.no_other_neighbor.Tie as tie
 next-halfedge-requires : tie.Need-next-halfedge-requires
 next-halfedge-requires c κs = search needs
 
+same-face-across-requires : tie.Need-same-face-across-requires
+same-face-across-requires c κs = rw (c .next-halfedge .ensures) (c .before .pre .next)
+
 returns : tie.Need-returns
 unfolding noOtherNeighbor
 returns c = simp (← c .before .before .next-halfedge .ensures, ← c .before .same-face-across .ensures, c .if1 .taken)
 
 next-halfedge-requires-2 : tie.Need-next-halfedge-requires-2
 next-halfedge-requires-2 c κs = omega (arith, c .before .before .next-halfedge .ensures, next-at-most (c .before .before .before .args .e), c .before .before .before .pre)
+
+same-face-across-requires-2 : tie.Need-same-face-across-requires-2
+same-face-across-requires-2 c κs = rw (c .next-halfedge2 .ensures, c .before .before .before .next-halfedge .ensures) (c .before .before .before .before .pre .last)
 
 returns-2 : tie.Need-returns-2
 unfolding noOtherNeighbor
@@ -25,8 +31,8 @@ no-other-neighbor-spec =
     tie.close
     (tie.spec
     next-halfedge-requires
-    (λ c κs. tt)
+    same-face-across-requires
     returns
     next-halfedge-requires-2
-    (λ c κs. tt)
+    same-face-across-requires-2
     returns-2)
