@@ -30,6 +30,7 @@ lists-of H P N F T C D n p e =
     let desired : length D ≡ n * 1 = eqb-true _ _ (a .1) in
     record {
       sound = m .1;
+      whole = eqb-true _ _ (g .0);
       positions = eqb-true _ _ (g .1);
       normals = eqb-true _ _ (f .1);
       flags = flags ∙ mul-one n;

@@ -9,6 +9,7 @@ use borrow.Author.Tests.{eqb-false, ltb-true}
 use lib.Dec.{eqb, ltb}
 use lib.ListN.{length, getD, take, set}
 use lib.Seq.{getD-take, length-take-le, take-suc-set, take-set-lt}
+use lib.IntN.{ℤ}
 use lib.Ieee.{Float, nan}
 use Rattle.float.specs.Ops.{_⊖_, _⊗_, zero as 0f}
 use Rattle.linalg.specs.declared.Vec3.{Vec3}
@@ -16,8 +17,9 @@ use Rattle.linalg.specs.declared.Vec4.{Vec4}
 use Rattle.linalg.specs.Vec.{add3, crossOf}
 use Rattle.mesh.specs.Fold.{foldTo}
 use Rattle.smoothing.specs.Directions.{safeNormalize}
-use Rattle.distribute_steps.specs.FloatSteps.{lastOr, tangentDirection, nextCurrent, nextDesired, gatherEdge, addOffset, offsetSum, scaleOf, offsetOf, plan, clampAngle, clampedAngle, turnAngle, turnedTangent, turn, next}
-use Rattle.distribute_steps.specs.Scratch.{gatheredOf, planOf}
+use Rattle.smoothing.specs.Lists.{tangentAt}
+use Rattle.distribute_steps.specs.FloatSteps.{Gathered, begin, lastOr, tangentDirection, nextCurrent, nextDesired, gatherEdge, addOffset, offsetSum, scaleOf, offsetOf, plan, clampAngle, clampedAngle, turnAngle, turnedTangent, turn, next}
+use Rattle.distribute_steps.specs.Scratch.{gatheredOf, directionsAt, planOf}
 use Rattle.distribute_steps.specs.declared.Carried.{Carried}
 use Rattle.distribute_steps.specs.declared.Turning.{Turning}
 
@@ -57,24 +59,30 @@ clamped-take scale D k i h =
 
 -- ---- what is gathered
 
+-- the walk sets out with the directions at its start
+pub begin-directions : (H : List ℤ) (P T C D : List Float) (start : ℕ) (g : Carried) → gatheredOf C D g ≡ begin H P start (tangentAt T start)
+    → record { edge = g .«last_edge»; tangent = g .«first_tangent» } ≡ directionsAt H P T start start
+unfolding begin
+begin-directions H P T C D start g e = ap (λ (x : Gathered). record { edge = x .lastEdge; tangent = x .firstTangent }) e
+
 -- the angles a and b go to the next places
-pub gather-of : (C D : List Float) (approx edge : Vec3) (back : Bool) (v : Vec4) (g : Carried) → g .count < length C → g .count < length D
-    → gatheredOf
-    (set C (g .count) (nextCurrent back approx (tangentDirection v) (g .«first_tangent»)))
+pub gather-of : (C D : List Float) (approx edge tangent : Vec3) (back : Bool) (g : Carried) → g .count < length C → g .count < length D
+    → (v : Vec4) → tangent ≡ tangentDirection v → gatheredOf
+    (set C (g .count) (nextCurrent back approx tangent (g .«first_tangent»)))
     (set D (g .count) (nextDesired edge (g .«last_edge») D (g .count)))
     (record {
       count = g .count + 1;
-      normal = add3 (g .normal) (crossOf (tangentDirection v) (g .«last_tangent»));
+      normal = add3 (g .normal) (crossOf tangent (g .«last_tangent»));
       «last_edge» = edge;
       «first_tangent» = g .«first_tangent»;
-      «last_tangent» = tangentDirection v;
+      «last_tangent» = tangent;
     })
     ≡ gatherEdge approx edge back v (gatheredOf C D g)
 unfolding gatherEdge nextDesired
-gather-of C D approx edge back v g p q =
+gather-of C D approx edge tangent back g p q v is =
     let full : g .count ≤ length D = omega arith in
     let same : g .count ≤ g .count = omega arith in
-    rw (add-one (g .count), take-suc-set C (g .count) _ p, take-suc-set D (g .count) _ q, length-take-le (g .count) D full, last-take D (g .count) (g .count) 0f same)
+    rw (is, add-one (g .count), take-suc-set C (g .count) _ p, take-suc-set D (g .count) _ q, length-take-le (g .count) D full, last-take D (g .count) (g .count) 0f same)
 
 -- ---- what the second walk goes by
 

@@ -5,6 +5,7 @@ ghost use Prim.Native.Nat.{_+_, _*_, _≤_, _<_, _^_};
 ghost use mathlib.Core.List.{List};
 ghost use lib.ListN.{length};
 ghost use lib.Ieee.{Float};
+ghost use Rattle.linalg.specs.declared.Vec4.{Vec4};
 ghost use Rattle.smoothing.specs.Lists.{tangentAt, putTangent};
 ghost use Rattle.distribute_steps.specs.FloatSteps.{isMark, isFixed, isStart, edgeDirection, tangentDirection, lastOr, begin, angleAround, nextCurrent, nextDesired, gatherEdge, turnsNone, addOffset, offsetSum, scaleOf, offsetOf, plan, clampAngle, clampedAngle, turnedTangent, turn, next};
 ghost use Rattle.distribute_steps.specs.Scratch.{gatheredOf, planOf, EdgeFrom, GatherRoom, TurnRoom};
@@ -22,6 +23,12 @@ pub struct Carried {
     pub last_edge: Vec3,
     pub first_tangent: Vec3,
     pub last_tangent: Vec3,
+}
+
+// The two directions at a halfedge: from the start's point to its end, and of its tangent.
+pub struct Directions {
+    pub edge: Vec3,
+    pub tangent: Vec3,
 }
 
 // What the second walk goes by besides the angles, `count` of them in each list.
@@ -45,7 +52,10 @@ pub fn is_start(fixed: &[u8], t: &[f64], e: usize) -> bool
     requires { ⌜ (e < length (now fixed)) × (e * 4 + 4 ≤ length (now t)) ⌝ }
     ensures { λ r. ⌜ r ≡ isStart (now (fixed .entry)) (now (t .entry)) e ⌝ }
 {
-    mesh::both(!is_marked(t, e), fixed[e] == 1)
+    if fixed[e] != 1 {
+        return false;
+    }
+    !is_marked(t, e)
 }
 
 // The direction from the start's point to the end of halfedge `current`.
@@ -59,7 +69,7 @@ pub fn edge_direction(h: &[i32], pos: &[f64], start: usize, current: usize) -> V
 }
 
 // The direction of a tangent.
-fn tangent_direction(v: Vec4) -> Vec3
+pub fn tangent_direction(v: Vec4) -> Vec3
     ensures { λ r. ⌜ r ≡ tangentDirection v ⌝ }
 {
     smoothing::safe_normalize(smoothing::vec3_from_vec4(v))
@@ -102,7 +112,7 @@ pub fn begin(h: &[i32], pos: &[f64], start: usize, v: Vec4) -> Carried
 fn angle_around(approx: Vec3, tangent: Vec3, first: Vec3) -> f64
     ensures { λ r. ⌜ r ≡ angleAround approx tangent first ⌝ }
 {
-    let angle = smoothing::angle_between(tangent, first);
+    let angle = smoothing::angle_of_cosine(linalg::dot(tangent, first));
     if linalg::dot(approx, linalg::cross(tangent, first)) < 0.0 {
         return K_TWO_PI - angle;
     }
@@ -124,26 +134,26 @@ fn next_desired(edge: Vec3, last_edge: Vec3, desired: &[f64], k: usize) -> f64
     requires { ⌜ k ≤ length (now desired) ⌝ }
     ensures { λ r. ⌜ r ≡ nextDesired edge «last_edge» (now (desired .entry)) k ⌝ }
 {
-    smoothing::angle_between(edge, last_edge) + last_or(desired, k, 0.0)
+    smoothing::angle_of_cosine(linalg::dot(edge, last_edge)) + last_or(desired, k, 0.0)
 }
 
-// One unmarked halfedge is gathered: its angles go to the next place of each list.
+// One unmarked halfedge is gathered, by its two directions: its angles go to the next place of each list.
 pub fn gather_edge(
     current: &mut [f64],
     desired: &mut [f64],
     approx: Vec3,
-    edge: Vec3,
+    at: Directions,
     back: bool,
-    v: Vec4,
     g: Carried,
 ) -> Carried
-    requires { ⌜ GatherRoom (now current) (now desired) g ⌝ }
-    ensures { λ r. ⌜ gatheredOf (now (current .exit)) (now (desired .exit)) r ≡ gatherEdge approx edge back v (gatheredOf (now (current .entry)) (now (desired .entry)) g) ⌝ }
+    requires { ⌜ GatherRoom (now current) (now desired) at g ⌝ }
+    ensures { λ r. ⌜ ((v : Vec4) → at .tangent ≡ tangentDirection v → gatheredOf (now (current .exit)) (now (desired .exit)) r ≡ gatherEdge approx (at .edge) back v (gatheredOf (now (current .entry)) (now (desired .entry)) g)) ⌝ }
     ensures { λ r. ⌜ r .count ≡ g .count + 1 ⌝ }
 {
     let k = g.count;
     let first_tangent = g.first_tangent;
-    let tangent = tangent_direction(v);
+    let edge = at.edge;
+    let tangent = at.tangent;
     current[k] = next_current(back, approx, tangent, first_tangent);
     desired[k] = next_desired(edge, g.last_edge, desired, k);
     Carried {

@@ -6,8 +6,10 @@ use native.Mathlib.Omega.{arith}
 use lib.ListN.{length}
 use lib.IntN.{ℤ}
 use lib.Ieee.{Float}
+use Rattle.mesh.specs.Mesh.{halfedgeStride}
 use Rattle.mesh.specs.Sound.{Sound}
+use Rattle.mesh.proofs.Accepted.{inside}
 use Rattle.distribute_steps.specs.Scratch.{EdgeFrom}
 
-pub edge-from : {H : List ℤ} {n p : ℕ} {P : List Float} → Sound H n p → length P ≡ p * 3 → (start e : ℕ) → start < n → e < n → EdgeFrom H P start e
-edge-from s l start e a b = record { center-in = omega (arith, s .start-below start a); end-in = omega (arith, s .end-below e b) }
+pub edge-from : {H : List ℤ} {n p : ℕ} {P : List Float} → Sound H n p → length H ≡ n * halfedgeStride → length P ≡ p * 3 → (start e : ℕ) → start < n → e < n → EdgeFrom H P start e
+edge-from s w l start e a b = record { start-inside = inside s w start a; current-inside = inside s w e b; center-in = omega (arith, s .start-below start a); end-in = omega (arith, s .end-below e b) }

@@ -6,13 +6,15 @@ use mathlib.Core.Bool.{true, false, cond}
 use lib.ListN.{length}
 use lib.IntN.{ℤ}
 use lib.Ieee.{Float}
+use Rattle.mesh.specs.Mesh.{halfedgeStride}
 use Rattle.mesh.specs.Sound.{Sound}
 use Rattle.smoothing.specs.Lists.{tangentAt}
 use Rattle.spread.specs.Steps.{Steps}
 use Rattle.spread.specs.Spread.{Found, State, firstWalk, spreadFrom}
 use Rattle.distribute_steps.specs.FloatSteps.{isMark, isStart, begin, floatSteps}
-use Rattle.distribute_steps.specs.Scratch.{gatheredOf, EdgeFrom}
+use Rattle.distribute_steps.specs.Scratch.{gatheredOf, directionsAt, EdgeFrom}
 use Rattle.distribute_steps.specs.declared.Carried.{Carried}
+use Rattle.distribute_steps.specs.declared.Directions.{Directions}
 use Rattle.distribute_steps.specs.declared.Turning.{Turning}
 use Rattle.distribute_walks.specs.declared.Counts.{Counts}
 use Rattle.distribute_walks.specs.declared.Ended.{Ended}
@@ -21,6 +23,7 @@ use Rattle.distribute_walks.specs.declared.Ended.{Ended}
 
 pub record Lists (H : List ℤ) (P N : List Float) (F : List ℕ) (T C D : List Float) (n p : ℕ) : Type 0 where
   pub sound : Sound H n p
+  pub whole : length H ≡ n * halfedgeStride
   pub positions : length P ≡ p * 3
   pub normals : length N ≡ p * 3
   pub flags : length F ≡ n
@@ -61,10 +64,15 @@ foundOf H P N F n C D r = record { last = r .last; looked = r .looked; gathered 
 abbrev pub firstFrom : (H : List ℤ) (P N : List Float) (F : List ℕ) (n : ℕ) → List Float → ℕ → ℕ → Found (floatSteps H P N F n)
 firstFrom H P N F n T start looked = firstWalk (floatSteps H P N F n) (suc n) T start start looked (begin H P start (tangentAt T start))
 
--- a step onto halfedge e: it has a tangent and an edge, and there is a place for its angles
-pub record CanGather (H : List ℤ) (P T C D : List Float) (start e : ℕ) (g : Carried) : Type 0 where
+-- halfedge e has a tangent and an edge, and `first` are the directions at the start
+pub record CanLook (H : List ℤ) (P T : List Float) (start e : ℕ) (first : Directions) : Type 0 where
   pub tangent-in : e * 4 + 4 ≤ length T
   pub edge : EdgeFrom H P start e
+  pub first-is : first ≡ directionsAt H P T start start
+
+-- a step onto halfedge e: there is a place for its angles
+pub record CanGather (H : List ℤ) (P T C D : List Float) (start e : ℕ) (first : Directions) (g : Carried) : Type 0 where
+  pub look : CanLook H P T start e first
   pub current-in : g .count < length C
   pub desired-in : g .count < length D
 
@@ -81,6 +89,7 @@ pub record CanTurn (T C D : List Float) (by : Turning) (i e : ℕ) : Type 0 wher
 -- what the walk from `start` is lent: as many angles as the first walk gathers
 pub record SecondInput (H : List ℤ) (F : List ℕ) (T C D : List Float) (n p start : ℕ) (by : Turning) : Type 0 where
   pub sound : Sound H n p
+  pub whole : length H ≡ n * halfedgeStride
   pub flags : length F ≡ n
   pub tangents : length T ≡ n * 4
   pub current-in : by .count ≤ length C

@@ -10,10 +10,11 @@ ghost use lib.Ieee.{Float};
 ghost use Rattle.smoothing.specs.Lists.{tangentAt, putTangent};
 ghost use Rattle.spread.specs.Spread.{secondWalk};
 ghost use Rattle.distribute_steps.specs.FloatSteps.{isMark, isFixed, isStart, edgeDirection, gatherEdge, turn, next, floatSteps};
-ghost use Rattle.distribute_steps.specs.Scratch.{gatheredOf, planOf};
-ghost use Rattle.distribute_walks.specs.Walks.{Lists, Room, Gives, moreTurned, spreadAt, foundOf, firstFrom, CanGather, CanTurn, SecondInput};
+ghost use Rattle.distribute_steps.specs.Scratch.{gatheredOf, directionsAt, planOf};
+ghost use Rattle.distribute_walks.specs.Walks.{Lists, Room, Gives, moreTurned, spreadAt, foundOf, firstFrom, CanLook, CanGather, CanTurn, SecondInput};
 ghost use Rattle.distribute_walks.specs.declared.Counts.{Counts};
 use distribute_steps::Carried;
+use distribute_steps::Directions;
 use distribute_steps::Turning;
 use linalg::Vec3;
 
@@ -30,6 +31,26 @@ pub struct Ended {
     pub carried: Carried,
 }
 
+// The two directions at halfedge e of a walk from `start`. Back there, the walk uses those that it set out with, `first`.
+fn directions_at(
+    h: &[i32],
+    pos: &[f64],
+    t: &[f64],
+    start: usize,
+    e: usize,
+    first: Directions,
+) -> Directions
+    requires { ⌜ CanLook (now h) (now pos) (now t) start e first ⌝ }
+    ensures { λ r. ⌜ r ≡ directionsAt (now (h .entry)) (now (pos .entry)) (now (t .entry)) start e ⌝ }
+{
+    if e == start {
+        return first;
+    }
+    let edge = distribute_steps::edge_direction(h, pos, start, e);
+    let tangent = distribute_steps::tangent_direction(smoothing::tangent_at(t, e));
+    Directions { edge, tangent }
+}
+
 // One step of the first walk, onto halfedge e: the mark is read before anything else, and a marked one gathers nothing.
 fn gather_at(
     h: &[i32],
@@ -40,18 +61,18 @@ fn gather_at(
     approx: Vec3,
     start: usize,
     e: usize,
+    first: Directions,
     g: Carried,
 ) -> Carried
-    requires { ⌜ CanGather (now h) (now pos) (now t) (now current) (now desired) start e g ⌝ }
+    requires { ⌜ CanGather (now h) (now pos) (now t) (now current) (now desired) start e first g ⌝ }
     ensures { λ r. ⌜ gatheredOf (now (current .exit)) (now (desired .exit)) r ≡ cond (isMark (tangentAt (now (t .entry)) e .w)) (gatheredOf (now (current .entry)) (now (desired .entry)) g) (gatherEdge approx (edgeDirection (now (h .entry)) (now (pos .entry)) start e) (eqb e start) (tangentAt (now (t .entry)) e) (gatheredOf (now (current .entry)) (now (desired .entry)) g)) ⌝ }
     ensures { λ r. ⌜ r .count ≡ cond (isMark (tangentAt (now (t .entry)) e .w)) (g .count) (g .count + 1) ⌝ }
 {
     if distribute_steps::is_marked(t, e) {
         return g;
     }
-    let edge = distribute_steps::edge_direction(h, pos, start, e);
-    let v = smoothing::tangent_at(t, e);
-    distribute_steps::gather_edge(current, desired, approx, edge, e == start, v, g)
+    let at = directions_at(h, pos, t, start, e, first);
+    distribute_steps::gather_edge(current, desired, approx, at, e == start, g)
 }
 
 // The first walk, document 01's "loop that yields the halfedge where it stopped": breaks with the next one that is fixed and
@@ -76,13 +97,16 @@ fn first_walk(
 {
     let approx = smoothing::point_at(normals, mesh::start_vert(h, start));
     let v = smoothing::tangent_at(t, start);
-    let mut carried = distribute_steps::begin(h, pos, start, v);
+    let mut g = distribute_steps::begin(h, pos, start, v);
+    let edge = g.last_edge;
+    let tangent = g.first_tangent;
+    let first = Directions { edge, tangent };
     let mut looked = counts.looked;
     let mut here = start;
     let last = loop {
         here = cycles::next_around(h, here);
         looked += 1;
-        carried = gather_at(h, pos, t, current, desired, approx, start, here, carried);
+        g = gather_at(h, pos, t, current, desired, approx, start, here, first, g);
         if distribute_steps::is_start(fixed, t, here) {
             break here;
         }
@@ -90,7 +114,7 @@ fn first_walk(
     Ended {
         last,
         looked,
-        carried,
+        carried: g,
     }
 }
 

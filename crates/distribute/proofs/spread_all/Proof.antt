@@ -27,6 +27,7 @@ spread-at-requires c κs =
     let inv = c .before .before .before .before .loop .inv in (
       record {
         sound = p .sound;
+        whole = p .whole;
         positions = p .positions;
         normals = p .normals;
         flags = p .flags;

@@ -13,9 +13,9 @@ pub edge-direction-spec : {M : Type 1} → statement M
 edge-direction-spec =
     tie.close
     (tie.spec
-    (λ c κs. tt)
+    (λ c κs. c .before .pre .current-inside)
     (λ c κs. omega (arith, c .end-vert .ensures, c .before .before .pre .end-in))
-    (λ c κs. tt)
+    (λ c κs. c .before .before .before .pre .start-inside)
     (λ c κs. omega (arith, c .start-vert .ensures, c .before .before .before .before .pre .center-in))
     (λ c κs. tt)
     (λ c κs. tt)

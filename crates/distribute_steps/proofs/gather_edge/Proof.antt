@@ -6,17 +6,16 @@ use Rattle.distribute_steps.proofs.gather_edge.Statement.{statement}
 use Rattle.distribute_steps.proofs.gather_edge.Tie as tie
 
 returns : tie.Need-returns
-returns c = (
-  rw (c .add .ensures, c .before .cross .ensures, c .before .before .next-desired .ensures, c .before .before .before .before .next-current .ensures, c .before .before .before .before .before .tangent-direction .ensures)
-      (gather-of _ _ _ _ _ _ (c .before .before .before .before .before .before .before .before .before .args .g) (c .before .before .before .before .before .before .before .before .before .pre .current-in) (c .before .before .before .before .before .before .before .before .before .pre .desired-in)),
-  refl,
-)
+returns c =
+    let s = c .before .before .before .before .before .before .before .before .before .before in (
+      rw (c .add .ensures, c .before .cross .ensures, c .before .before .next-desired .ensures, c .before .before .before .before .next-current .ensures) (gather-of _ _ _ _ _ _ (s .args .g) (s .pre .current-in) (s .pre .desired-in)),
+      refl,
+    )
 
 pub gather-edge-spec : {M : Type 1} → statement M
 gather-edge-spec =
     tie.close
     (tie.spec
-    (λ c κs. tt)
     (λ c κs. tt)
     (λ c. search needs)
     (λ c. search needs)

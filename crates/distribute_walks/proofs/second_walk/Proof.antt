@@ -7,9 +7,9 @@ use lib.ListN.{length}
 use lib.Ieee.{Float}
 use denote.Ref.{now}
 use Rattle.mesh.specs.Sound.{Sound}
+use Rattle.mesh.proofs.Accepted.{inside}
 use Rattle.cycles.specs.Cycles.{nextAround}
 use Rattle.cycles.proofs.Paths.{stepsLeft}
-use Rattle.cycles.proofs.Around.{next-fits}
 use Rattle.spread.proofs.Loops.{second-below, index-below}
 use Rattle.distribute_steps.specs.FloatSteps.{isFixed}
 use Rattle.distribute_steps.specs.Scratch.{planOf}
@@ -41,7 +41,9 @@ walk-holds c =
     (p .sound, λ P N k places. second-going (lawful (p .sound) P N (now (a .fixed))) (p .start-below) (p .start-is) (p .tangents) count k places, refl, refl)
 
 next-around-requires : tie.Need-next-around-requires Inv-walk μ-walk
-next-around-requires c κs = next-fits (c .before .before .before .before .before .pre .sound) _ (c .walk .inv .1 [] [] none [] .at .to-fixed .below)
+next-around-requires c κs =
+    let p = c .before .before .before .before .before .pre in
+    inside (p .sound) (p .whole) _ (c .walk .inv .1 [] [] none [] .at .to-fixed .below)
 
 leaves-requires : tie.Need-leaves-requires Inv-walk μ-walk
 leaves-requires c κs = omega (arith, c .before .before .before .before .before .before .pre .flags, second-below (lawful (c .before .walk .inv .0) [] [] (now (c .before .before .before .before .before .before .args .fixed))) (c .before .walk .inv .1 [] [] none [] .at) (c .next-around .ensures))

@@ -52,6 +52,7 @@ second-walk-requires c κs =
     let q = c .before .before .before .plan .ensures .1 in
     record {
       sound = p .0 .sound;
+      whole = p .0 .whole;
       flags = p .0 .flags;
       tangents = p .0 .tangents;
       current-in = omega (arith, q, f .ensures .1 .1, f .kept .1 .1 .1 .1 .1 .1 .1 .0, p .0 .current);
