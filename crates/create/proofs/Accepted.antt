@@ -23,7 +23,7 @@ use Rattle.create.specs.Create.{listsFit, scratchFits, checkCreate, chec
 
 -- question 2 of the lists read and of the tangents
 pub record ListsFit (h l m a r i q t n p : ℕ) : Type 0 where
-  pub mesh-lists : MeshListsFit l m a n p
+  pub mesh-lists : MeshListsFit h l m a n p
   pub values : q ≡ i
   pub tangents : t ≡ n * 4
 
@@ -88,7 +88,7 @@ accepted-lists H P N A R I Q T X F S D C L n p e =
       clear = a .2;
       smooth = s .smooth;
       lists = λ same. record {
-        lists = create-lists-in (b .1) (l .mesh-lists .positions) (l .mesh-lists .normals) (l .mesh-lists .face-normals (b .1 .triangles)) (l .tangents) (s .fixed) (s .flat) (same ∙ s .smooth) (s .points) (s .links);
+        lists = create-lists-in (b .1) (l .mesh-lists .halfedges) (l .mesh-lists .positions) (l .mesh-lists .normals) (l .mesh-lists .face-normals (b .1 .triangles)) (l .tangents) (s .fixed) (s .flat) (same ∙ s .smooth) (s .points) (s .links);
         desired = s .desired;
         points = s .points;
       };

@@ -16,6 +16,7 @@ pub spread-in : {H : List ℤ} {P N A T : List Float} {X F : List ℕ} {S D : Li
     → SpreadLists H P N X′ T′ S′ D n p
 spread-in {H} {n = n} w t x s = record {
   sound = subst (Sound H n) (w .points) (w .lists .sound);
+  whole = w .lists .whole;
   positions = omega (arith, w .points, w .lists .positions);
   normals = omega (arith, w .points, w .lists .normals);
   flags = omega (arith, x, w .lists .fixed);

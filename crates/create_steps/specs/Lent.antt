@@ -5,6 +5,7 @@ use mathlib.Core.List.{List}
 use lib.ListN.{length}
 use lib.IntN.{ℤ}
 use lib.Ieee.{Float}
+use Rattle.mesh.specs.Mesh.{halfedgeStride}
 use Rattle.mesh.specs.Sound.{Sound}
 use Rattle.faces.specs.Faces.{flatFaces, isFlat}
 use Rattle.edges.specs.Edges.{Pair}
@@ -14,6 +15,7 @@ use Rattle.creases.specs.Linked.{pairsAt}
 -- T the tangents, X the fixed flags, F, S, C and L scratch: C has a place for each point, the other three one for each of the n halfedges
 pub record CreateLists (H : List ℤ) (P N A T : List Float) (X F : List ℕ) (S : List Float) (C L : List ℕ) (n : ℕ) : Type 0 where
   pub sound : Sound H n (length C)
+  pub whole : length H ≡ n * halfedgeStride
   pub positions : length P ≡ length C * 3
   pub normals : length N ≡ length C * 3
   pub face-normals : length A ≡ n

@@ -7,6 +7,7 @@ use mathlib.Core.List.{List}
 use lib.ListN.{length}
 use lib.IntN.{ℤ}
 use lib.Ieee.{Float}
+use Rattle.mesh.specs.Mesh.{halfedgeStride}
 use Rattle.mesh.specs.Sound.{Sound}
 use Rattle.makings.specs.Makings.{MakingIn, Tangents, tangentsOf}
 use Rattle.creases.specs.declared.Crease.{Crease}
@@ -20,8 +21,8 @@ use Rattle.shapes.specs.Shapes.{fixHalfedge, shapeMeeting, shapeCrease, 
 use Rattle.shapes.specs.Lent.{CreaseIn, VertIn}
 
 module _ {H : List ℤ} {n p : ℕ} (s : Sound H n p) where
-  pub vert-in : {P : List Float} {F : List ℕ} {S : List Float} {A L : List ℕ} {T : List Float} {X : List ℕ} → length P ≡ p * 3 → length F ≡ n → length S ≡ n → length A ≡ p → length L ≡ n → length T ≡ n * 4 → length X ≡ n → LinkedAll H S A L n → VertIn H P F S A L T X n
-  vert-in l f k a b t x d = record { creases = crease-lists-in s a k b d; positions = omega arith; flat = f; tangents = t; fixed = x }
+  pub vert-in : {P : List Float} {F : List ℕ} {S : List Float} {A L : List ℕ} {T : List Float} {X : List ℕ} → length H ≡ n * halfedgeStride → length P ≡ p * 3 → length F ≡ n → length S ≡ n → length A ≡ p → length L ≡ n → length T ≡ n * 4 → length X ≡ n → LinkedAll H S A L n → VertIn H P F S A L T X n
+  vert-in w l f k a b t x d = record { creases = crease-lists-in s w a k b d; positions = omega arith; flat = f; tangents = t; fixed = x }
 
   -- the halfedges that a point's creases name
   pub crease-in : (S : List Float) (v first : ℕ) (k : Crease) → first ≡ firstCrease H S n v → k ≡ creaseOf (pairsAt H S n v) → CreaseIn n first k
@@ -52,7 +53,7 @@ vert-still q r w = record { creases = w .creases; positions = w .positions; flat
 -- what the cases ask at a point
 pub making-in : {H : List ℤ} {P : List Float} {F : List ℕ} {S : List Float} {A L : List ℕ} {T : List Float} {X : List ℕ} {n : ℕ} → VertIn H P F S A L T X n → MakingIn H P T X n
 making-in w = record {
-  tangents = record { points = _; sound = w .creases .lists .sound; tangents = w .tangents };
+  tangents = record { points = _; sound = w .creases .lists .sound; whole = w .creases .lists .whole; tangents = w .tangents };
   positions = w .positions;
   fixed = w .fixed;
 }

@@ -10,13 +10,14 @@ use Rattle.create_core.proofs.finish_tangents.Tie as tie
 linearize-all-requires : tie.Need-linearize-all-requires
 linearize-all-requires c κs =
     let w = c .before .before .before .before .before .before .before .pre in
-    record { sound = w .sound; positions = w .positions; tangents = w .tangents }
+    record { sound = w .sound; whole = w .whole; positions = w .positions; tangents = w .tangents }
 
 spread-tangents-requires : tie.Need-spread-tangents-requires
 spread-tangents-requires c κs =
     let w = c .before .before .before .before .before .before .before .before .before .before .before .before .before .pre in
     record {
       sound = w .sound;
+      whole = w .whole;
       positions = w .positions;
       normals = w .normals;
       flags = w .flags;

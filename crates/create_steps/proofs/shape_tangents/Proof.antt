@@ -17,7 +17,7 @@ find-creases-requires : tie.Need-find-creases-requires
 find-creases-requires c κs =
     let w = c .before .before .before .before .before .before .before .before .before .before .before .before .before .before .before .before .before .before .before .before .before .before .before .pre in
     let f = c .before .before .before .before .before .before .before .before .before .before .first-tangents in
-    (f .kept .1 .1 .1 .1 .1 .1 .1 .1 .0 ∙ w .flat, lists-in (w .sound) (f .kept .1 .1 .1 .1 .1 .1 .1 .1 .1 .0) (w .smooth) (w .links))
+    (f .kept .1 .1 .1 .1 .1 .1 .1 .1 .0 ∙ w .flat, lists-in (w .sound) (w .whole) (f .kept .1 .1 .1 .1 .1 .1 .1 .1 .1 .0) (w .smooth) (w .links))
 
 fill-bytes-requires : tie.Need-fill-bytes-requires
 fill-bytes-requires c κs = search needs
@@ -27,7 +27,7 @@ shape-verts-requires c κs =
     let w = c .before .before .before .before .before .before .before .before .before .before .before .before .before .before .before .before .before .before .before .before .before .before .before .before .before .before .before .before .before .before .before .before .before .before .before .before .before .before .before .before .pre in
     let f = c .before .before .before .before .before .before .before .before .before .before .before .before .before .before .before .before .before .before .before .before .before .before .before .before .before .before .before .first-tangents in
     let g = c .before .before .before .before .before .before .before .before .before .before .before .before .before .before .before .before .find-creases in
-    vert-in (w .sound) (w .positions) (f .kept .1 .1 .1 .1 .1 .1 .1 .1 .0 ∙ w .flat) (g .kept .1 .1 .1 .1 .0 ∙ w .smooth) (g .kept .1 .1 .1 .1 .1 .0 ∙ f .kept .1 .1 .1 .1 .1 .1 .1 .1 .1 .0) (g .kept .1 .1 .1 .1 .1 .1 .0 ∙ w .links) (f .kept .1 .1 .1 .1 .1 .1 .1 .0 ∙ w .tangents) (c .before .before .before .before .before .before .before .before .fill-bytes .kept .0 ∙ w .fixed) (g .ensures .1)
+    vert-in (w .sound) (w .whole) (w .positions) (f .kept .1 .1 .1 .1 .1 .1 .1 .1 .0 ∙ w .flat) (g .kept .1 .1 .1 .1 .0 ∙ w .smooth) (g .kept .1 .1 .1 .1 .1 .0 ∙ f .kept .1 .1 .1 .1 .1 .1 .1 .1 .1 .0) (g .kept .1 .1 .1 .1 .1 .1 .0 ∙ w .links) (f .kept .1 .1 .1 .1 .1 .1 .1 .0 ∙ w .tangents) (c .before .before .before .before .before .before .before .before .fill-bytes .kept .0 ∙ w .fixed) (g .ensures .1)
 
 same-length : tie.Need-same-length
 same-length c = c .before .before .before .before .shape-verts .kept .1 .1 .1 .1 .1 .1 .1 .0 ∙ c .before .before .before .before .before .before .before .before .before .before .before .before .before .before .before .before .before .before .before .before .before .before .before .before .before .before .before .before .before .before .before .before .first-tangents .kept .1 .1 .1 .1 .1 .1 .1 .0

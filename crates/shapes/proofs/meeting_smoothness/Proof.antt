@@ -6,7 +6,7 @@ use Rattle.shapes.proofs.meeting_smoothness.Statement.{statement}
 use Rattle.shapes.proofs.meeting_smoothness.Tie as tie
 
 paired-halfedge-requires : tie.Need-paired-halfedge-requires
-paired-halfedge-requires c κs = search needs
+paired-halfedge-requires c κs = c .before .pre .1 .inside _ (c .before .pre .0)
 
 shared-slice-read-either : tie.Need-shared-slice-read-either
 shared-slice-read-either c = search needs

@@ -1,8 +1,9 @@
 -- `shapes::sharpen_meeting` meets its contract: a walk once round a vertex cycle. The invariant: what is left of the fold gives the whole. Assumes nothing.
+use Rattle.mesh.proofs.Accepted.{inside}
 use Rattle.faces.proofs.Lent.{flat-in, flat-still}
 use Rattle.shapes.specs.Sharpen.{sharpenMeetingAt, sharpenMeeting}
 use Rattle.makings.proofs.Makings.{tangent-in}
-use Rattle.cycles.proofs.Around.{next-permutes, next-fits}
+use Rattle.cycles.proofs.Around.{next-permutes}
 use Rattle.cycles.proofs.Loops.{Walking, around-start, around-step, around-less, around-fold-step, around-fold-stop}
 use Rattle.cycles.proofs.Paths.{isAt, stepsLeft}
 use Rattle.cycles.specs.Cycles.{nextAround, vertexCycle}
@@ -30,11 +31,14 @@ sharpen-meeting-at-requires : tie.Need-sharpen-meeting-at-requires Inv-loop μ-l
 sharpen-meeting-at-requires c κs =
     let l = c .before .loop in
     let w = c .before .before .before .before .pre .1 in
-    let f = flat-still _ _ _ _ (w .flat) (l .inv .0 .below) (flat-in _ _ _ (w .tangents .sound)) in
+    let f = flat-still _ _ _ _ (w .flat) (l .inv .0 .below) (flat-in _ _ _ (w .tangents .sound) (w .tangents .whole)) in
     (tangent-in (w .tangents) (l .t) (l .inv .1) (l .current) (l .inv .0 .below), f .0, f .1)
 
 next-around-requires : tie.Need-next-around-requires Inv-loop μ-loop
-next-around-requires c κs = let l = c .before .before .before .before .loop in next-fits (c .before .before .before .before .before .before .before .pre .1 .tangents .sound) (l .current) (l .inv .0 .below)
+next-around-requires c κs =
+    let l = c .before .before .before .before .loop in
+    let w = c .before .before .before .before .before .before .before .pre .1 .tangents in
+    inside (w .sound) (w .whole) (l .current) (l .inv .0 .below)
 
 loop-less : tie.Need-loop-less Inv-loop μ-loop
 loop-less c = around-less (next-permutes (c .before .before .before .before .before .before .before .before .before .pre .1 .tangents .sound)) (c .before .before .before .before .before .before .loop .inv .0) (c .before .next-around .ensures) (c .if1 .left)

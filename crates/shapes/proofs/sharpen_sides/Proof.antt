@@ -1,7 +1,8 @@
 -- `shapes::sharpen_sides` meets its contract: a walk once round a vertex cycle. The invariant: what is left of the fold gives the whole. Assumes nothing.
+use Rattle.mesh.proofs.Accepted.{inside}
 use Rattle.shapes.specs.Sharpen.{Sides, sidesOf, sharpenSide, sharpenSides}
 use Rattle.makings.proofs.Makings.{tangent-in}
-use Rattle.cycles.proofs.Around.{next-permutes, next-fits}
+use Rattle.cycles.proofs.Around.{next-permutes}
 use Rattle.cycles.proofs.Loops.{Walking, around-start, around-step, around-less, around-fold-step, around-fold-stop}
 use Rattle.cycles.proofs.Paths.{isAt, stepsLeft}
 use Rattle.cycles.specs.Cycles.{nextAround, vertexCycle}
@@ -28,7 +29,10 @@ sharpen-side-requires : tie.Need-sharpen-side-requires Inv-loop μ-loop
 sharpen-side-requires c κs = let l = c .before .loop in tangent-in (c .before .before .before .pre .1) (l .t) (l .inv .1) (l .current) (l .inv .0 .below)
 
 next-around-requires : tie.Need-next-around-requires Inv-loop μ-loop
-next-around-requires c κs = let l = c .before .before .before .before .loop in next-fits (c .before .before .before .before .before .before .pre .1 .sound) (l .current) (l .inv .0 .below)
+next-around-requires c κs =
+    let l = c .before .before .before .before .loop in
+    let w = c .before .before .before .before .before .before .pre .1 in
+    inside (w .sound) (w .whole) (l .current) (l .inv .0 .below)
 
 loop-less : tie.Need-loop-less Inv-loop μ-loop
 loop-less c = around-less (next-permutes (c .before .before .before .before .before .before .before .before .pre .1 .sound)) (c .before .before .before .before .before .before .loop .inv .0) (c .before .next-around .ensures) (c .if1 .left)
