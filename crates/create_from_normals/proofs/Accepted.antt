@@ -18,12 +18,12 @@ use Rattle.makings.proofs.Lengths.{MeshListsFit, mesh-lists-fit}
 use Rattle.create_from_normals.specs.FromNormals.{listsFit, scratchFits, checkNormals, checkLists}
 
 -- question 2 of the lists read and of the tangents
-record ListsFit (l m a g t n p : ℕ) : Type 0 where
-  mesh-lists : MeshListsFit l m a n p
+record ListsFit (h l m a g t n p : ℕ) : Type 0 where
+  mesh-lists : MeshListsFit h l m a n p
   halfedge-normals : g ≡ n * 3
   tangents : t ≡ n * 4
 
-lists-fit : (h l m a r g t n p : ℕ) → listsFit h l m a r g t n p ≡ true → ListsFit l m a g t n p
+lists-fit : (h l m a r g t n p : ℕ) → listsFit h l m a r g t n p ≡ true → ListsFit h l m a g t n p
 lists-fit h l m a r g t n p e =
     let e₇ = and-true _ (hasLength t n 4) e in
     let e₆ = and-true _ (hasLength g n 3) (e₇ .0) in
@@ -68,6 +68,7 @@ lists-of H P N A R G T X Q C D F n p e =
     record {
       lists = record {
         sound = subst (Sound H n) (sym (s .points)) (b .1);
+        whole = l .mesh-lists .halfedges;
         positions = omega (arith, l .mesh-lists .positions, s .points);
         normals = omega (arith, l .mesh-lists .normals, s .points);
         face-normals = l .mesh-lists .face-normals (b .1 .triangles);

@@ -7,6 +7,7 @@ use lib.ListN.{length, replicate}
 use lib.IntN.{ℤ}
 use lib.Ieee.{Float}
 use Rattle.float.specs.Ops.{zero}
+use Rattle.mesh.specs.Mesh.{halfedgeStride}
 use Rattle.mesh.specs.Sound.{Sound}
 use Rattle.smoothing.specs.Edges.{isInsideQuad}
 use Rattle.makings.specs.Makings.{Tangents, tangentsOf}
@@ -18,6 +19,7 @@ use Rattle.distribute.specs.Distribute.{spreadTangents}
 -- F has a place for each point
 pub record TangentLists (H : List ℤ) (P N A G T : List Float) (X Q F : List ℕ) (n : ℕ) : Type 0 where
   pub sound : Sound H n (length F)
+  pub whole : length H ≡ n * halfedgeStride
   pub positions : length P ≡ length F * 3
   pub normals : length N ≡ length F * 3
   pub face-normals : length A ≡ n

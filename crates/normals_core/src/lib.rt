@@ -1,34 +1,63 @@
 // `create_tangents_from_normals` of src/smoothing_tangents.rs on an accepted mesh.
 ghost use mathlib.Core.Path.{_≡_};
-ghost use Prim.Native.Nat.{_<_};
-ghost use lib.ListN.{length, replicate};
+ghost use mathlib.Core.Bool.{false};
+ghost use lib.ListN.{length, set, replicate};
 ghost use Rattle.float.specs.Ops.{zero};
-ghost use Rattle.smoothing.specs.Edges.{QuadIn};
+ghost use Rattle.smoothing.specs.Edges.{InsideQuadIn};
+ghost use Rattle.smoothing.specs.Inner.{putEdge};
 ghost use Rattle.makings.specs.Makings.{tangentsOf};
+ghost use Rattle.normals_state.specs.Units.{UnitsIn};
 ghost use Rattle.distribute_walks.specs.Walks.{Lists as SpreadLists};
 ghost use Rattle.distribute.specs.Distribute.{spreadTangents};
 ghost use Rattle.normals_core.specs.Core.{TangentLists, Lists, normalTangents, createTangentsFromNormals};
-ghost use Rattle.normals_core.specs.Flags.{InsideIn, insideQuadAt, insideQuads};
+ghost use Rattle.normals_core.specs.Flags.{InsideIn, FlagIn, quadFlag, insideQuads, insideQuadStep};
 
-// Flags halfedge e if it is inside a quad.
-fn inside_quad_at(h: &[i32], refs: &[i32], t: &[f64], old: bool, inside: &mut [u8], e: usize)
-    requires { ⌜ (e < length (now inside)) × QuadIn (now h) (now t) e ⌝ }
-    ensures { λ _. ⌜ now (inside .exit) ≡ insideQuadAt (now (h .entry)) (now (refs .entry)) (now (t .entry)) old (now (inside .entry)) e ⌝ }
+// The flag of halfedge e: 1 if it is inside a quad.
+fn quad_flag(h: &[i32], refs: &[i32], t: &[f64], old: bool, e: usize) -> u8
+    requires { ⌜ InsideQuadIn (now h) (now t) e ⌝ }
+    ensures { λ r. ⌜ r ≡ quadFlag (now (h .entry)) (now (refs .entry)) (now (t .entry)) old e ⌝ }
 {
     if smoothing::is_inside_quad(h, refs, t, old, e) {
-        inside[e] = 1;
+        return 1;
     }
+    0
 }
 
-// A 1 for each halfedge inside a quad, whatever the list held.
+// Writes the flags of both halfedges of an edge at its forward one, e, where there are no old tangents: both are inside a quad
+// or neither is.
+fn put_edge_flags(h: &[i32], refs: &[i32], t: &[f64], inside: &mut [u8], e: usize)
+    requires { ⌜ FlagIn (now h) (now t) (now inside) e ⌝ }
+    ensures { λ _. ⌜ now (inside .exit) ≡ putEdge set (now (h .entry)) (quadFlag (now (h .entry)) (now (refs .entry)) (now (t .entry)) false) (now (inside .entry)) e ⌝ }
+{
+    if !mesh::is_forward(h, e) {
+        return;
+    }
+    let flag = quad_flag(h, refs, t, false, e);
+    let pair = mesh::paired_halfedge(h, e);
+    inside[e] = flag;
+    inside[pair] = flag;
+}
+
+// The body of the loop over the halfedges.
+fn inside_quad_step(h: &[i32], refs: &[i32], t: &[f64], old: bool, inside: &mut [u8], e: usize)
+    requires { ⌜ FlagIn (now h) (now t) (now inside) e ⌝ }
+    ensures { λ _. ⌜ now (inside .exit) ≡ insideQuadStep (now (h .entry)) (now (refs .entry)) (now (t .entry)) old (now (inside .entry)) e ⌝ }
+{
+    if old {
+        inside[e] = quad_flag(h, refs, t, true, e);
+        return;
+    }
+    put_edge_flags(h, refs, t, inside, e);
+}
+
+// A 1 for each halfedge inside a quad and a 0 for each other one, whatever the list held.
 fn inside_quads(n: usize, h: &[i32], refs: &[i32], t: &[f64], old: bool, inside: &mut [u8])
     requires { ⌜ InsideIn (now h) (now t) (now inside) n ⌝ }
     ensures { λ _. ⌜ now (inside .exit) ≡ insideQuads (now (h .entry)) (now (refs .entry)) (now (t .entry)) old n ⌝ }
 {
-    faces::fill_bytes(inside, 0);
     let mut e = 0;
     while e < n {
-        inside_quad_at(h, refs, t, old, inside, e);
+        inside_quad_step(h, refs, t, old, inside, e);
         e += 1;
     }
 }
@@ -40,6 +69,7 @@ fn normal_tangents(
     pos: &[f64],
     normals: &[f64],
     face_normals: &[f64],
+    face_units: &[f64],
     refs: &[i32],
     halfedge_normals: &[f64],
     old: bool,
@@ -48,7 +78,7 @@ fn normal_tangents(
     inside: &mut [u8],
     first: &mut [usize],
 )
-    requires { ⌜ TangentLists (now h) (now pos) (now normals) (now «face_normals») (now «halfedge_normals») (now t) (now fixed) (now inside) (now first) n ⌝ }
+    requires { ⌜ TangentLists (now h) (now pos) (now normals) (now «face_normals») (now «halfedge_normals») (now t) (now fixed) (now inside) (now first) n × UnitsIn (now «face_normals») (now «face_units») n ⌝ }
     ensures { λ _. ⌜ tangentsOf (now (t .exit)) (now (fixed .exit)) ≡ normalTangents (now (h .entry)) (now (refs .entry)) (now (pos .entry)) (now (normals .entry)) (now («face_normals» .entry)) (now («halfedge_normals» .entry)) (now (t .entry)) old n (length (now (first .entry))) ⌝ }
 {
     inside_quads(n, h, refs, t, old, inside);
@@ -61,6 +91,7 @@ fn normal_tangents(
         pos,
         normals,
         face_normals,
+        face_units,
         halfedge_normals,
         inside,
         first,
@@ -80,7 +111,8 @@ fn clear_scratch(fixed: &mut [u8], inside: &mut [u8], first: &mut [usize])
     faces::fill(first, 0);
 }
 
-// The tangents of an accepted call, and zeros in all scratch lists.
+// The tangents of an accepted call, and zeros in all scratch lists. Until spreading, `current` holds the unit vectors of the
+// triangles' normals.
 pub fn make_tangents(
     n: usize,
     p: usize,
@@ -106,12 +138,14 @@ pub fn make_tangents(
     ensures desired { λ _. ⌜ now (desired .exit) ≡ replicate n zero ⌝ }
     ensures first { λ _. ⌜ now (first .exit) ≡ replicate p 0 ⌝ }
 {
+    normals_state::put_units(n, face_normals, current);
     normal_tangents(
         n,
         h,
         pos,
         normals,
         face_normals,
+        current,
         refs,
         halfedge_normals,
         old,

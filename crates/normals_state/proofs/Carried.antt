@@ -1,5 +1,5 @@
 -- Two numbers, and two normals, have the same bits exactly where they are equal; and with the normals of the lists the state after a halfedge is the Rust's. Assumes nothing.
-use Prim.Native.Nat.{ℕ}
+use Prim.Native.Nat.{ℕ, _+_, _*_, _/_, _≤_}
 use mathlib.Core.Path.{_≡_, refl, sym, ap, _∙_, subst}
 use mathlib.Core.Bool.{true}
 use mathlib.Core.List.{List}
@@ -15,6 +15,8 @@ use Rattle.cycles.specs.Cycles.{nextAround}
 use Rattle.normals_state.specs.declared.CycleState.{CycleState}
 use Rattle.normals_state.specs.State.{nextState}
 use Rattle.normals_state.specs.Carried.{halfedgeNormal, sameBits, sameNormal, nextStateOf}
+use Rattle.normals_state.specs.Units.{UnitsIn}
+use Rattle.normals_state.proofs.Units.{flat-is}
 
 -- ---- the same bit for bit
 
@@ -57,6 +59,8 @@ normal-same a b q = rw (bits-same (a .x) (b .x) (ap (λ (v : Vec3). v .x) q), bi
 
 -- ---- the state after a halfedge
 
-pub next-state-by : (H : List ℤ) (A G : List Float) (s : CycleState) (e : ℕ) → nextState H A G s e ≡ nextStateOf s (halfedgeNormal A G e) (halfedgeNormal A G (nextAround H e)) e
+-- U holds the unit vectors of the triangles' normals A
+pub next-state-by : {A U : List Float} {n : ℕ} → UnitsIn A U n → (H : List ℤ) (G : List Float) (s : CycleState) (e : ℕ) → e / 3 * 3 + 3 ≤ n → nextAround H e / 3 * 3 + 3 ≤ n
+    → nextState H A G s e ≡ nextStateOf s (halfedgeNormal U G e) (halfedgeNormal U G (nextAround H e)) e
 unfolding nextState nextStateOf halfedgeNormal
-next-state-by H A G s e = refl
+next-state-by w H G s e h k = rw (flat-is w G e h, flat-is w G (nextAround H e) k) refl

@@ -8,7 +8,7 @@ use lib.IntN.{ℤ}
 use lib.Ieee.{Float}
 use Rattle.cycles.specs.Cycles.{nextAround}
 use Rattle.cycles.proofs.Around.{next-below}
-use Rattle.normals_state.specs.State.{MissingIn, StateLists}
+use Rattle.normals_state.specs.State.{MissingIn}
 
 -- the normals of halfedge e and of the next one round its point, x
 module _ {H : List ℤ} {G : List Float} {n : ℕ} (w : MissingIn H G n) {e : ℕ} (h : e < n) where
@@ -18,10 +18,9 @@ module _ {H : List ℤ} {G : List Float} {n : ℕ} (w : MissingIn H G n) {e : �
   pub next-in : {x : ℕ} → x ≡ nextAround H e → x * 3 + 3 ≤ length G
   next-in q = omega (arith, w .normals, next-below (w .sound) e h)
 
--- and those of their triangles
-module _ {H : List ℤ} {A G : List Float} {n : ℕ} (w : StateLists H A G n) {e : ℕ} (h : e < n) where
-  pub here-face-in : e / 3 * 3 + 3 ≤ length A
-  here-face-in = omega (arith, w .face-normals, w .missing .sound .triangles)
+  -- and their triangles
+  pub here-face-in : e / 3 * 3 + 3 ≤ n
+  here-face-in = omega (arith, w .sound .triangles)
 
-  pub next-face-in : {x : ℕ} → x ≡ nextAround H e → x / 3 * 3 + 3 ≤ length A
-  next-face-in q = omega (arith, w .face-normals, w .missing .sound .triangles, next-below (w .missing .sound) e h)
+  pub next-face-in : {x : ℕ} → x ≡ nextAround H e → x / 3 * 3 + 3 ≤ n
+  next-face-in q = omega (arith, w .sound .triangles, next-below (w .sound) e h)

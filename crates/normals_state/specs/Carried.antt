@@ -1,23 +1,24 @@
 -- The code's means: a walk round a vertex cycle carries the normals from halfedge to halfedge, and takes a unit vector over where a normal is the same bit for bit. Only contracts of functions inside the making cite these definitions. They say the outcome for any normals that are handed in; `proofs/Carried.antt` says that for those of the lists it is the Rust's step.
-use Prim.Native.Nat.{ℕ}
+use Prim.Native.Nat.{ℕ, _/_}
 use mathlib.Core.List.{List}
 use mathlib.Core.Bool.{Bool, _&&_}
 use lib.Dec.{eqb}
 use lib.Ieee.{Float}
 use Rattle.float.specs.F64.{bitsOf}
 use Rattle.linalg.specs.declared.Vec3.{Vec3}
-use Rattle.smoothing.specs.Directions.{safeNormalize}
+use Rattle.smoothing.specs.Directions.{safeNormalize, equalUnits}
+use Rattle.smoothing.specs.Lists.{pointAt}
 use Rattle.normals_state.specs.declared.HalfedgeNormal.{HalfedgeNormal}
 use Rattle.normals_state.specs.declared.CycleState.{CycleState}
-use Rattle.normals_state.specs.State.{getNormal, isZero, hasFaceNormal, nextFaceEdges, nextStart, nextLast}
+use Rattle.normals_state.specs.State.{getNormal, isZero, nextFaceEdges, nextStart, nextLast}
 
--- the normal of halfedge e with what the loop asks of it: its unit vector, `here_zero`, `here_is_flat`
+-- the normal of halfedge e with what the loop asks of it: its unit vector, `here_zero`, `here_is_flat`; U are the unit vectors of the triangles' normals
 unfoldable pub halfedgeNormal : List Float → List Float → ℕ → HalfedgeNormal
-halfedgeNormal A G e = record {
+halfedgeNormal U G e = record {
   normal = getNormal G e;
   unit = safeNormalize (getNormal G e);
   zero = isZero (getNormal G e);
-  flat = hasFaceNormal A G e;
+  flat = equalUnits (safeNormalize (getNormal G e)) (pointAt U (e / 3));
 }
 
 -- the same bit for bit

@@ -8,6 +8,7 @@ use lib.IntN.{ℤ}
 use lib.Ieee.{Float, eq}
 use Rattle.float.specs.Ops.{zero}
 use Rattle.linalg.specs.declared.Vec3.{Vec3}
+use Rattle.mesh.specs.Mesh.{halfedgeStride}
 use Rattle.mesh.specs.Sound.{Sound}
 use Rattle.smoothing.specs.Directions.{equalNormals}
 use Rattle.smoothing.specs.Lists.{pointAt}
@@ -24,6 +25,7 @@ use Rattle.normals_state.specs.declared.CycleState.{CycleState}
 pub record MissingIn (H : List ℤ) (G : List Float) (n : ℕ) : Type 0 where
   pub points : ℕ
   pub sound : Sound H n points
+  pub whole : length H ≡ n * halfedgeStride
   pub normals : length G ≡ n * 3
 
 -- and one for each triangle

@@ -6,6 +6,8 @@ ghost use lib.ListN.{length};
 ghost use Rattle.smoothing.specs.Directions.{safeNormalize};
 ghost use Rattle.normals_state.specs.State.{getNormal, isZero, normalOr, addFaceEdge, nextFaceEdges, setStart, missingStart, nextStart, someMissing, nextLast, startState, spoilFaceEdges};
 ghost use Rattle.normals_state.specs.Carried.{halfedgeNormal, sameBits, sameNormal, nextStateOf};
+ghost use Rattle.normals_state.specs.Packed.{faceEdgesOf, startOf, stateOf};
+ghost use Rattle.normals_state.specs.Units.{putUnit, putUnits};
 use linalg::Vec3;
 
 // The normal of a halfedge, its unit vector, whether it is missing, and whether it is that of its triangle. Each is worked out
@@ -38,6 +40,27 @@ pub enum StartHalfedge {
 pub struct CycleState {
     pub face_edges: FaceEdges,
     pub start_halfedge: StartHalfedge,
+    pub last_normal: Vec3,
+}
+
+// `FaceEdges` as numbers: how many edges, 3 where it is spoiled, and the edges that there are. The loop carries the two enums in
+// this form, which stays in registers.
+pub struct PackedEdges {
+    pub count: usize,
+    pub first: usize,
+    pub second: usize,
+}
+
+// `StartHalfedge` as numbers: 0, 1 or 2 for its cases in their order, and the halfedge of the last one.
+pub struct PackedStart {
+    pub tag: usize,
+    pub at: usize,
+}
+
+// `CycleState` as numbers.
+pub struct PackedState {
+    pub edges: PackedEdges,
+    pub start: PackedStart,
     pub last_normal: Vec3,
 }
 
@@ -95,20 +118,45 @@ fn unit_after(normal: Vec3, before: Vec3, unit: Vec3) -> Vec3
     smoothing::safe_normalize(normal)
 }
 
-// The normal of halfedge e with what the loop asks of it, where the unit vector of the normal before it is known.
+// The unit vector of the normal of triangle t, in its place.
+fn put_unit(face_normals: &[f64], units: &mut [f64], t: usize)
+    requires { ⌜ (t * 3 + 3 ≤ length (now «face_normals»)) × (t * 3 + 3 ≤ length (now units)) ⌝ }
+    ensures { λ _. ⌜ now (units .exit) ≡ putUnit (now («face_normals» .entry)) (now (units .entry)) t ⌝ }
+{
+    let unit = smoothing::safe_normalize(smoothing::point_at(face_normals, t));
+    let at = t * 3;
+    units[at] = unit.x;
+    units[at + 1] = unit.y;
+    units[at + 2] = unit.z;
+}
+
+// The unit vectors of all triangles' normals, three numbers each, whatever the list held.
+pub fn put_units(n: usize, face_normals: &[f64], units: &mut [f64])
+    requires { ⌜ (length (now «face_normals») ≡ n) × (length (now units) ≡ n) ⌝ }
+    ensures { λ _. ⌜ now (units .exit) ≡ putUnits (now («face_normals» .entry)) (now (units .entry)) n ⌝ }
+{
+    let mut t = 0;
+    while t < n / 3 {
+        put_unit(face_normals, units, t);
+        t += 1;
+    }
+}
+
+// The normal of halfedge e with what the loop asks of it, where the unit vector of the normal before it is known. `face_units`
+// are those of `put_units`.
 pub fn normal_after(
-    face_normals: &[f64],
+    face_units: &[f64],
     halfedge_normals: &[f64],
     before: Vec3,
     unit: Vec3,
     e: usize,
 ) -> HalfedgeNormal
-    requires { ⌜ (e / 3 * 3 + 3 ≤ length (now «face_normals»)) × (e * 3 + 3 ≤ length (now «halfedge_normals»)) × (unit ≡ safeNormalize before) ⌝ }
-    ensures { λ r. ⌜ r ≡ halfedgeNormal (now («face_normals» .entry)) (now («halfedge_normals» .entry)) e ⌝ }
+    requires { ⌜ (e / 3 * 3 + 3 ≤ length (now «face_units»)) × (e * 3 + 3 ≤ length (now «halfedge_normals»)) × (unit ≡ safeNormalize before) ⌝ }
+    ensures { λ r. ⌜ r ≡ halfedgeNormal (now («face_units» .entry)) (now («halfedge_normals» .entry)) e ⌝ }
 {
     let normal = get_normal(halfedge_normals, e);
     let unit = unit_after(normal, before, unit);
-    let face_unit = smoothing::safe_normalize(smoothing::point_at(face_normals, e / 3));
+    let face_unit = smoothing::point_at(face_units, e / 3);
     HalfedgeNormal {
         normal,
         unit,
@@ -118,31 +166,38 @@ pub fn normal_after(
 }
 
 // The same where no normal is before it.
-pub fn halfedge_normal(face_normals: &[f64], halfedge_normals: &[f64], e: usize) -> HalfedgeNormal
-    requires { ⌜ (e / 3 * 3 + 3 ≤ length (now «face_normals»)) × (e * 3 + 3 ≤ length (now «halfedge_normals»)) ⌝ }
-    ensures { λ r. ⌜ r ≡ halfedgeNormal (now («face_normals» .entry)) (now («halfedge_normals» .entry)) e ⌝ }
+pub fn halfedge_normal(face_units: &[f64], halfedge_normals: &[f64], e: usize) -> HalfedgeNormal
+    requires { ⌜ (e / 3 * 3 + 3 ≤ length (now «face_units»)) × (e * 3 + 3 ≤ length (now «halfedge_normals»)) ⌝ }
+    ensures { λ r. ⌜ r ≡ halfedgeNormal (now («face_units» .entry)) (now («halfedge_normals» .entry)) e ⌝ }
 {
     let normal = get_normal(halfedge_normals, e);
     let unit = smoothing::safe_normalize(normal);
-    normal_after(face_normals, halfedge_normals, normal, unit, e)
+    normal_after(face_units, halfedge_normals, normal, unit, e)
 }
 
 // ---- what the loop carries
 
-fn add_face_edge(face_edges: FaceEdges, e: usize) -> FaceEdges
-    ensures { λ r. ⌜ r ≡ addFaceEdge «face_edges» e ⌝ }
+fn add_face_edge(edges: PackedEdges, e: usize) -> PackedEdges
+    ensures { λ r. ⌜ faceEdgesOf r ≡ addFaceEdge (faceEdgesOf edges) e ⌝ }
 {
-    match face_edges {
-        FaceEdges::NoEdge => FaceEdges::OneEdge(e),
-        FaceEdges::OneEdge(a) => FaceEdges::TwoEdges {
-            first: a,
+    if edges.count == 0 {
+        return PackedEdges {
+            count: 1,
+            first: e,
+            second: 0,
+        };
+    }
+    if edges.count == 1 {
+        return PackedEdges {
+            count: 2,
+            first: edges.first,
             second: e,
-        },
-        FaceEdges::TwoEdges {
-            first: _,
-            second: _,
-        } => FaceEdges::Spoiled,
-        FaceEdges::Spoiled => FaceEdges::Spoiled,
+        };
+    }
+    PackedEdges {
+        count: 3,
+        first: 0,
+        second: 0,
     }
 }
 
@@ -153,54 +208,45 @@ fn differ(a: bool, b: bool) -> bool
     if a { !b } else { b }
 }
 
-fn next_face_edges(here: bool, next: bool, face_edges: FaceEdges, e: usize) -> FaceEdges
-    ensures { λ r. ⌜ r ≡ nextFaceEdges here next «face_edges» e ⌝ }
+fn next_face_edges(here: bool, next: bool, edges: PackedEdges, e: usize) -> PackedEdges
+    ensures { λ r. ⌜ faceEdgesOf r ≡ nextFaceEdges here next (faceEdgesOf edges) e ⌝ }
 {
     if differ(here, next) {
-        return add_face_edge(face_edges, e);
+        return add_face_edge(edges, e);
     }
-    face_edges
+    edges
 }
 
 // Another start, where there is none yet.
-fn set_start(start: StartHalfedge, to: StartHalfedge) -> StartHalfedge
-    ensures { λ r. ⌜ r ≡ setStart start to ⌝ }
+fn set_start(start: PackedStart, to: PackedStart) -> PackedStart
+    ensures { λ r. ⌜ startOf r ≡ setStart (startOf start) (startOf to) ⌝ }
 {
-    match start {
-        StartHalfedge::NoneMissing => to,
-        StartHalfedge::SomeMissing => to,
-        StartHalfedge::StartAt(e) => StartHalfedge::StartAt(e),
+    if start.tag == 0 {
+        return to;
     }
+    if start.tag == 1 {
+        return to;
+    }
+    start
 }
 
 // What a missing normal at halfedge e sets, by whether the next one is missing too.
-fn missing_start(next: bool, e: usize) -> StartHalfedge
-    ensures { λ r. ⌜ r ≡ missingStart next e ⌝ }
+fn missing_start(next: bool, e: usize) -> PackedStart
+    ensures { λ r. ⌜ startOf r ≡ missingStart next e ⌝ }
 {
     if next {
-        return StartHalfedge::SomeMissing;
+        return PackedStart { tag: 1, at: 0 };
     }
-    StartHalfedge::StartAt(e)
+    PackedStart { tag: 2, at: e }
 }
 
-fn next_start(here: bool, next: bool, start: StartHalfedge, e: usize) -> StartHalfedge
-    ensures { λ r. ⌜ r ≡ nextStart here next start e ⌝ }
+fn next_start(here: bool, next: bool, start: PackedStart, e: usize) -> PackedStart
+    ensures { λ r. ⌜ startOf r ≡ nextStart here next (startOf start) e ⌝ }
 {
     if here {
         return set_start(start, missing_start(next, e));
     }
     start
-}
-
-// Is any normal of the vertex cycle missing?
-pub fn some_missing(start: StartHalfedge) -> bool
-    ensures { λ r. ⌜ r ≡ someMissing start ⌝ }
-{
-    match start {
-        StartHalfedge::NoneMissing => false,
-        StartHalfedge::SomeMissing => true,
-        StartHalfedge::StartAt(_) => true,
-    }
 }
 
 fn next_last(here: bool, next: bool, normal: Vec3, last: Vec3) -> Vec3
@@ -214,12 +260,16 @@ fn next_last(here: bool, next: bool, normal: Vec3, last: Vec3) -> Vec3
 }
 
 // What is carried before the first halfedge.
-pub fn start_state() -> CycleState
-    ensures { λ r. ⌜ r ≡ startState ⌝ }
+pub fn start_state() -> PackedState
+    ensures { λ r. ⌜ stateOf r ≡ startState ⌝ }
 {
-    CycleState {
-        face_edges: FaceEdges::NoEdge,
-        start_halfedge: StartHalfedge::NoneMissing,
+    PackedState {
+        edges: PackedEdges {
+            count: 0,
+            first: 0,
+            second: 0,
+        },
+        start: PackedStart { tag: 0, at: 0 },
         last_normal: Vec3 {
             x: 0.0,
             y: 0.0,
@@ -230,32 +280,92 @@ pub fn start_state() -> CycleState
 
 // What is carried after halfedge e, by its normal and the next one round its point, whatever these are.
 pub fn next_state(
-    state: CycleState,
+    state: PackedState,
     here: HalfedgeNormal,
     next: HalfedgeNormal,
     e: usize,
-) -> CycleState
-    ensures { λ r. ⌜ r ≡ nextStateOf state here next e ⌝ }
+) -> PackedState
+    ensures { λ r. ⌜ stateOf r ≡ nextStateOf (stateOf state) here next e ⌝ }
 {
-    let edges = state.face_edges;
-    let start = state.start_halfedge;
+    let edges = state.edges;
+    let start = state.start;
     let last = state.last_normal;
-    CycleState {
-        face_edges: next_face_edges(here.flat, next.flat, edges, e),
-        start_halfedge: next_start(here.zero, next.zero, start, e),
+    PackedState {
+        edges: next_face_edges(here.flat, next.flat, edges, e),
+        start: next_start(here.zero, next.zero, start, e),
         last_normal: next_last(here.zero, next.zero, here.normal, last),
     }
 }
 
 // There is no single flat face.
-pub fn spoil_face_edges(state: CycleState) -> CycleState
-    ensures { λ r. ⌜ r ≡ spoilFaceEdges state ⌝ }
+pub fn spoil_face_edges(state: PackedState) -> PackedState
+    ensures { λ r. ⌜ stateOf r ≡ spoilFaceEdges (stateOf state) ⌝ }
 {
-    let start_halfedge = state.start_halfedge;
+    let start = state.start;
+    let last_normal = state.last_normal;
+    PackedState {
+        edges: PackedEdges {
+            count: 3,
+            first: 0,
+            second: 0,
+        },
+        start,
+        last_normal,
+    }
+}
+
+// ---- what the loop carried, as the enums
+
+fn unpack_edges(edges: PackedEdges) -> FaceEdges
+    ensures { λ r. ⌜ r ≡ faceEdgesOf edges ⌝ }
+{
+    if edges.count == 0 {
+        return FaceEdges::NoEdge;
+    }
+    if edges.count == 1 {
+        return FaceEdges::OneEdge(edges.first);
+    }
+    if edges.count == 2 {
+        return FaceEdges::TwoEdges {
+            first: edges.first,
+            second: edges.second,
+        };
+    }
+    FaceEdges::Spoiled
+}
+
+fn unpack_start(start: PackedStart) -> StartHalfedge
+    ensures { λ r. ⌜ r ≡ startOf start ⌝ }
+{
+    if start.tag == 0 {
+        return StartHalfedge::NoneMissing;
+    }
+    if start.tag == 1 {
+        return StartHalfedge::SomeMissing;
+    }
+    StartHalfedge::StartAt(start.at)
+}
+
+pub fn unpack(state: PackedState) -> CycleState
+    ensures { λ r. ⌜ r ≡ stateOf state ⌝ }
+{
+    let edges = state.edges;
+    let start = state.start;
     let last_normal = state.last_normal;
     CycleState {
-        face_edges: FaceEdges::Spoiled,
-        start_halfedge,
+        face_edges: unpack_edges(edges),
+        start_halfedge: unpack_start(start),
         last_normal,
+    }
+}
+
+// Is any normal of the vertex cycle missing?
+pub fn some_missing(start: StartHalfedge) -> bool
+    ensures { λ r. ⌜ r ≡ someMissing start ⌝ }
+{
+    match start {
+        StartHalfedge::NoneMissing => false,
+        StartHalfedge::SomeMissing => true,
+        StartHalfedge::StartAt(_) => true,
     }
 }

@@ -1,5 +1,5 @@
--- The body of the first loop: with the normals of the lists it is the Rust's. The Rust writes a weight first and reads it back to see whether there is a flag; the code asks for the flag. Assumes nothing.
-use Prim.Native.Nat.{ℕ, _+_, _*_, _≤_}
+-- The tangent between two normals is that by its direction; and the body of the first loop: with the normals of the lists it is the Rust's. The Rust writes a weight first and reads it back to see whether there is a flag; the code asks for the flag. Assumes nothing.
+use Prim.Native.Nat.{ℕ, _+_, _*_, _/_, _≤_}
 use mathlib.Core.Path.{_≡_, refl, sym, _∙_}
 use mathlib.Core.Bool.{Bool, true, false, cond, _||_, true≢false}
 use mathlib.Core.List.{List}
@@ -9,7 +9,9 @@ use lib.Ieee.{Float, lt, neg, ofBits}
 use Rattle.float.specs.Ops.{zero, one}
 use Rattle.linalg.specs.declared.Vec3.{Vec3}
 use Rattle.linalg.specs.declared.Vec4.{Vec4}
-use Rattle.smoothing.specs.Directions.{vec3FromVec4}
+use Rattle.smoothing.specs.Directions.{vec3FromVec4, circularTangent}
+use Rattle.smoothing.specs.Edges.{edgeVec}
+use Rattle.smoothing.proofs.Inner.{tangent-by-direction}
 use Rattle.smoothing.specs.Lists.{tangentAt, putTangent}
 use Rattle.smoothing.proofs.Directions.{equal-by-units}
 use Rattle.smoothing.proofs.Tangents.{weight-put-same, put-put}
@@ -17,9 +19,10 @@ use Rattle.cycles.specs.Cycles.{nextAround}
 use Rattle.normals_state.specs.declared.CycleState.{CycleState}
 use Rattle.normals_state.specs.State.{getNormal, isMissing, nextState}
 use Rattle.normals_state.specs.Carried.{halfedgeNormal}
+use Rattle.normals_state.specs.Units.{UnitsIn}
 use Rattle.normals_state.proofs.Carried.{next-state-by}
-use Rattle.normals_steps.specs.Steps.{withWeight, insideQuadWeight, missingNormalWeight, flagTangent, Walk, walkOf, tangentStep, normalStep}
-use Rattle.normals_steps.specs.Carried.{tangentStepOf, normalStepOf}
+use Rattle.normals_steps.specs.Steps.{tangentBetween, withWeight, insideQuadWeight, missingNormalWeight, flagTangent, Walk, walkOf, tangentStep, normalStep}
+use Rattle.normals_steps.specs.Carried.{directionBetween, tangentStepOf, normalStepOf}
 
 -- ---- the weight says whether there is a flag
 
@@ -53,9 +56,14 @@ no-flag-is false false last t h = refl
 
 -- ---- a halfedge e without a flag
 
-pub tangent-step-by : (H : List ℤ) (P A G : List Float) (m : Walk) (e : ℕ) → tangentStep H P A G m e ≡ tangentStepOf H P A (halfedgeNormal A G e) (halfedgeNormal A G (nextAround H e)) m e
+pub tangent-between-by : (H : List ℤ) (P A : List Float) (a b : Vec3) (equal : Bool) (e : ℕ) → tangentBetween H P A a b equal e ≡ circularTangent (directionBetween H A a b equal (edgeVec H P e) e) (edgeVec H P e)
+unfolding tangentBetween directionBetween
+tangent-between-by H P A a b true e = tangent-by-direction H P A a e
+tangent-between-by H P A a b false e = refl
+
+pub tangent-step-by : (H : List ℤ) (P A U G : List Float) (m : Walk) (e : ℕ) → tangentStep H P A G m e ≡ tangentStepOf H P A (halfedgeNormal U G e) (halfedgeNormal U G (nextAround H e)) m e
 unfolding tangentStep tangentStepOf halfedgeNormal
-tangent-step-by H P A G m e = rw (equal-by-units (getNormal G (nextAround H e)) (getNormal G e)) refl
+tangent-step-by H P A U G m e = rw (equal-by-units (getNormal G (nextAround H e)) (getNormal G e)) refl
 
 -- ---- the body of the loop, at halfedge e
 
@@ -75,8 +83,10 @@ module _ (H : List ℤ) (P A G : List Float) (inside : ℕ → Bool) (m : Walk) 
   step-cases false k =
       simp (no-flag-is (isMissing H G e) (inside e) (after .«last_normal») (tangentAt (m .tangents) e) k, weight-put-same (m .tangents) e (withWeight (vec3FromVec4 (tangentAt (m .tangents) e)) one) h, one-above, put-put)
 
-  pub normal-step-by : normalStep H P A G inside m e ≡ normalStepOf H P A inside (halfedgeNormal A G e) (halfedgeNormal A G (nextAround H e)) m e
+  -- U holds the unit vectors of the triangles' normals
+  pub normal-step-by : {U : List Float} {n : ℕ} → UnitsIn A U n → e / 3 * 3 + 3 ≤ n → nextAround H e / 3 * 3 + 3 ≤ n
+      → normalStep H P A G inside m e ≡ normalStepOf H P A inside (halfedgeNormal U G e) (halfedgeNormal U G (nextAround H e)) m e
   unfolding normalStepOf isMissing halfedgeNormal
-  normal-step-by =
+  normal-step-by {U} w j k =
       step-cases (inside e || isMissing H G e) refl
-      ∙ rw (next-state-by H A G (m .state) e, tangent-step-by H P A G) refl
+      ∙ rw (next-state-by w H G (m .state) e j k, tangent-step-by H P A U G) refl

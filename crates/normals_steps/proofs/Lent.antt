@@ -27,7 +27,7 @@ module _ {H : List ℤ} {P A G T : List Float} {n : ℕ} (w : NormalsIn H P A G 
   tangent-in q = omega (arith, w .tangents)
 
   pub edge-faces-in : FacesIn H P A e
-  edge-faces-in = faces-in _ _ _ _ _ (w .state .missing .sound) (w .positions) (w .state .face-normals) e h
+  edge-faces-in = faces-in _ _ _ _ _ (w .state .missing .sound) (w .state .missing .whole) (w .positions) (w .state .face-normals) e h
 
 -- another list of tangents, as long
 pub normals-still : {H : List ℤ} {P A G T T′ : List Float} {n : ℕ} → length T′ ≡ length T → NormalsIn H P A G T n → NormalsIn H P A G T′ n

@@ -20,6 +20,7 @@ use Rattle.normals_state.specs.declared.FaceEdges.the-variants.{NoEdge, OneEdge
 use Rattle.normals_state.specs.declared.StartHalfedge.{StartHalfedge}
 use Rattle.normals_state.specs.declared.StartHalfedge.the-variants.{NoneMissing, SomeMissing, StartAt}
 use Rattle.normals_state.specs.declared.CycleState.{CycleState}
+use Rattle.normals_state.specs.Units.{UnitsIn}
 use Rattle.normals_state.specs.State.{StateLists, getNormal, normalOr, isMissing, nextState, spoilFaceEdges}
 
 -- ---- what the lists must be for a call
@@ -30,9 +31,10 @@ pub record NormalsIn (H : List ℤ) (P A G T : List Float) (n : ℕ) : Type 0 wh
   pub positions : length P ≡ state .missing .points * 3
   pub tangents : length T ≡ n * 4
 
--- and two flags for each halfedge: Q and X are the code's lists `inside` and `fixed`
-pub record StepIn (H : List ℤ) (P A G : List Float) (Q : List ℕ) (T : List Float) (X : List ℕ) (n : ℕ) : Type 0 where
+-- and two flags for each halfedge, and the unit vector of each triangle's normal: Q, X and U are the code's lists `inside`, `fixed` and `face_units`
+pub record StepIn (H : List ℤ) (P A U G : List Float) (Q : List ℕ) (T : List Float) (X : List ℕ) (n : ℕ) : Type 0 where
   pub lists : NormalsIn H P A G T n
+  pub face-units : UnitsIn A U n
   pub inside : length Q ≡ n
   pub fixed : length X ≡ n
 

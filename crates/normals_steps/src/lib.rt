@@ -3,15 +3,16 @@ ghost use mathlib.Core.Path.{_≡_};
 ghost use mathlib.Core.Bool.{cond};
 ghost use Prim.Native.Nat.{_+_, _*_, _≤_, _<_};
 ghost use lib.ListN.{length};
-ghost use Rattle.smoothing.specs.Edges.{EdgeIn, FacesIn};
+ghost use Rattle.smoothing.specs.Edges.{EdgeIn, NormalsIn, FacesIn};
 ghost use Rattle.makings.specs.Makings.{MakingIn, tangentsOf};
+ghost use Rattle.normals_state.specs.Packed.{stateOf};
 ghost use Rattle.normals_steps.specs.Steps.{FaceEdgesIn, signedDir, tangentBetween, withWeight, insideQuadWeight, missingNormalWeight, walkOf, vertNormalStep, fillOf, fillTangent, putFillTangent, fillStep, faceTangent, fixFaceEdges, alignFaceEdges};
-ghost use Rattle.normals_steps.specs.Carried.{isInside, tangentStepOf, normalStepOf};
+ghost use Rattle.normals_steps.specs.Carried.{isInside, directionBetween, tangentStepOf, normalStepOf};
 use linalg::Vec3;
 use linalg::Vec4;
-use normals_state::CycleState;
 use normals_state::FaceEdges;
 use normals_state::HalfedgeNormal;
+use normals_state::PackedState;
 
 // ---- the loop round the vertex cycle
 
@@ -26,7 +27,26 @@ fn signed_dir(a: Vec3, b: Vec3, edge_vec: Vec3) -> Vec3
     dir
 }
 
-// The tangent of halfedge e between two normals; `equal` says whether they are equal.
+// The direction of the tangent of halfedge e between two normals, where its edge is known; `equal` says whether they are equal.
+fn direction_between(
+    h: &[i32],
+    face_normals: &[f64],
+    a: Vec3,
+    b: Vec3,
+    equal: bool,
+    edge: Vec3,
+    e: usize,
+) -> Vec3
+    requires { ⌜ NormalsIn (now h) (now «face_normals») e ⌝ }
+    ensures { λ r. ⌜ r ≡ directionBetween (now (h .entry)) (now («face_normals» .entry)) a b equal edge e ⌝ }
+{
+    if equal {
+        return smoothing::direction_from_normal(h, face_normals, a, edge, e);
+    }
+    signed_dir(a, b, edge)
+}
+
+// The tangent of halfedge e between two normals. The walk round a point is its one caller, which it is compiled into.
 fn tangent_between(
     h: &[i32],
     pos: &[f64],
@@ -39,11 +59,9 @@ fn tangent_between(
     requires { ⌜ FacesIn (now h) (now pos) (now «face_normals») e ⌝ }
     ensures { λ r. ⌜ r ≡ tangentBetween (now (h .entry)) (now (pos .entry)) (now («face_normals» .entry)) a b equal e ⌝ }
 {
-    if equal {
-        return smoothing::tangent_from_normal(h, pos, face_normals, a, e);
-    }
     let edge = smoothing::edge_vec(h, pos, e);
-    smoothing::circular_tangent(signed_dir(a, b, edge), edge)
+    let dir = direction_between(h, face_normals, a, b, equal, edge, e);
+    smoothing::circular_tangent(dir, edge)
 }
 
 fn with_weight(v: Vec3, w: f64) -> Vec4
@@ -75,13 +93,13 @@ fn tangent_step(
     face_normals: &[f64],
     t: &mut [f64],
     fixed: &mut [u8],
-    state: CycleState,
+    state: PackedState,
     here: HalfedgeNormal,
     next: HalfedgeNormal,
     e: usize,
-) -> CycleState
+) -> PackedState
     requires { ⌜ (e < n) × MakingIn (now h) (now pos) (now t) (now fixed) n × (length (now «face_normals») ≡ n) ⌝ }
-    ensures { λ r. ⌜ walkOf (now (t .exit)) (now (fixed .exit)) r ≡ tangentStepOf (now (h .entry)) (now (pos .entry)) (now («face_normals» .entry)) here next (walkOf (now (t .entry)) (now (fixed .entry)) state) e ⌝ }
+    ensures { λ r. ⌜ walkOf (now (t .exit)) (now (fixed .exit)) (stateOf r) ≡ tangentStepOf (now (h .entry)) (now (pos .entry)) (now («face_normals» .entry)) here next (walkOf (now (t .entry)) (now (fixed .entry)) (stateOf state)) e ⌝ }
 {
     let equal = smoothing::equal_units(next.unit, here.unit);
     let tangent = tangent_between(h, pos, face_normals, here.normal, next.normal, equal, e);
@@ -103,13 +121,13 @@ pub fn normal_step(
     inside: &[u8],
     t: &mut [f64],
     fixed: &mut [u8],
-    state: CycleState,
+    state: PackedState,
     here: HalfedgeNormal,
     next: HalfedgeNormal,
     e: usize,
-) -> CycleState
+) -> PackedState
     requires { ⌜ (e < n) × MakingIn (now h) (now pos) (now t) (now fixed) n × (length (now «face_normals») ≡ n) × (length (now inside) ≡ n) ⌝ }
-    ensures { λ r. ⌜ walkOf (now (t .exit)) (now (fixed .exit)) r ≡ normalStepOf (now (h .entry)) (now (pos .entry)) (now («face_normals» .entry)) (isInside (now (inside .entry))) here next (walkOf (now (t .entry)) (now (fixed .entry)) state) e ⌝ }
+    ensures { λ r. ⌜ walkOf (now (t .exit)) (now (fixed .exit)) (stateOf r) ≡ normalStepOf (now (h .entry)) (now (pos .entry)) (now («face_normals» .entry)) (isInside (now (inside .entry))) here next (walkOf (now (t .entry)) (now (fixed .entry)) (stateOf state)) e ⌝ }
 {
     let after = normals_state::next_state(state, here, next, e);
     let in_quad = inside[e] == 1;
@@ -156,8 +174,11 @@ fn fill_tangent(
     ensures { λ r. ⌜ r ≡ fillTangent (now (h .entry)) (now (pos .entry)) (now («face_normals» .entry)) last prev t e ⌝ }
 {
     let next = normals_state::normal_or(smoothing::vec3_from_vec4(t), last);
-    let equal = smoothing::equal_normals(prev, next);
-    tangent_between(h, pos, face_normals, prev, next, equal, e)
+    if smoothing::equal_normals(prev, next) {
+        return smoothing::tangent_from_normal(h, pos, face_normals, prev, e);
+    }
+    let edge = smoothing::edge_vec(h, pos, e);
+    smoothing::circular_tangent(signed_dir(prev, next, edge), edge)
 }
 
 // The same, written.

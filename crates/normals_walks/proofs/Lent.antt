@@ -13,7 +13,7 @@ use Rattle.normals_walks.specs.Walks.{FacesLists, VertsLists}
 -- what the calls after the first loop ask, of as many tangents
 module _ {H : List ℤ} {P A G T : List Float} {n : ℕ} (w : NormalsIn H P A G T n) where
   abbrev tangents-in : {T′ : List Float} → length T′ ≡ length T → TangentsIn H T′ n
-  tangents-in q = record { points = w .state .missing .points; sound = w .state .missing .sound; tangents = q ∙ w .tangents }
+  tangents-in q = record { points = w .state .missing .points; sound = w .state .missing .sound; whole = w .state .missing .whole; tangents = q ∙ w .tangents }
 
   pub faces-lists : FacesLists H P A T n
   faces-lists = record { tangents = tangents-in refl; positions = w .positions; face-normals = w .state .face-normals }
@@ -22,14 +22,15 @@ module _ {H : List ℤ} {P A G T : List Float} {n : ℕ} (w : NormalsIn H P A G 
   making-in q x = record { tangents = tangents-in q; positions = w .positions; fixed = x }
 
 -- what a point asks
-module _ {H : List ℤ} {P N A G : List Float} {Q F : List ℕ} {T : List Float} {X : List ℕ} {n : ℕ} (w : VertsLists H P N A G Q F T X n) where
-  pub step-in : StepIn H P A G Q T X n
+module _ {H : List ℤ} {P N A U G : List Float} {Q F : List ℕ} {T : List Float} {X : List ℕ} {n : ℕ} (w : VertsLists H P N A U G Q F T X n) where
+  pub step-in : StepIn H P A U G Q T X n
   step-in = record {
     lists = record {
-      state = record { missing = record { points = length F; sound = w .sound; normals = w .normals }; face-normals = w .face-normals };
+      state = record { missing = record { points = length F; sound = w .sound; whole = w .whole; normals = w .normals }; face-normals = w .face-normals };
       positions = w .positions;
       tangents = w .tangents;
     };
+    face-units = w .face-units;
     inside = w .inside;
     fixed = w .fixed;
   }
@@ -38,12 +39,14 @@ module _ {H : List ℤ} {P N A G : List Float} {Q F : List ℕ} {T : List Float}
   point-in l = omega (arith, w .point-normals)
 
   -- other lists, as long
-  pub verts-still : {T′ : List Float} {X′ : List ℕ} → length T′ ≡ length T → length X′ ≡ length X → VertsLists H P N A G Q F T′ X′ n
+  pub verts-still : {T′ : List Float} {X′ : List ℕ} → length T′ ≡ length T → length X′ ≡ length X → VertsLists H P N A U G Q F T′ X′ n
   verts-still q r = record {
     sound = w .sound;
+    whole = w .whole;
     positions = w .positions;
     point-normals = w .point-normals;
     face-normals = w .face-normals;
+    face-units = w .face-units;
     normals = w .normals;
     inside = w .inside;
     vert-halfedge = w .vert-halfedge;

@@ -9,6 +9,7 @@ use lib.Dec.{ltb}
 use lib.Ieee.{Float}
 use Rattle.linalg.specs.declared.Vec3.{Vec3}
 use Rattle.mesh.specs.Fold.{foldTo}
+use Rattle.mesh.specs.Mesh.{halfedgeStride}
 use Rattle.mesh.specs.Sound.{Sound}
 use Rattle.smoothing.specs.Lists.{pointAt}
 use Rattle.makings.specs.Makings.{TangentsIn, Tangents, tangentsOf}
@@ -17,6 +18,7 @@ use Rattle.faces.specs.Faces.{vertHalfedge}
 use Rattle.normals_state.specs.declared.StartHalfedge.{StartHalfedge}
 use Rattle.normals_state.specs.declared.StartHalfedge.the-variants.{NoneMissing, SomeMissing, StartAt}
 use Rattle.normals_state.specs.State.{getNormal, isZero, someMissing, startState}
+use Rattle.normals_state.specs.Units.{UnitsIn}
 use Rattle.normals_steps.specs.Steps.{Walk, walkOf, normalStep, vertNormalStep, fillOf, fillStep, alignFaceEdges}
 
 -- ---- what the lists must be for a call
@@ -27,12 +29,14 @@ pub record FacesLists (H : List ℤ) (P A T : List Float) (n : ℕ) : Type 0 whe
   pub positions : length P ≡ tangents .points * 3
   pub face-normals : length A ≡ n
 
--- All lists of the loop over the points. Q and X are the code's lists of flags `inside` and `fixed`; F has a place for each point, which holds its `vert_halfedge`.
-pub record VertsLists (H : List ℤ) (P N A G : List Float) (Q F : List ℕ) (T : List Float) (X : List ℕ) (n : ℕ) : Type 0 where
+-- All lists of the loop over the points. U, Q and X are the code's lists `face_units`, `inside` and `fixed`; F has a place for each point, which holds its `vert_halfedge`.
+pub record VertsLists (H : List ℤ) (P N A U G : List Float) (Q F : List ℕ) (T : List Float) (X : List ℕ) (n : ℕ) : Type 0 where
   pub sound : Sound H n (length F)
+  pub whole : length H ≡ n * halfedgeStride
   pub positions : length P ≡ length F * 3
   pub point-normals : length N ≡ length F * 3
   pub face-normals : length A ≡ n
+  pub face-units : UnitsIn A U n
   pub normals : length G ≡ n * 3
   pub inside : length Q ≡ n
   pub vert-halfedge : (v : ℕ) → v < length F → getD F v 0 ≡ vertHalfedge H n v

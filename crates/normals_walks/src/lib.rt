@@ -19,23 +19,24 @@ fn normal_walk(
     h: &[i32],
     pos: &[f64],
     face_normals: &[f64],
+    face_units: &[f64],
     halfedge_normals: &[f64],
     inside: &[u8],
     t: &mut [f64],
     fixed: &mut [u8],
     e: usize,
 ) -> CycleState
-    requires { ⌜ (e < n) × StepIn (now h) (now pos) (now «face_normals») (now «halfedge_normals») (now inside) (now t) (now fixed) n ⌝ }
+    requires { ⌜ (e < n) × StepIn (now h) (now pos) (now «face_normals») (now «face_units») (now «halfedge_normals») (now inside) (now t) (now fixed) n ⌝ }
     ensures { λ r. ⌜ walkOf (now (t .exit)) (now (fixed .exit)) r ≡ normalWalk (now (h .entry)) (now (pos .entry)) (now («face_normals» .entry)) (now («halfedge_normals» .entry)) (isInside (now (inside .entry))) n (tangentsOf (now (t .entry)) (now (fixed .entry))) e ⌝ }
     ensures { λ r. ⌜ StateIn n r ⌝ }
 {
     let mut state = normals_state::start_state();
-    let mut here = normals_state::halfedge_normal(face_normals, halfedge_normals, e);
+    let mut here = normals_state::halfedge_normal(face_units, halfedge_normals, e);
     let mut current = e;
     loop {
         let following = cycles::next_around(h, current);
         let next = normals_state::normal_after(
-            face_normals,
+            face_units,
             halfedge_normals,
             here.normal,
             here.unit,
@@ -60,7 +61,7 @@ fn normal_walk(
             break;
         }
     }
-    state
+    normals_state::unpack(state)
 }
 
 // All normals are missing: the loop that takes the point's normal, from halfedge e.
@@ -185,6 +186,7 @@ fn normals_vert(
     pos: &[f64],
     normals: &[f64],
     face_normals: &[f64],
+    face_units: &[f64],
     halfedge_normals: &[f64],
     inside: &[u8],
     vert_halfedge: &[usize],
@@ -192,7 +194,7 @@ fn normals_vert(
     fixed: &mut [u8],
     v: usize,
 )
-    requires { ⌜ (v < length (now «vert_halfedge»)) × VertsLists (now h) (now pos) (now normals) (now «face_normals») (now «halfedge_normals») (now inside) (now «vert_halfedge») (now t) (now fixed) n ⌝ }
+    requires { ⌜ (v < length (now «vert_halfedge»)) × VertsLists (now h) (now pos) (now normals) (now «face_normals») (now «face_units») (now «halfedge_normals») (now inside) (now «vert_halfedge») (now t) (now fixed) n ⌝ }
     ensures { λ _. ⌜ tangentsOf (now (t .exit)) (now (fixed .exit)) ≡ normalsVert (now (h .entry)) (now (pos .entry)) (now (normals .entry)) (now («face_normals» .entry)) (now («halfedge_normals» .entry)) (isInside (now (inside .entry))) n (tangentsOf (now (t .entry)) (now (fixed .entry))) v ⌝ }
 {
     let e = vert_halfedge[v];
@@ -204,6 +206,7 @@ fn normals_vert(
         h,
         pos,
         face_normals,
+        face_units,
         halfedge_normals,
         inside,
         t,
@@ -232,13 +235,14 @@ pub fn normals_verts(
     pos: &[f64],
     normals: &[f64],
     face_normals: &[f64],
+    face_units: &[f64],
     halfedge_normals: &[f64],
     inside: &[u8],
     vert_halfedge: &[usize],
     t: &mut [f64],
     fixed: &mut [u8],
 )
-    requires { ⌜ VertsLists (now h) (now pos) (now normals) (now «face_normals») (now «halfedge_normals») (now inside) (now «vert_halfedge») (now t) (now fixed) n ⌝ }
+    requires { ⌜ VertsLists (now h) (now pos) (now normals) (now «face_normals») (now «face_units») (now «halfedge_normals») (now inside) (now «vert_halfedge») (now t) (now fixed) n ⌝ }
     ensures { λ _. ⌜ tangentsOf (now (t .exit)) (now (fixed .exit)) ≡ normalsVerts (now (h .entry)) (now (pos .entry)) (now (normals .entry)) (now («face_normals» .entry)) (now («halfedge_normals» .entry)) (isInside (now (inside .entry))) n (length (now («vert_halfedge» .entry))) (tangentsOf (now (t .entry)) (now (fixed .entry))) ⌝ }
 {
     let mut v = 0;
@@ -249,6 +253,7 @@ pub fn normals_verts(
             pos,
             normals,
             face_normals,
+            face_units,
             halfedge_normals,
             inside,
             vert_halfedge,

@@ -9,7 +9,7 @@ use Rattle.normals_core.proofs.normal_tangents.Statement.{statement}
 use Rattle.normals_core.proofs.normal_tangents.Tie as tie
 
 inside-quads-requires : tie.Need-inside-quads-requires
-inside-quads-requires c κs = inside-in (c .before .before .before .before .before .before .before .before .before .before .pre)
+inside-quads-requires c κs = inside-in (c .before .before .before .before .before .before .before .before .before .before .before .pre .0)
 
 clear-requires : tie.Need-clear-requires
 clear-requires c κs = tt
@@ -18,16 +18,16 @@ fill-bytes-requires : tie.Need-fill-bytes-requires
 fill-bytes-requires c κs = tt
 
 vert-halfedge-requires : tie.Need-vert-halfedge-requires
-vert-halfedge-requires c κs = verts-in _ _ _ (c .before .before .before .before .before .before .before .before .before .before .before .before .before .before .before .before .before .before .before .before .before .before .pre .sound)
+vert-halfedge-requires c κs = let w = c .before .before .before .before .before .before .before .before .before .before .before .before .before .before .before .before .before .before .before .before .before .before .before .pre .0 in verts-in _ _ _ (w .sound) (w .whole)
 
 normals-verts-requires : tie.Need-normals-verts-requires
-normals-verts-requires c κs = verts-lists (c .before .before .before .before .before .before .before .before .before .before .before .before .before .before .before .before .before .before .before .before .before .before .before .before .before .before .before .before .before .pre) (c .before .before .before .before .before .before .before .before .before .before .before .before .before .before .clear .kept .0) (c .before .before .before .before .before .before .before .before .before .before .fill-bytes .kept .0) (c .before .before .before .before .before .before .before .before .before .before .before .before .before .before .before .before .before .before .inside-quads .kept .1 .1 .1 .1 .1 .0) (c .before .before .before .before .before .before .vert-halfedge .kept .1 .0) (c .before .before .before .before .before .before .vert-halfedge .ensures)
+normals-verts-requires c κs = let p = c .before .before .before .before .before .before .before .before .before .before .before .before .before .before .before .before .before .before .before .before .before .before .before .before .before .before .before .before .before .before .pre in verts-lists (p .0) (p .1) (c .before .before .before .before .before .before .before .before .before .before .before .before .before .before .clear .kept .0) (c .before .before .before .before .before .before .before .before .before .before .fill-bytes .kept .0) (c .before .before .before .before .before .before .before .before .before .before .before .before .before .before .before .before .before .before .inside-quads .kept .1 .1 .1 .1 .1 .0) (c .before .before .before .before .before .before .vert-halfedge .kept .1 .0) (c .before .before .before .before .before .before .vert-halfedge .ensures)
 
 same-length : tie.Need-same-length
-same-length c = c .before .before .before .before .normals-verts .kept .1 .1 .1 .1 .1 .1 .1 .1 .0 ∙ c .before .before .before .before .before .before .before .before .before .before .before .before .before .before .before .before .before .before .before .clear .kept .0
+same-length c = c .before .before .before .before .normals-verts .kept .1 .1 .1 .1 .1 .1 .1 .1 .1 .0 ∙ c .before .before .before .before .before .before .before .before .before .before .before .before .before .before .before .before .before .before .before .clear .kept .0
 
 same-length-2 : tie.Need-same-length-2
-same-length-2 c = c .before .before .before .before .normals-verts .kept .1 .1 .1 .1 .1 .1 .1 .1 .1 .0 ∙ c .before .before .before .before .before .before .before .before .before .before .before .before .before .before .before .fill-bytes .kept .0
+same-length-2 c = c .before .before .before .before .normals-verts .kept .1 .1 .1 .1 .1 .1 .1 .1 .1 .1 .0 ∙ c .before .before .before .before .before .before .before .before .before .before .before .before .before .before .before .fill-bytes .kept .0
 
 same-length-3 : tie.Need-same-length-3
 same-length-3 c = c .before .before .before .before .before .before .before .before .before .before .before .before .before .before .before .before .before .before .before .before .before .before .before .inside-quads .kept .1 .1 .1 .1 .1 .0
@@ -36,7 +36,7 @@ same-length-4 : tie.Need-same-length-4
 same-length-4 c = c .before .before .before .before .before .before .before .before .before .before .before .vert-halfedge .kept .1 .0
 
 returns : tie.Need-returns
-returns c = let a = c .before .before .before .before .before .before .before .before .before .before .before .before .before .before .before .before .before .before .before .before .before .before .before .before .before .before .before .before .before .before .before .before .before .before .args in let w = c .before .before .before .before .before .before .before .before .before .before .before .before .before .before .before .before .before .before .before .before .before .before .before .before .before .before .before .before .before .before .before .before .before .before .pre in made (w .sound) (a .refs .now) (a .pos .now) (a .normals .now) (a .«face-normals» .now) (a .«halfedge-normals» .now) (a .t .now) (a .old) _ _ _ _ _ _ _ (c .before .before .before .before .normals-verts .ensures) (c .before .before .before .before .before .before .before .before .before .before .before .before .before .before .before .before .before .before .before .before .before .before .before .inside-quads .ensures) (cleared _ zero _ _ (c .before .before .before .before .before .before .before .before .before .before .before .before .before .before .before .before .before .before .before .clear .ensures) (w .tangents)) (cleared _ 0 _ _ (c .before .before .before .before .before .before .before .before .before .before .before .before .before .before .before .fill-bytes .ensures) (w .fixed)) (c .before .before .before .before .before .before .before .before .before .before .before .vert-halfedge .kept .1 .0)
+returns c = let a = c .before .before .before .before .before .before .before .before .before .before .before .before .before .before .before .before .before .before .before .before .before .before .before .before .before .before .before .before .before .before .before .before .before .before .before .args in let w = c .before .before .before .before .before .before .before .before .before .before .before .before .before .before .before .before .before .before .before .before .before .before .before .before .before .before .before .before .before .before .before .before .before .before .before .pre .0 in made (w .sound) (a .refs .now) (a .pos .now) (a .normals .now) (a .«face-normals» .now) (a .«halfedge-normals» .now) (a .t .now) (a .old) _ _ _ _ _ _ _ (c .before .before .before .before .normals-verts .ensures) (c .before .before .before .before .before .before .before .before .before .before .before .before .before .before .before .before .before .before .before .before .before .before .before .inside-quads .ensures) (cleared _ zero _ _ (c .before .before .before .before .before .before .before .before .before .before .before .before .before .before .before .before .before .before .before .clear .ensures) (w .tangents)) (cleared _ 0 _ _ (c .before .before .before .before .before .before .before .before .before .before .before .before .before .before .before .fill-bytes .ensures) (w .fixed)) (c .before .before .before .before .before .before .before .before .before .before .before .vert-halfedge .kept .1 .0)
 
 pub normal-tangents-spec : {M : Type 1} → statement M
 normal-tangents-spec =

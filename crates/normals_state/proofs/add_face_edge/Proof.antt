@@ -1,47 +1,31 @@
--- `normals_state::add_face_edge` meets its contract: each way is what the match picks. Assumes nothing.
+-- `normals_state::add_face_edge` meets its contract: each way is what the test picks. Assumes nothing.
+use Prim.Native.Nat.{ℕ}
+use mathlib.Core.Bool.{Bool, true, false, cond}
+use mathlib.Core.Path.{_≡_, refl}
+use borrow.Author.Tests.{eq-eqb, ne-eqb}
+use Rattle.normals_state.specs.declared.FaceEdges.the-variants.{TwoEdges, Spoiled}
 use Rattle.normals_state.specs.State.{addFaceEdge}
-use mathlib.Core.Path.{refl}
-use borrow.Author.Needs.{needs}
+use Rattle.normals_state.specs.Packed.{faceEdgesOf}
 use Rattle.normals_state.proofs.add_face_edge.Statement.{statement}
 use Rattle.normals_state.proofs.add_face_edge.Tie as tie
 
-enum-told : tie.Need-enum-told
-enum-told c = search needs
-
-enum-known-face-edges : tie.Need-enum-known-face-edges
-enum-known-face-edges c = search needs
-
-enum-told-2 : tie.Need-enum-told-2
-enum-told-2 c = search needs
-
-enum-told-3 : tie.Need-enum-told-3
-enum-told-3 c = search needs
+-- a third one, or one more
+third : (b : Bool) (first second e : ℕ) → addFaceEdge (cond b (TwoEdges first second) Spoiled) e ≡ Spoiled
+unfolding addFaceEdge
+third true first second e = refl
+third false first second e = refl
 
 returns : tie.Need-returns
-unfolding addFaceEdge
-returns c = rw (c .enum-told .given .1) refl
+unfolding addFaceEdge faceEdgesOf
+returns c = simp (eq-eqb _ _ (c .if1 .taken))
 
 returns-2 : tie.Need-returns-2
-unfolding addFaceEdge
-returns-2 c = rw (c .before .face-edges .given .1) refl
+unfolding addFaceEdge faceEdgesOf
+returns-2 c = simp (ne-eqb _ _ (c .before .before .if1 .left), eq-eqb _ _ (c .if2 .taken))
 
 returns-3 : tie.Need-returns-3
-unfolding addFaceEdge
-returns-3 c = rw (c .enum-told2 .given .1) refl
-
-returns-4 : tie.Need-returns-4
-unfolding addFaceEdge
-returns-4 c = rw (c .enum-told3 .given .1) refl
+unfolding faceEdgesOf
+returns-3 c = simp (ne-eqb _ _ (c .before .before .if1 .left), ne-eqb _ _ (c .if2 .left), third)
 
 pub add-face-edge-spec : {M : Type 1} → statement M
-add-face-edge-spec =
-    tie.close
-    (tie.spec
-    enum-told
-    enum-known-face-edges
-    enum-told-2
-    enum-told-3
-    returns
-    returns-2
-    returns-3
-    returns-4)
+add-face-edge-spec = tie.close (tie.spec returns returns-2 returns-3)

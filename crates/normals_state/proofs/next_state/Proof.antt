@@ -1,5 +1,6 @@
 -- `normals_state::next_state` meets its contract: the code is the definition. Assumes nothing.
 use Rattle.normals_state.specs.Carried.{nextStateOf}
+use Rattle.normals_state.specs.Packed.{stateOf}
 use Rattle.normals_state.proofs.next_state.Statement.{statement}
 use Rattle.normals_state.proofs.next_state.Tie as tie
 
@@ -13,7 +14,7 @@ next-last-requires : tie.Need-next-last-requires
 next-last-requires c κs = tt
 
 returns : tie.Need-returns
-unfolding nextStateOf
+unfolding nextStateOf stateOf
 returns c = simp (← c .before .before .next-face-edges .ensures, ← c .before .next-start .ensures, ← c .next-last .ensures)
 
 pub next-state-spec : {M : Type 1} → statement M

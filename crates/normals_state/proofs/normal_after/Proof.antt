@@ -1,8 +1,4 @@
 -- `normals_state::normal_after` meets its contract: the code is the definition, with the normal's unit vector worked out once. Assumes nothing.
-use Prim.Native.Nat.{_/_}
-use Rattle.smoothing.specs.Lists.{pointAt}
-use Rattle.smoothing.proofs.Directions.{equal-by-units}
-use Rattle.normals_state.specs.State.{getNormal, hasFaceNormal}
 use Rattle.normals_state.specs.Carried.{halfedgeNormal}
 use borrow.Author.Needs.{needs}
 use Rattle.normals_state.proofs.normal_after.Statement.{statement}
@@ -17,9 +13,6 @@ unit-after-requires c κs = c .before .before .before .pre .2
 point-at-requires : tie.Need-point-at-requires
 point-at-requires c κs = search needs
 
-safe-normalize-requires : tie.Need-safe-normalize-requires
-safe-normalize-requires c κs = tt
-
 is-zero-requires : tie.Need-is-zero-requires
 is-zero-requires c κs = tt
 
@@ -27,11 +20,8 @@ equal-units-requires : tie.Need-equal-units-requires
 equal-units-requires c κs = tt
 
 returns : tie.Need-returns
-unfolding halfedgeNormal hasFaceNormal
-returns c =
-    let a = c .before .before .before .before .before .before .before .before .args in
-    let q = equal-by-units (getNormal (a .halfedge-normals .now) (a .e)) (pointAt (a .face-normals .now) (a .e / 3)) in
-    simp (q, ← c .before .before .before .before .before .get-normal .ensures, ← c .before .before .before .before .unit-after .ensures, ← c .before .before .before .point-at .ensures, ← c .before .before .safe-normalize .ensures, ← c .before .is-zero .ensures, ← c .equal-units .ensures)
+unfolding halfedgeNormal
+returns c = simp (← c .before .before .before .before .get-normal .ensures, ← c .before .before .before .unit-after .ensures, ← c .before .before .point-at .ensures, ← c .before .is-zero .ensures, ← c .equal-units .ensures)
 
 pub normal-after-spec : {M : Type 1} → statement M
 normal-after-spec =
@@ -40,7 +30,6 @@ normal-after-spec =
     get-normal-requires
     unit-after-requires
     point-at-requires
-    safe-normalize-requires
     is-zero-requires
     equal-units-requires
     returns)

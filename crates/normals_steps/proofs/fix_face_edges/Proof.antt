@@ -8,7 +8,7 @@ face-tangent-requires : tie.Need-face-tangent-requires
 face-tangent-requires c κs =
     let p = c .before .before .before .pre in
     let w = p .2 in
-    (edge-in _ _ _ _ (w .tangents .sound) (w .positions) _ (p .0), edge-in _ _ _ _ (w .tangents .sound) (w .positions) _ (p .1))
+    (edge-in _ _ _ _ (w .tangents .sound) (w .tangents .whole) (w .positions) _ (p .0), edge-in _ _ _ _ (w .tangents .sound) (w .tangents .whole) (w .positions) _ (p .1))
 
 align-tangents-requires : tie.Need-align-tangents-requires
 align-tangents-requires c κs = c .before .before .before .before .before .before .pre

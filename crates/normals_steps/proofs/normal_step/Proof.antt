@@ -2,6 +2,7 @@
 use native.Mathlib.Omega.{arith}
 use mathlib.Core.Path.{refl}
 use Rattle.makings.proofs.Makings.{tangent-in}
+use Rattle.normals_state.specs.Packed.{stateOf}
 use Rattle.normals_steps.specs.Carried.{normalStepOf}
 use Rattle.normals_steps.proofs.normal_step.Statement.{statement}
 use Rattle.normals_steps.proofs.normal_step.Tie as tie
@@ -28,7 +29,7 @@ same-length : tie.Need-same-length
 same-length c = c .before .before .put-tangent .kept .0
 
 returns : tie.Need-returns
-unfolding normalStepOf
+unfolding normalStepOf stateOf
 returns c = simp (← c .before .before .before .before .before .before .before .before .before .next-state .ensures, ← c .before .before .before .before .before .before .before .either .ensures, ← c .before .before .before .before .before .before .either2 .ensures, c .before .before .before .before .before .if1 .taken, ← c .before .before .before .flag-tangent .ensures, ← c .before .before .put-tangent .ensures)
 
 tangent-step-requires : tie.Need-tangent-step-requires
@@ -41,7 +42,7 @@ same-length-3 : tie.Need-same-length-3
 same-length-3 c = c .before .before .before .before .tangent-step .kept .1 .1 .1 .1 .1 .0
 
 returns-2 : tie.Need-returns-2
-unfolding normalStepOf
+unfolding normalStepOf stateOf
 returns-2 c = simp (← c .before .before .before .before .before .before .before .before .before .before .before .next-state .ensures, ← c .before .before .before .before .before .before .before .before .before .either .ensures, ← c .before .before .before .before .before .before .before .before .either2 .ensures, c .before .before .before .before .before .before .before .if1 .left) (c .before .before .before .before .tangent-step .ensures)
 
 pub normal-step-spec : {M : Type 1} → statement M

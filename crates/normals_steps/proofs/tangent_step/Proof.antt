@@ -12,7 +12,7 @@ equal-units-requires : tie.Need-equal-units-requires
 equal-units-requires c κs = tt
 
 tangent-between-requires : tie.Need-tangent-between-requires
-tangent-between-requires c κs = let p = c .before .before .before .before .before .pre in faces-in _ _ _ _ _ (p .1 .tangents .sound) (p .1 .positions) (p .2) _ (p .0)
+tangent-between-requires c κs = let p = c .before .before .before .before .before .pre in faces-in _ _ _ _ _ (p .1 .tangents .sound) (p .1 .tangents .whole) (p .1 .positions) (p .2) _ (p .0)
 
 put-tangent-requires : tie.Need-put-tangent-requires
 put-tangent-requires c κs = let z = c .before .before .before .before .before .before .before in tangent-in (z .pre .1 .tangents) (z .args .t .now) refl (z .args .e) (z .pre .0)

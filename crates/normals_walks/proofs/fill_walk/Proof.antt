@@ -5,7 +5,9 @@ use Rattle.normals_steps.proofs.Lent.{tangent-in, edge-faces-in}
 use Rattle.normals_state.specs.State.{getNormal}
 use Rattle.normals_state.proofs.Lent.{here-in, next-in}
 use Rattle.linalg.specs.declared.Vec3.{Vec3}
-use Rattle.cycles.proofs.Around.{next-fits, prev-permutes, prev-fits}
+use Rattle.mesh.proofs.Accepted.{inside}
+use Rattle.mesh.proofs.Halfedges.{prev-below}
+use Rattle.cycles.proofs.Around.{prev-permutes, prev-fits}
 use Rattle.cycles.proofs.Loops.{Walking, around-start, around-step, around-less, around-fold-step, around-fold-stop}
 use Rattle.cycles.proofs.Paths.{isAt, stepsLeft}
 use Rattle.cycles.specs.Cycles.{nextAround, prevAround, vertexCycleBack}
@@ -26,7 +28,7 @@ abbrev μ-loop : tie.MeasureT-loop
 μ-loop n h pos face-normals halfedge-normals last t₀ start next prev₀ current₀ t prev current = stepsLeft (prevAround h) (isAt start) n current
 
 next-around-requires : tie.Need-next-around-requires Inv-loop μ-loop
-next-around-requires c κs = let pre = c .before .before .before .before .pre in next-fits (pre .1 .state .missing .sound) _ (pre .0)
+next-around-requires c κs = let pre = c .before .before .before .before .pre in let w = pre .1 .state .missing in inside (w .sound) (w .whole) _ (pre .0)
 
 get-normal-requires : tie.Need-get-normal-requires Inv-loop μ-loop
 get-normal-requires c κs = let pre = c .before .before .before .before .before .pre in next-in (pre .1 .state .missing) (pre .0) (c .next-around .ensures)
@@ -47,7 +49,7 @@ fill-step-requires c κs =
     (tangent-in w b (l .inv .1), here-in (w .state .missing) b, edge-faces-in w b)
 
 prev-around-requires : tie.Need-prev-around-requires Inv-loop μ-loop
-prev-around-requires c κs = let l = c .before .before .before .before .loop in prev-fits (c .before .before .before .before .before .before .before .before .before .before .before .pre .1 .state .missing .sound) (l .current) (l .inv .0 .below)
+prev-around-requires c κs = let l = c .before .before .before .before .loop in let w = c .before .before .before .before .before .before .before .before .before .before .before .pre .1 .state .missing in (prev-fits (w .sound) (l .current) (l .inv .0 .below), inside (w .sound) (w .whole) _ (prev-below _ (l .current) (w .sound .triangles) (l .inv .0 .below)))
 
 loop-less : tie.Need-loop-less Inv-loop μ-loop
 loop-less c = around-less (prev-permutes (c .before .before .before .before .before .before .before .before .before .before .before .before .before .pre .1 .state .missing .sound)) (c .before .before .before .before .before .before .loop .inv .0) (c .before .prev-around .ensures) (c .if1 .left)

@@ -14,18 +14,18 @@ use Rattle.normals_walks.proofs.normals_verts.Statement.{statement}
 use Rattle.normals_walks.proofs.normals_verts.Tie as tie
 
 abbrev Inv-loop : tie.InvT-loop
-Inv-loop n h pos normals face-normals halfedge-normals inside vert-halfedge t₀ fixed₀ v₀ t fixed v =
+Inv-loop n h pos normals face-normals face-units halfedge-normals inside vert-halfedge t₀ fixed₀ v₀ t fixed v =
     (v ≤ length vert-halfedge) × (length t ≡ length t₀) × (length fixed ≡ length fixed₀)
     × (tangentsOf t fixed ≡ foldTo (normalsVert h pos normals face-normals halfedge-normals (isInside inside) n) (tangentsOf t₀ fixed₀) v)
 
 abbrev μ-loop : tie.MeasureT-loop
-μ-loop n h pos normals face-normals halfedge-normals inside vert-halfedge t₀ fixed₀ v₀ t fixed v = length vert-halfedge - v
+μ-loop n h pos normals face-normals face-units halfedge-normals inside vert-halfedge t₀ fixed₀ v₀ t fixed v = length vert-halfedge - v
 
 loop-holds : tie.Need-loop-holds Inv-loop μ-loop
 loop-holds c = (omega arith, refl, refl, sym (fold-none _ _))
 
 normals-vert-requires : tie.Need-normals-vert-requires Inv-loop μ-loop
-normals-vert-requires c κs = let l = c .before .before .before .loop in (omega arith, verts-still (c .before .before .before .before .before .before .before .before .before .before .before .before .pre) (l .inv .1) (l .inv .2))
+normals-vert-requires c κs = let l = c .before .before .before .loop in (omega arith, verts-still (c .before .before .before .before .before .before .before .before .before .before .before .before .before .pre) (l .inv .1) (l .inv .2))
 
 add-v : tie.Need-add-v Inv-loop μ-loop
 add-v c = omega arith
@@ -37,7 +37,7 @@ loop-again : tie.Need-loop-again Inv-loop μ-loop
 loop-again c =
     let l = c .before .before .before .before .before .before .before .before .loop in
     let m = c .before .before .before .before .normals-vert in
-    (omega arith, m .kept .1 .1 .1 .1 .1 .1 .1 .1 .0 ∙ l .inv .1, m .kept .1 .1 .1 .1 .1 .1 .1 .1 .1 .0 ∙ l .inv .2, fold-turn _ _ _ _ (l .v) (l .inv .3) (m .ensures))
+    (omega arith, m .kept .1 .1 .1 .1 .1 .1 .1 .1 .1 .0 ∙ l .inv .1, m .kept .1 .1 .1 .1 .1 .1 .1 .1 .1 .1 .0 ∙ l .inv .2, fold-turn _ _ _ _ (l .v) (l .inv .3) (m .ensures))
 
 same-length : tie.Need-same-length Inv-loop μ-loop
 same-length c = c .before .loop .inv .1
@@ -49,7 +49,7 @@ returns : tie.Need-returns Inv-loop μ-loop
 unfolding normalsVerts
 returns c =
     let l = c .before .loop in
-    let q : l .v ≡ length (c .before .before .before .before .before .before .before .before .before .before .args .vert-halfedge .now) = omega arith in
+    let q : l .v ≡ length (c .before .before .before .before .before .before .before .before .before .before .before .args .vert-halfedge .now) = omega arith in
     rw q at (l .inv .3)
 
 pub normals-verts-spec : {M : Type 1} → statement M

@@ -3,7 +3,8 @@ use Rattle.normals_walks.specs.Walks.{vertNormalWalk}
 use Rattle.normals_steps.specs.Steps.{vertNormalStep}
 use Rattle.smoothing.proofs.Edges.{faces-in}
 use Rattle.makings.proofs.Makings.{tangent-in}
-use Rattle.cycles.proofs.Around.{next-permutes, next-fits}
+use Rattle.mesh.proofs.Accepted.{inside}
+use Rattle.cycles.proofs.Around.{next-permutes}
 use Rattle.cycles.proofs.Loops.{Walking, around-start, around-step, around-less, around-fold-step, around-fold-stop}
 use Rattle.cycles.proofs.Paths.{isAt, stepsLeft}
 use Rattle.cycles.specs.Cycles.{nextAround, vertexCycle}
@@ -30,10 +31,10 @@ vert-normal-step-requires : tie.Need-vert-normal-step-requires Inv-loop μ-loop
 vert-normal-step-requires c κs =
     let l = c .before .loop in
     let w = c .before .before .before .before .before .pre .1 in
-    (tangent-in (w .tangents) (l .t) (l .inv .1) (l .current) (l .inv .0 .below), faces-in _ _ _ _ _ (w .tangents .sound) (w .positions) (w .face-normals) (l .current) (l .inv .0 .below))
+    (tangent-in (w .tangents) (l .t) (l .inv .1) (l .current) (l .inv .0 .below), faces-in _ _ _ _ _ (w .tangents .sound) (w .tangents .whole) (w .positions) (w .face-normals) (l .current) (l .inv .0 .below))
 
 next-around-requires : tie.Need-next-around-requires Inv-loop μ-loop
-next-around-requires c κs = let l = c .before .before .before .before .loop in next-fits (c .before .before .before .before .before .before .before .before .pre .1 .tangents .sound) (l .current) (l .inv .0 .below)
+next-around-requires c κs = let l = c .before .before .before .before .loop in let w = c .before .before .before .before .before .before .before .before .pre .1 .tangents in inside (w .sound) (w .whole) (l .current) (l .inv .0 .below)
 
 loop-less : tie.Need-loop-less Inv-loop μ-loop
 loop-less c = around-less (next-permutes (c .before .before .before .before .before .before .before .before .before .before .pre .1 .tangents .sound)) (c .before .before .before .before .before .before .loop .inv .0) (c .before .next-around .ensures) (c .if1 .left)
