@@ -3,8 +3,8 @@ use Prim.Native.Nat.{ℕ, _*_}
 use native.Mathlib.Omega.{arith}
 use mathlib.Core.Path.{_≡_, refl, _∙_}
 use mathlib.Core.List.{List}
-use mathlib.Core.Bool.{Bool, true, false, not, cond, _&&_}
-use borrow.Author.Tests.{eqb-true, ne-eqb, not-true}
+use mathlib.Core.Bool.{Bool, true, false, cond, _&&_}
+use borrow.Author.Tests.{eqb-true, ne-eqb}
 use lib.Dec.{eqb}
 use lib.ListN.{length}
 use lib.IntN.{ℤ}
@@ -14,6 +14,7 @@ use lib.Ieee.Fits.{down-pos}
 use Rattle.float.specs.Ops.{zero, one}
 use Rattle.linalg.specs.declared.Vec3.{Vec3}
 use Rattle.linalg.specs.declared.Vec4.{Vec4}
+use Rattle.linalg.specs.Vec.{neg3}
 use Rattle.mesh.specs.Mesh.{halfedgeStride, isForward}
 use Rattle.mesh.specs.Questions.{hasLength}
 use Rattle.mesh.specs.declared.Checked.the-variants.{Accepted}
@@ -29,13 +30,15 @@ arm : {A B : Type 0} (f : A → B) (b : Bool) (x y : A) → (b ≡ true → f x 
 arm f true x y q = q refl
 arm f false x y q = refl
 
--- ---- where neither end is flat nothing is written
+-- ---- an end that is not flat is left alone
 
-pub neither-kept : (T : List Float) (e pair : ℕ) (edge : Vec3) (tangent other : Vec4) → not (isFlat tangent) && not (isFlat other) ≡ true → linearizeEdge T e pair edge tangent other ≡ T
-unfolding linearizeEdge linearizeEnd
-neither-kept T e pair edge tangent other q =
-    let unflat = and-true (not (isFlat tangent)) (not (isFlat other)) q in
-    rw (not-true (isFlat tangent) (unflat .0), not-true (isFlat other) (unflat .1))
+pub end-unflat : (T : List Float) (e : ℕ) (edge : Vec3) (tangent other : Vec4) → isFlat tangent ≡ false → linearizeEnd T e edge tangent other ≡ T
+unfolding linearizeEnd
+end-unflat T e edge tangent other q = rw q
+
+pub other-end : (T : List Float) (e pair : ℕ) (edge : Vec3) (tangent other : Vec4) → isFlat tangent ≡ false → linearizeEdge T e pair edge tangent other ≡ linearizeEnd T pair (neg3 edge) other tangent
+unfolding linearizeEdge
+other-end T e pair edge tangent other q = rw (end-unflat T e edge tangent other q)
 
 -- ---- the length is kept
 
@@ -94,4 +97,4 @@ accepted-lists H P T n p e =
     let a = accepted H n p (lengthsFit H P T n p) e in
     let l = and-true (hasLength (length H) n halfedgeStride && hasLength (length P) p 3) (hasLength (length T) n 4) (a .0) in
     let m = and-true (hasLength (length H) n halfedgeStride) (hasLength (length P) p 3) (l .0) in
-    record { sound = a .1; positions = eqb-true _ _ (m .1); tangents = eqb-true _ _ (l .1) }
+    record { sound = a .1; whole = eqb-true _ _ (m .0); positions = eqb-true _ _ (m .1); tangents = eqb-true _ _ (l .1) }

@@ -79,5 +79,6 @@ pub record HalfedgeIn (H : List ℤ) (P T : List Float) (e : ℕ) : Type 0 where
 -- the lists of an accepted call
 pub record Lists (H : List ℤ) (P T : List Float) (n p : ℕ) : Type 0 where
   pub sound : Sound H n p
+  pub whole : length H ≡ n * halfedgeStride
   pub positions : length P ≡ p * 3
   pub tangents : length T ≡ n * 4

@@ -1,7 +1,6 @@
 // `linearize_flat_tangents` of src/smoothing_tangents.rs (document 01's straightening): a tangent of weight 0 is made
 // straight, edge by edge.
 ghost use mathlib.Core.Path.{_≡_};
-ghost use mathlib.Core.Bool.{not, _&&_};
 ghost use Prim.Native.Nat.{_+_, _*_, _≤_};
 ghost use lib.ListN.{length};
 ghost use Rattle.mesh.specs.Check.{Values};
@@ -14,16 +13,6 @@ fn is_flat(tangent: Vec4) -> bool
     ensures { λ r. ⌜ r ≡ isFlat tangent ⌝ }
 {
     tangent.w == 0.0
-}
-
-// Is neither end of an edge flat?
-fn neither_flat(tangent: Vec4, other: Vec4) -> bool
-    ensures { λ r. ⌜ r ≡ not (isFlat tangent) && not (isFlat other) ⌝ }
-{
-    if is_flat(tangent) {
-        return false;
-    }
-    !is_flat(other)
 }
 
 fn with_unit_weight(v: Vec3) -> Vec4
@@ -59,11 +48,17 @@ fn linearize_end(t: &mut [f64], e: usize, edge: Vec3, tangent: Vec4, other: Vec4
     smoothing::put_tangent(t, e, linearized(edge, other));
 }
 
-// Both ends of an edge, from the tangents as they were read before.
+// Both ends of an edge, from the tangents as they were read before. Where both are flat, the third of the edge is worked out once.
 fn linearize_edge(t: &mut [f64], e: usize, pair: usize, edge: Vec3, tangent: Vec4, other: Vec4)
     requires { ⌜ (e * 4 + 4 ≤ length (now t)) × (pair * 4 + 4 ≤ length (now t)) ⌝ }
     ensures { λ _. ⌜ now (t .exit) ≡ linearizeEdge (now (t .entry)) e pair edge tangent other ⌝ }
 {
+    if mesh::both(is_flat(tangent), is_flat(other)) {
+        let third = linalg::divide(edge, 3.0);
+        smoothing::put_tangent(t, e, with_unit_weight(third));
+        smoothing::put_tangent(t, pair, with_unit_weight(linalg::neg(third)));
+        return;
+    }
     linearize_end(t, e, edge, tangent, other);
     linearize_end(t, pair, linalg::neg(edge), other, tangent);
 }
@@ -79,11 +74,16 @@ fn linearize_at(h: &[i32], pos: &[f64], t: &mut [f64], e: usize)
     let pair = mesh::paired_halfedge(h, e);
     let tangent = smoothing::tangent_at(t, e);
     let other = smoothing::tangent_at(t, pair);
-    if neither_flat(tangent, other) {
+    if is_flat(tangent) {
+        let edge = smoothing::edge_vec(h, pos, e);
+        linearize_edge(t, e, pair, edge, tangent, other);
+        return;
+    }
+    if !is_flat(other) {
         return;
     }
     let edge = smoothing::edge_vec(h, pos, e);
-    linearize_edge(t, e, pair, edge, tangent, other);
+    linearize_end(t, pair, linalg::neg(edge), other, tangent);
 }
 
 // Every halfedge of lists that are known to be right.

@@ -14,7 +14,8 @@ use Rattle.mesh.specs.declared.Checked.the-variants.{Accepted}
 use Rattle.mesh.proofs.Tests.{and-true}
 use Rattle.mesh.proofs.Accepted.{accepted}
 use Rattle.mesh.proofs.Pairs.{one-forward, paired-injective}
-use Rattle.sharpen.specs.Crease.{isCrease, NormalsIn}
+use Rattle.smoothing.proofs.Edges.{normals-in}
+use Rattle.sharpen.specs.Crease.{isCrease}
 use Rattle.sharpen.specs.Entries.{entriesIn, listEdges, countBelow}
 use Rattle.sharpen.specs.Sharpen.{lengthsFit, checkLists, Lists, EdgeFits}
 use Rattle.sharpen.proofs.Listed.{entries-twice}
@@ -48,22 +49,16 @@ module _ (H : List ℤ) (A : List Float) (E : List ℕ) (S : List Float) (n p : 
       let back = and-true _ _ (q .1) in
       record {
         sound = b .1;
-        mesh = eqb-true _ _ (front .0);
+        whole = eqb-true _ _ (front .0);
         normals = eqb-true _ _ (front .1);
         halfedges = let l : length E ≡ n * 1 = eqb-true _ _ (back .0) in omega arith;
         smoothness = let l : length S ≡ n * 1 = eqb-true _ _ (back .1) in omega arith;
       }
 
-  normals-in : Lists H A E S n p → (e : ℕ) → e < n → NormalsIn H A e
-  normals-in l e h = record {
-    here-in = omega (arith, l .sound .triangles);
-    there-in = omega (arith, l .sound .triangles, l .sound .paired-below e h);
-  }
-
   -- one turn of the loop, on the lists E₁ and S₁ of the same lengths with k entries
   pub edge-fits : Lists H A E S n p → (limit : Float) (e : ℕ) → e < n → {k : ℕ} {E₁ : List ℕ} {S₁ : List Float} → k ≡ 2 * countBelow (isCrease H A limit) e → length E₁ ≡ length E → length S₁ ≡ length S → EdgeFits H A limit e k E₁ S₁
   edge-fits l limit e h q le ls = record {
-    normals = normals-in l e h;
+    normals = normals-in H n p A (l .sound) (l .whole) (omega (arith, l .normals, l .sound .triangles)) e h;
     halfedges = λ crease. omega (arith, entries-room A limit (l .sound) e h crease, l .halfedges);
     smoothness = λ crease. omega (arith, entries-room A limit (l .sound) e h crease, l .smoothness);
   }

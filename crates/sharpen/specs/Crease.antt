@@ -1,8 +1,7 @@
 -- The rule by which `sharpen_edges` of src/smoothing_tangents.rs lists an edge. H are the halfedges, A the face normals.
-use Prim.Native.Nat.{ℕ, _+_, _*_, _/_, _≤_}
+use Prim.Native.Nat.{ℕ, _/_}
 use mathlib.Core.List.{List}
 use mathlib.Core.Bool.{Bool, _&&_}
-use lib.ListN.{length}
 use lib.IntN.{ℤ}
 use lib.Ieee.{Float, lt, neg}
 use Rattle.float.specs.Ops.{lit, one}
@@ -16,11 +15,6 @@ use Rattle.smoothing.specs.Lists.{pointAt}
 -- `min_radians`: `radians(min_sharp_angle.max(1e-4))`
 unfoldable pub minRadians : Float → Float
 minRadians angle = radiansOf (maxOf angle (lit 0x3f1a_36e2_eb1c_432d))
-
--- both triangles at halfedge e have a normal: `normals-in` of `proofs/Room.antt` gives it on an accepted mesh
-pub record NormalsIn (H : List ℤ) (A : List Float) (e : ℕ) : Type 0 where
-  pub here-in : e / 3 * 3 + 3 ≤ length A
-  pub there-in : pairedHalfedge H e / 3 * 3 + 3 ≤ length A
 
 -- `dihedral`: the angle between the normals of the two triangles at halfedge e
 unfoldable pub dihedralOf : List ℤ → List Float → ℕ → Float

@@ -13,7 +13,8 @@ use Rattle.mesh.specs.Check.{checkMesh, whenAccepted}
 use Rattle.mesh.specs.Sound.{Sound}
 use Rattle.mesh.specs.declared.Checked.{Checked}
 use Rattle.mesh.specs.declared.Checked.the-variants.{Accepted, Refused}
-use Rattle.sharpen.specs.Crease.{minRadians, isCrease, NormalsIn}
+use Rattle.smoothing.specs.Edges.{NormalsIn}
+use Rattle.sharpen.specs.Crease.{minRadians, isCrease}
 use Rattle.sharpen.specs.Entries.{Entries, entriesIn, listEdges, countBelow}
 use Rattle.sharpen.specs.declared.Listing.{Listing}
 use Rattle.sharpen.specs.declared.Listing.the-variants.{Listed, Refused as RefusedListing}
@@ -53,7 +54,7 @@ checkLists H A E S n p = checkMesh H n p (lengthsFit H A E S n)
 -- what they establish
 pub record Lists (H : List ℤ) (A : List Float) (E : List ℕ) (S : List Float) (n p : ℕ) : Type 0 where
   pub sound : Sound H n p
-  pub mesh : length H ≡ n * halfedgeStride
+  pub whole : length H ≡ n * halfedgeStride
   pub normals : length A ≡ n / 3 * 3
   pub halfedges : length E ≡ n
   pub smoothness : length S ≡ n

@@ -3,7 +3,9 @@
 ghost use mathlib.Core.Path.{_≡_};
 ghost use Prim.Native.Nat.{_+_, _≤_};
 ghost use lib.ListN.{length};
-ghost use Rattle.sharpen.specs.Crease.{minRadians, dihedralOf, isCrease, NormalsIn};
+ghost use Rattle.mesh.specs.Inside.{Inside};
+ghost use Rattle.smoothing.specs.Edges.{NormalsIn};
+ghost use Rattle.sharpen.specs.Crease.{minRadians, dihedralOf, isCrease};
 ghost use Rattle.sharpen.specs.Entries.{entriesIn, pushEdge, listEdge, listEdges};
 ghost use Rattle.sharpen.specs.Sharpen.{lengthsFit, checkLists, Lists, EdgeFits, Values, numberOf, placeOf, entriesOf, tallyOf, creases, creaseTally, sharpenEdges, entriesAfter};
 use mesh::Checked;
@@ -103,7 +105,7 @@ fn push_edge(
     halfedges: &mut [usize],
     smoothness: &mut [f64],
 ) -> usize
-    requires { ⌜ (entries + 2 ≤ length (now halfedges)) × (entries + 2 ≤ length (now smoothness)) ⌝ }
+    requires { ⌜ Inside (now h) e × (entries + 2 ≤ length (now halfedges)) × (entries + 2 ≤ length (now smoothness)) ⌝ }
     ensures { λ r. ⌜ entriesIn (now (halfedges .exit)) (now (smoothness .exit)) r ≡ pushEdge (now (h .entry)) smooth (entriesIn (now (halfedges .entry)) (now (smoothness .entry)) entries) e ⌝ }
 {
     let pair = mesh::paired_halfedge(h, e);

@@ -1,2 +1,3 @@
 -- The specs of `validate`.
 pub mod Validate
+pub mod Marks

@@ -1,5 +1,5 @@
 -- `valid_tangents` of src/smoothing_tangents.rs (document 01's mark check). H are the halfedges, P the positions, T the tangents, n and p the counts of halfedges and points.
-use Prim.Native.Nat.{ℕ, _+_, _*_, _^_, _<_, _≤_}
+use Prim.Native.Nat.{ℕ}
 use mathlib.Core.Path.{_≡_}
 use mathlib.Core.List.{List}
 use mathlib.Core.Bool.{Bool, true, false, cond, not, _&&_, _||_, Bool·beq}
@@ -11,11 +11,9 @@ use Rattle.mesh.specs.Questions.{hasLength}
 use Rattle.mesh.specs.Check as mesh
 use Rattle.mesh.specs.Check.{checkMesh, whenAccepted}
 use Rattle.mesh.specs.Fold.{foldTo}
-use Rattle.mesh.specs.Sound.{Sound}
 use Rattle.mesh.specs.declared.Checked.{Checked}
 use Rattle.mesh.specs.declared.Checked.the-variants.{Accepted, Refused as CheckRefused}
 use Rattle.smoothing.specs.Lists.{isMarkedInsideQuad}
-use Rattle.smoothing.specs.Edges.{QuadIn}
 use Rattle.validate.specs.declared.Validity.{Validity}
 use Rattle.validate.specs.declared.Validity.the-variants.{Valid, Refused}
 
@@ -75,22 +73,3 @@ pub record Values (checked : Checked) (valid : Bool) (r : Validity) : Type 0 whe
   pub number : numberOf r ≡ mesh.numberOf checked
   pub place : placeOf r ≡ mesh.placeOf checked
   pub value : valueOf r ≡ whenAccepted checked (cond valid 1 0) 0
-
--- ---- what the inner functions ask of their lists
-
--- in e's triangle: the next number is no overflow, and the other two halfedges have a tangent
-pub record NeighborsIn (T : List Float) (e : ℕ) : Type 0 where
-  pub few : e + 1 < 2 ^ 64
-  pub next-in : nextHalfedge e * 4 + 4 ≤ length T
-  pub prev-in : prevHalfedge e * 4 + 4 ≤ length T
-
--- the same of halfedge e and of its pair, which have tangents themselves
-pub record MarksIn (H : List ℤ) (T : List Float) (e : ℕ) : Type 0 where
-  pub quad : QuadIn H T e
-  pub here : NeighborsIn T e
-  pub there : NeighborsIn T (pairedHalfedge H e)
-
--- the lists of an accepted call that have tangents
-pub record Lists (H : List ℤ) (T : List Float) (n p : ℕ) : Type 0 where
-  pub sound : Sound H n p
-  pub tangents : length T ≡ n * 4

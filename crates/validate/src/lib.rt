@@ -2,10 +2,14 @@
 // has no marked halfedge a marked neighbour?
 ghost use mathlib.Core.Path.{_≡_};
 ghost use mathlib.Core.Bool.{true};
+ghost use Prim.Native.Nat.{_*_};
+ghost use lib.ListN.{length};
+ghost use Rattle.mesh.specs.Mesh.{halfedgeStride};
 ghost use Rattle.mesh.specs.Check.{checkMesh};
 ghost use Rattle.mesh.specs.Fold.{foldTo};
 ghost use Rattle.mesh.specs.Sound.{Sound};
-ghost use Rattle.validate.specs.Validate.{noMarkedNeighbor, validAt, validSoFar, validTangents, lengthsFit, validAnswer, numberOf, placeOf, valueOf, Values, NeighborsIn, MarksIn, Lists};
+ghost use Rattle.validate.specs.Validate.{validSoFar, validTangents, lengthsFit, validAnswer, numberOf, placeOf, valueOf, Values};
+ghost use Rattle.validate.specs.Marks.{markValid, triangleValid, MarkIn, TriangleIn, Lists};
 use mesh::Checked;
 
 // The answer of the call.
@@ -44,51 +48,60 @@ pub fn value_of(validity: Validity) -> usize
     }
 }
 
-// Is neither of the other two halfedges of e's triangle marked?
-fn no_marked_neighbor(t: &[f64], e: usize) -> bool
-    requires { ⌜ NeighborsIn (now t) e ⌝ }
-    ensures { λ r. ⌜ r ≡ noMarkedNeighbor (now (t .entry)) e ⌝ }
+// Does the marked halfedge e pass? Neither of its neighbours is marked, and its pair is.
+fn mark_valid(h: &[i32], t: &[f64], e: usize, next: bool, prev: bool) -> bool
+    requires { ⌜ MarkIn (now h) (now t) e ⌝ }
+    ensures { λ r. ⌜ r ≡ markValid (now (h .entry)) (now (t .entry)) e next prev ⌝ }
 {
-    let next = mesh::next_halfedge(e);
-    let prev = mesh::prev_halfedge(e);
-    if smoothing::is_marked_inside_quad(t, next) {
+    if next {
         return false;
     }
-    !smoothing::is_marked_inside_quad(t, prev)
+    if prev {
+        return false;
+    }
+    let pair = mesh::paired_halfedge(h, e);
+    smoothing::is_marked_inside_quad(t, pair)
 }
 
-// The body of the loop at halfedge e.
-fn valid_at(h: &[i32], t: &[f64], e: usize) -> bool
-    requires { ⌜ MarksIn (now h) (now t) e ⌝ }
-    ensures { λ r. ⌜ r ≡ validAt (now (h .entry)) (now (t .entry)) e ⌝ }
+// The body of the loop at the triangle of e, e + 1 and e + 2. One that is not marked needs no look at its pair: were the
+// pair marked, it would fail in its own turn.
+fn triangle_valid(h: &[i32], t: &[f64], e: usize) -> bool
+    requires { ⌜ TriangleIn (now h) (now t) e ⌝ }
+    ensures { λ r. ⌜ r ≡ triangleValid (now (h .entry)) (now (t .entry)) e ⌝ }
 {
-    let in_quad = smoothing::is_marked_inside_quad(t, e);
-    let pair = mesh::paired_halfedge(h, e);
-    if in_quad != smoothing::is_marked_inside_quad(t, pair) {
-        return false;
+    let first = smoothing::is_marked_inside_quad(t, e);
+    let second = smoothing::is_marked_inside_quad(t, e + 1);
+    let third = smoothing::is_marked_inside_quad(t, e + 2);
+    if first {
+        return mark_valid(h, t, e, second, third);
     }
-    if in_quad {
-        return mesh::both(no_marked_neighbor(t, e), no_marked_neighbor(t, pair));
+    if second {
+        return mark_valid(h, t, e + 1, third, first);
+    }
+    if third {
+        return mark_valid(h, t, e + 2, first, second);
     }
     true
 }
 
-// Every halfedge of lists that are known to be right.
+// Every triangle of lists that are known to be right.
 fn all_valid(n: usize, p: usize, h: &[i32], t: &[f64]) -> bool
     requires { ⌜ Lists (now h) (now t) n p ⌝ }
     ensures { λ r. ⌜ r ≡ foldTo (validSoFar (now (h .entry)) (now (t .entry))) true n ⌝ }
 {
-    for e in 0..n {
-        if !valid_at(h, t, e) {
+    let mut e = 0;
+    while e < n {
+        if !triangle_valid(h, t, e) {
             return false;
         }
+        e += 3;
     }
     true
 }
 
 // The marks of an accepted mesh. Tangents of another length answer yes.
 fn marks_valid(n: usize, p: usize, h: &[i32], t: &[f64]) -> bool
-    requires { ⌜ Sound (now h) n p ⌝ }
+    requires { ⌜ Sound (now h) n p × (length (now h) ≡ n * halfedgeStride) ⌝ }
     ensures { λ r. ⌜ r ≡ validTangents (now (h .entry)) (now (t .entry)) n ⌝ }
 {
     if !mesh::has_length(t.len(), n, 4) {

@@ -24,7 +24,7 @@ linearize-at-requires c κs =
     let l = c .before .before in
     let s = l .before .before .before in
     record {
-      edge = edge-in _ _ _ _ (s .pre .sound) (s .pre .positions) (l .loop .e) (c .before .loop-test .taken);
+      edge = edge-in _ _ _ _ (s .pre .sound) (s .pre .whole) (s .pre .positions) (l .loop .e) (c .before .loop-test .taken);
       tangents = quad-in _ _ _ _ (s .pre .sound) (l .loop .inv .1 ∙ s .pre .tangents) (l .loop .e) (c .before .loop-test .taken);
     }
 

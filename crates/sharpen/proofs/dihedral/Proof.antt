@@ -15,4 +15,4 @@ unfolding dihedralOf
 returns c = simp (← c .before .before .before .before .before .paired-halfedge .ensures, ← c .before .before .before .before .point-at .ensures, ← c .before .before .before .point-at2 .ensures, ← c .before .before .dot .ensures, ← c .before .clamp .ensures, ← c .acos .ensures)
 
 pub dihedral-spec : {M : Type 1} → statement M
-dihedral-spec = tie.close (tie.spec (λ c κs. tt) point-at-requires point-at-requires-2 (λ c κs. tt) (λ c κs. tt) (λ c κs. tt) returns)
+dihedral-spec = tie.close (tie.spec (λ c κs. c .before .pre .inside) point-at-requires point-at-requires-2 (λ c κs. tt) (λ c κs. tt) (λ c κs. tt) returns)

@@ -18,4 +18,4 @@ unfolding isCrease
 returns-2 c = rw (sym (c .before .before .is-forward .ensures) ∙ not-false _ (c .before .if1 .left)) (simp (← c .dihedral .ensures))
 
 pub is-crease-spec : {M : Type 1} → statement M
-is-crease-spec = tie.close (tie.spec (λ c κs. tt) returns dihedral-requires returns-2)
+is-crease-spec = tie.close (tie.spec (λ c κs. c .before .pre .inside) returns dihedral-requires returns-2)

@@ -18,7 +18,7 @@ push-edge-requires c κs =
     let b = c .before .before in
     let fits = b .before .before .before .before .before .pre in
     let crease = sym (b .before .is-crease .ensures) ∙ not-false _ (b .if1 .left) in
-    (fits .halfedges crease, fits .smoothness crease)
+    (fits .normals .inside, fits .halfedges crease, fits .smoothness crease)
 
 same-length : tie.Need-same-length
 same-length c = search needs

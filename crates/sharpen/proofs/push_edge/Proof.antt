@@ -58,7 +58,7 @@ pub push-edge-spec : {M : Type 1} → statement M
 push-edge-spec =
     tie.close
     (tie.spec
-    (λ c κs. tt)
+    (λ c κs. c .before .before .pre .0)
     mul-halfedges
     slice-write-halfedges
     mul-smoothness

@@ -11,7 +11,8 @@ returns c = simp (← c .before .has-length .ensures, not-true (c .before .has-l
 
 all-valid-requires : tie.Need-all-valid-requires
 all-valid-requires c κs = record {
-  sound = c .before .before .before .pre;
+  sound = c .before .before .before .pre .0;
+  whole = c .before .before .before .pre .1;
   tangents = eqb-true _ _ (sym (c .before .has-length .ensures) ∙ not-false (c .before .has-length .result) (c .if1 .left));
 }
 

@@ -1,9 +1,14 @@
 -- `validate::valid_tangents` meets its contract. Assumes nothing.
 use mathlib.Core.Path.{_≡_, sym, _∙_}
 use mathlib.Core.Bool.{Bool}
+use borrow.Author.Tests.{eqb-true}
+use lib.ListN.{length}
 use denote.Ref.{now}
+use Rattle.mesh.specs.Mesh.{halfedgeStride}
+use Rattle.mesh.specs.Questions.{hasLength}
 use Rattle.mesh.specs.Check.{checkMesh}
 use Rattle.mesh.specs.declared.Checked.{Checked}
+use Rattle.mesh.proofs.Tests.{and-true}
 use Rattle.mesh.proofs.Accepted.{accepted}
 use Rattle.validate.specs.Validate.{validTangents, lengthsFit}
 use Rattle.validate.proofs.Laws.{with-values}
@@ -28,7 +33,9 @@ returns c =
 marks-valid-requires : tie.Need-marks-valid-requires
 marks-valid-requires c κs =
     let k = c .before .before in
-    accepted _ _ _ _ (sym (answer k) ∙ c .enum-told .given .1) .1
+    let a = k .before .before .before .before .args in
+    let q = accepted _ _ _ _ (sym (answer k) ∙ c .enum-told .given .1) in
+    (q .1, eqb-true _ _ (and-true (hasLength (length (now (a .h))) (a .n) halfedgeStride) _ (q .0) .0))
 
 returns-2 : tie.Need-returns-2
 returns-2 c =
