@@ -1,8 +1,10 @@
 //! Times the unit and the unchanged Rust on the same mesh in the same run.
 //!
-//!     bench ORACLE HALFEDGES REPEATS [KIND..]
+//!     bench ORACLE MESH HALFEDGES REPEATS RUNS [KIND..]
 //!
-//! ORACLE is the timing build of the oracle (`./build.sh` in its folder prints the path of both builds). The mesh is a torus of at most so many halfedges.
+//! ORACLE is the timing build of the oracle (`./build.sh` in its folder prints the path of both builds). MESH is `torus`, or `mixed`: random small meshes
+//! joined, with points of uneven valence, quads, creases, missing and strange normals. Each has at most so many halfedges. A run takes the least of so many
+//! repeats, of the Rust and then of the unit; the table has the least of all runs, and of the runs' ratios the least, the median and the greatest.
 //! The unit asks its questions in every call; the Rust asks none.
 
 use std::process::Command;
@@ -10,8 +12,8 @@ use std::time::Instant;
 use tangents_host::case::{blocks, Block};
 use tangents_host::*;
 
-/// ns per halfedge of the unit, least and median.
-fn unit(c: &Block, repeats: usize) -> (f64, f64) {
+/// ns per halfedge of the unit, the least.
+fn unit(c: &Block, repeats: usize) -> f64 {
     let (n, p) = c.counts();
     let (h, pos, vn, fnm, flags) = (c.signed("he"), c.floats("pos"), c.floats("vn"), c.floats("fn"), c.bytes("fl"));
     let lent = c.floats("tan");
@@ -20,7 +22,7 @@ fn unit(c: &Block, repeats: usize) -> (f64, f64) {
     let (refs, entries, values) = (c.signed("ref"), c.numbers("sh"), c.floats("ss"));
     let own = c.floats("nrm");
     let (mut scratch, mut scratch2) = (CreateScratch::new(n, p, 0), NormalsScratch::new(n, p, 0));
-    let mut ns: Vec<f64> = Vec::new();
+    let mut least = f64::MAX;
     for _ in 0..repeats {
         let mut t = lent.clone();
         t.resize(4 * n, 0.0);
@@ -38,11 +40,10 @@ fn unit(c: &Block, repeats: usize) -> (f64, f64) {
             }
             op => panic!("no timing of {op}"),
         }
-        ns.push(start.elapsed().as_nanos() as f64 / n as f64);
+        least = least.min(start.elapsed().as_nanos() as f64 / n as f64);
         std::hint::black_box(&t);
     }
-    ns.sort_by(f64::total_cmp);
-    (ns[0], ns[ns.len() / 2])
+    least
 }
 
 fn run(path: &str, words: &[&str]) -> String {
@@ -51,28 +52,36 @@ fn run(path: &str, words: &[&str]) -> String {
     String::from_utf8(out.stdout).expect("text")
 }
 
-/// The numbers after `least` and `median` in the oracle's line.
-fn rust(line: &str) -> (f64, f64) {
-    let words: Vec<&str> = line.split(|c: char| c == ' ' || c == ',').collect();
-    let after = |name: &str| words[words.iter().position(|w| *w == name).expect("a timing") + 1].parse::<f64>().expect("a number");
-    (after("least"), after("median"))
+/// The number after `least` in the oracle's line.
+fn rust(line: &str) -> f64 {
+    let mut words = line.split([' ', ',']).skip_while(|w| *w != "least");
+    words.nth(1).and_then(|w| w.parse().ok()).expect("a timing")
 }
 
 fn main() {
     let args: Vec<String> = std::env::args().skip(1).collect();
-    assert!(args.len() >= 3, "bench ORACLE HALFEDGES REPEATS [KIND..]");
+    assert!(args.len() >= 5, "bench ORACLE MESH HALFEDGES REPEATS RUNS [KIND..]");
+    let job = match args[1].as_str() {
+        "torus" => "big",
+        "mixed" => "mixed",
+        mesh => panic!("no mesh {mesh}"),
+    };
+    let (repeats, runs): (usize, usize) = (args[3].parse().expect("repeats"), args[4].parse().expect("runs"));
     let all = ["straighten", "check", "crease", "spread", "sharp", "normals"].map(String::from);
-    let kinds = if args.len() > 3 { &args[3..] } else { &all[..] };
+    let kinds = if args.len() > 5 { &args[5..] } else { &all[..] };
     let file = std::env::temp_dir().join(format!("tangents-bench-{}.txt", std::process::id()));
-    println!("| call | halfedges | unit least | unit median | Rust least | Rust median | ratio of least |");
-    println!("|---|---|---|---|---|---|---|");
+    println!("| call | halfedges | unit | Rust | ratio | least to greatest |");
+    println!("|---|---|---|---|---|---|");
     for kind in kinds {
-        let text = run(&args[0], &["big", kind, &args[1], "1"]);
+        let text = run(&args[0], &[job, kind, &args[2], "1"]);
         std::fs::write(&file, &text).expect("a temporary file");
         let case = &blocks(&text)[0];
-        let r = rust(&run(&args[0], &["bench", file.to_str().unwrap(), &args[2]]));
-        let u = unit(case, args[2].parse().expect("repeats"));
-        println!("| {kind} | {} | {:.2} | {:.2} | {:.2} | {:.2} | {:.2} |", case.counts().0, u.0, u.1, r.0, r.1, u.0 / r.0);
+        let times: Vec<(f64, f64)> =
+            (0..runs).map(|_| (rust(&run(&args[0], &["bench", file.to_str().unwrap(), &args[3]])), unit(case, repeats))).collect();
+        let mut ratios: Vec<f64> = times.iter().map(|(r, u)| u / r).collect();
+        ratios.sort_by(f64::total_cmp);
+        let (r, u) = times.iter().fold((f64::MAX, f64::MAX), |(r, u), t| (r.min(t.0), u.min(t.1)));
+        println!("| {kind} | {} | {u:.2} | {r:.2} | {:.2} | {:.2} to {:.2} |", case.counts().0, ratios[runs / 2], ratios[0], ratios[runs - 1]);
     }
     let _ = std::fs::remove_file(&file);
 }
