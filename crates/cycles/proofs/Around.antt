@@ -21,7 +21,7 @@ use Rattle.cycles.proofs.Orbits.{undo-reaches, cycle-back, cycle-some, 
 use Rattle.cycles.proofs.Count.{at-most-one}
 
 module _ {H : List ℤ} {n p : ℕ} (S : Sound H n p) where
-  -- what `next_around` and `prev_around` require
+  -- what `prev_around` requires of the number
   pub prev-fits : (e : ℕ) → e < n → e + 1 < 2 ^ 64
   prev-fits e h = omega (arith, S .few-halfedges)
 
