@@ -2,7 +2,7 @@
 use Prim.Native.Nat.{ℕ, zero, suc, _+_, _*_, _%_, _/_, _≤_, _<_}
 use native.Mathlib.Omega.{arith}
 use mathlib.Core.Path.{_≡_, refl, sym, subst, _∙_}
-use mathlib.Core.Bool.{true}
+use mathlib.Core.Bool.{true, _&&_}
 use mathlib.Core.List.{List}
 use mathlib.Core.Logic.{_⊎_, inl, inr, ⊎-elim}
 use borrow.Author.Tests.{ltb-true, leb-true, eqb-true, eqb-false, not-true}
@@ -10,7 +10,7 @@ use lib.Dec.{ltb, eqb}
 use lib.IntN.{ℤ}
 use Rattle.mesh.specs.Mesh.{maxHalfedges, maxPoints, startVert, endVert, pairedHalfedge, nextHalfedge}
 use Rattle.mesh.specs.Lowest.{lowest}
-use Rattle.mesh.specs.All.{pairHolds, triangleHolds, trianglesHold}
+use Rattle.mesh.specs.All.{halfedgeHolds, triangleHolds, trianglesHold}
 use Rattle.mesh.specs.Sound.{Sound}
 use Rattle.mesh.proofs.Tests.{and-true}
 use Rattle.mesh.proofs.Halfedges.{next-cases}
@@ -28,13 +28,14 @@ module _ (H : List ℤ) (n p : ℕ) where
     next-start : startVert H (nextHalfedge e) ≡ endVert H e
 
   -- from the tests at e, where f is the next one
-  holding : (e f : ℕ) → nextHalfedge e ≡ f → ltb (startVert H e) p ≡ true → ltb (startVert H f) p ≡ true → eqb (endVert H e) (startVert H f) ≡ true → pairHolds H n e (startVert H e) (startVert H f) (pairedHalfedge H e) ≡ true → Holds e
-  unfolding pairHolds
-  holding e f next start other joined pair =
-      let end : endVert H e ≡ startVert H f = eqb-true _ _ joined in
-      let q = and-true (ltb (pairedHalfedge H e) n) _ pair in
+  holding : (e f : ℕ) → nextHalfedge e ≡ f → ltb (startVert H e) p ≡ true → ltb (startVert H f) p ≡ true → halfedgeHolds H n e (startVert H e) (startVert H f) ≡ true → Holds e
+  unfolding halfedgeHolds
+  holding e f next start other all =
+      let o = and-true (eqb (endVert H e) (startVert H f)) _ all in
+      let q = and-true (ltb (pairedHalfedge H e) n) _ (o .1) in
       let r = and-true (eqb (pairedHalfedge H (pairedHalfedge H e)) e) _ (q .1) in
       let s = and-true (eqb (startVert H (pairedHalfedge H e)) (startVert H f)) _ (r .1) in
+      let end : endVert H e ≡ startVert H f = eqb-true _ _ (o .0) in
       record {
         start-below = ltb-true _ _ start;
         end-below = rw end (ltb-true _ _ other);
@@ -49,20 +50,17 @@ module _ (H : List ℤ) (n p : ℕ) where
   held : (e : ℕ) → e % 3 ≡ 0 → triangleHolds H n p e ≡ true → Holds e × Holds (e + 1) × Holds (e + 2)
   unfolding triangleHolds
   held e m t =
-      let q₁ = and-true (ltb (startVert H e) p) _ t in
-      let q₂ = and-true (ltb (startVert H (e + 1)) p) _ (q₁ .1) in
-      let q₃ = and-true (ltb (startVert H (e + 2)) p) _ (q₂ .1) in
-      let q₄ = and-true (eqb (endVert H e) (startVert H (e + 1))) _ (q₃ .1) in
-      let q₅ = and-true (eqb (endVert H (e + 1)) (startVert H (e + 2))) _ (q₄ .1) in
-      let q₆ = and-true (eqb (endVert H (e + 2)) (startVert H e)) _ (q₅ .1) in
-      let q₇ = and-true (pairHolds H n e (startVert H e) (startVert H (e + 1)) (pairedHalfedge H e)) _ (q₆ .1) in
-      let q₈ = and-true (pairHolds H n (e + 1) (startVert H (e + 1)) (startVert H (e + 2)) (pairedHalfedge H (e + 1))) _ (q₇ .1) in
+      let q = and-true (ltb (startVert H e) p && (ltb (startVert H (e + 1)) p && ltb (startVert H (e + 2)) p)) _ t in
+      let a = and-true (ltb (startVert H e) p) _ (q .0) in
+      let b = and-true (ltb (startVert H (e + 1)) p) (ltb (startVert H (e + 2)) p) (a .1) in
+      let f = and-true (halfedgeHolds H n e (startVert H e) (startVert H (e + 1))) _ (q .1) in
+      let g = and-true (halfedgeHolds H n (e + 1) (startVert H (e + 1)) (startVert H (e + 2))) _ (f .1) in
       let to₁ : nextHalfedge e ≡ e + 1 = ⊎-elim (λ w. omega arith) (λ w. omega arith) (next-cases e) in
       let to₂ : nextHalfedge (e + 1) ≡ e + 2 = ⊎-elim (λ w. omega arith) (λ w. omega arith) (next-cases (e + 1)) in
       let to₀ : nextHalfedge (e + 2) ≡ e = ⊎-elim (λ w. omega arith) (λ w. omega arith) (next-cases (e + 2)) in (
-        holding e (e + 1) to₁ (q₁ .0) (q₂ .0) (q₄ .0) (q₇ .0),
-        holding (e + 1) (e + 2) to₂ (q₂ .0) (q₃ .0) (q₅ .0) (q₈ .0),
-        holding (e + 2) e to₀ (q₃ .0) (q₁ .0) (q₆ .0) (q₈ .1),
+        holding e (e + 1) to₁ (a .0) (b .0) (f .0),
+        holding (e + 1) (e + 2) to₂ (b .0) (b .1) (g .0),
+        holding (e + 2) e to₀ (b .1) (a .0) (g .1),
       )
 
   -- which of the three a halfedge is

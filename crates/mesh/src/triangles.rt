@@ -4,11 +4,12 @@ use super::HALFEDGE_STRIDE;
 use super::both;
 ghost use mathlib.Core.Path.{_≡_};
 ghost use Prim.Native.Nat.{_+_, _*_, _<_, _≤_, _^_};
+ghost use mathlib.Core.Bool.{_&&_};
 ghost use lib.Dec.{ltb};
 ghost use lib.ListN.{length};
-ghost use Rattle.mesh.specs.Mesh.{maxHalfedges, maxPoints, halfedgeStride, indexOf};
+ghost use Rattle.mesh.specs.Mesh.{maxHalfedges, maxPoints, halfedgeStride, numberAt, indexOf};
 ghost use Rattle.mesh.specs.Inside.{noIndex};
-ghost use Rattle.mesh.specs.All.{pairHolds, triangleHolds};
+ghost use Rattle.mesh.specs.All.{halfedgeHolds, triangleHolds};
 
 // Is x the number of one of so many? The remainder, which is the count itself, shows the compiler that the limit is not
 // negative, so that it makes the two comparisons one.
@@ -27,20 +28,40 @@ pub fn index_of(x: i32) -> usize
     x as usize
 }
 
-// Does the pair c of a halfedge e from a to b name it back and start at b, and do a and b differ? That it ends at a is asked of it in
-// its own turn: there e is the pair, and starts where c ends.
-fn pair_holds(h: &[i32], n: usize, e: usize, a: i32, b: i32, c: i32) -> bool
-    requires { ⌜ (length (now h) ≡ n * halfedgeStride) × (n ≤ maxHalfedges) × (e < n) × (indexOf a < noIndex) × (indexOf b < noIndex) ⌝ }
-    ensures { λ r. ⌜ r ≡ pairHolds (now (h .entry)) n e (indexOf a) (indexOf b) (indexOf c) ⌝ }
+// Number k of halfedge e, within the list.
+fn number_in(h: &[i32], e: usize, k: usize) -> i32
+    requires { ⌜ e * halfedgeStride + k < length (now h) ⌝ }
+    ensures { λ r. ⌜ r ≡ numberAt (now (h .entry)) e halfedgeStride k ⌝ }
 {
+    h[e * HALFEDGE_STRIDE + k]
+}
+
+// Are all three the numbers of points?
+fn are_points(a: i32, b: i32, c: i32, p: usize) -> bool
+    requires { ⌜ p < 2 ^ 31 ⌝ }
+    ensures { λ r. ⌜ r ≡ ltb (indexOf a) p && (ltb (indexOf b) p && ltb (indexOf c) p) ⌝ }
+{
+    both(is_below(a, p), both(is_below(b, p), is_below(c, p)))
+}
+
+// The questions 4 to 7 at a halfedge e that starts at a, where the next one starts at b. That the pair ends at a is asked of it in
+// its own turn: there e is the pair, and starts where it ends.
+fn halfedge_holds(h: &[i32], n: usize, e: usize, a: i32, b: i32) -> bool
+    requires { ⌜ (length (now h) ≡ n * halfedgeStride) × (n ≤ maxHalfedges) × (e < n) × (indexOf b < noIndex) ⌝ }
+    ensures { λ r. ⌜ r ≡ halfedgeHolds (now (h .entry)) n e (indexOf a) (indexOf b) ⌝ }
+{
+    if number_in(h, e, 1) != b {
+        return false;
+    }
+    let c = number_in(h, e, 2);
     if !is_below(c, n) {
         return false;
     }
-    let at = index_of(c) * HALFEDGE_STRIDE;
-    if h[at + 2] != e as i32 {
+    let pair = index_of(c);
+    if number_in(h, pair, 2) != e as i32 {
         return false;
     }
-    if h[at] != b {
+    if number_in(h, pair, 0) != b {
         return false;
     }
     a != b
@@ -51,35 +72,17 @@ pub fn triangle_holds(h: &[i32], n: usize, p: usize, e: usize) -> bool
     requires { ⌜ (length (now h) ≡ n * halfedgeStride) × (n ≤ maxHalfedges) × (p ≤ maxPoints) × (e + 2 < n) ⌝ }
     ensures { λ r. ⌜ r ≡ triangleHolds (now (h .entry)) n p e ⌝ }
 {
-    let first = e * HALFEDGE_STRIDE;
-    let second = first + HALFEDGE_STRIDE;
-    let third = second + HALFEDGE_STRIDE;
-    let a = h[first];
-    let b = h[second];
-    let c = h[third];
-    if !is_below(a, p) {
+    let a = number_in(h, e, 0);
+    let b = number_in(h, e + 1, 0);
+    let c = number_in(h, e + 2, 0);
+    if !are_points(a, b, c, p) {
         return false;
     }
-    if !is_below(b, p) {
+    if !halfedge_holds(h, n, e, a, b) {
         return false;
     }
-    if !is_below(c, p) {
+    if !halfedge_holds(h, n, e + 1, b, c) {
         return false;
     }
-    if h[first + 1] != b {
-        return false;
-    }
-    if h[second + 1] != c {
-        return false;
-    }
-    if h[third + 1] != a {
-        return false;
-    }
-    if !pair_holds(h, n, e, a, b, h[first + 2]) {
-        return false;
-    }
-    if !pair_holds(h, n, e + 1, b, c, h[second + 2]) {
-        return false;
-    }
-    pair_holds(h, n, e + 2, c, a, h[third + 2])
+    halfedge_holds(h, n, e + 2, c, a)
 }
