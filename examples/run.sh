@@ -3,6 +3,6 @@
 set -e
 cd "$(dirname "$0")/.."
 mkdir -p target
-rt staticlib capi > target/staticlib.log 2>&1 || { cat target/staticlib.log; exit 1; }
-cc -Wall -Wextra -Iinclude examples/pillow.c target/staticlib/libcapi.a -o target/pillow
+rt staticlib tangents_c > target/staticlib.log 2>&1 || { cat target/staticlib.log; exit 1; }
+cc -Wall -Wextra -Iinclude examples/pillow.c target/staticlib/libtangents_c.a -o target/pillow
 exec target/pillow

@@ -9,7 +9,7 @@ use Rattle.math.specs.Acos.{acosOf, acosBeyond, acosSmall}
 use Rattle.linalg.specs.Vec.{add3, sub3, neg3, div3, dotOf, length2Of, lengthOf}
 use Rattle.mesh.specs.Mesh.{numberAt, indexOf, field, nextHalfedge, prevHalfedge}
 use Rattle.mesh.specs.Lowest.{lowestFrom, lowest}
-use Rattle.mesh.specs.Fold.{foldTo}
+use Rattle.common.specs.Fold.{foldTo}
 use Rattle.mesh.specs.Check.{checkMesh}
 use Rattle.smoothing.specs.Directions.{vec3FromVec4, isDegenerate, directionBy, safeNormalize, circularTangent}
 use Rattle.smoothing.specs.Lists.{pointAt, tangentAt, putTangent, weightAt}
@@ -19,7 +19,7 @@ use Rattle.validate.specs.Validate.{noMarkedNeighbor, validAt, validTangents}
 use Rattle.mesh.specs.Check.{checkFlags}
 use Rattle.linalg.specs.Vec.{crossOf}
 use Rattle.cycles.specs.Cycles.{nextAround}
-use Rattle.spread.specs.Spread.{firstWalk, fixedFrom, pass, secondWalk, spread, spreadFrom, spreadOn, walksFrom}
+use Rattle.distribute_spread.specs.Spread.{firstWalk, fixedFrom, pass, secondWalk, spread, spreadFrom, spreadOn, walksFrom}
 use Rattle.distribute_steps.specs.FloatSteps.{begin, gatherEdge, turnsNone, tangentDirection}
 use Rattle.distribute.specs.Distribute.{checkLists}
 use Rattle.cases.specs.Lines.{lines, computedOf, statedOf}

@@ -6,9 +6,9 @@ use lib.ListN.{length, replicate}
 use Rattle.little_endian.specs.Numbers.{littleEndian, i32Of, f64Item, i32Item, byteItem}
 use Rattle.little_endian.specs.Filled.{items}
 use Rattle.records.specs.Records.{recordFits, recordRefusal, bodyBytes, recordsLength, lastKind, operationRefusal, refusalFrom, recordsRefusal, inputRefusal, parseInput}
-use Rattle.lines.specs.Text.{ascii, decimalUpTo, decimal, hexDigit, hexUpTo, hex}
-use Rattle.lines.specs.Lines.{numberLine, numbersLine, bitsField, tangentLine, tangentLines, tangentsLines, linesOf}
-use Rattle.operations.specs.Operations.{straightenLines, spreadLines, checkLines, operationLines}
+use Rattle.program_lines.specs.Text.{ascii, decimalUpTo, decimal, hexDigit, hexUpTo, hex}
+use Rattle.program_lines.specs.Lines.{numberLine, numbersLine, bitsField, tangentLine, tangentLines, tangentsLines, linesOf}
+use Rattle.program_operations.specs.Operations.{straightenLines, spreadLines, checkLines, operationLines}
 use Rattle.program.specs.Program.{outputOf}
 use Rattle.cases.proofs.Hold.{floats, meshes, calls, spreads}
 

@@ -12,13 +12,13 @@ use Rattle.mesh.specs.Check.{checkMesh, checkRefs}
 use Rattle.mesh.specs.declared.Checked.the-variants.{Accepted}
 use Rattle.mesh.proofs.Tests.{and-true, has-length, has-one}
 use Rattle.mesh.proofs.Accepted.{accepted, refs-accepted, entries-accepted}
-use Rattle.entries.specs.EntrySmoothness.{EntriesIn, entrySmoothness}
-use Rattle.entries.specs.declared.Smoothness.{Smoothness}
-use Rattle.create_steps.proofs.Lent.{create-lists-in}
+use Rattle.create_smoothness.specs.EntrySmoothness.{EntriesIn, entrySmoothness}
+use Rattle.create_smoothness.specs.declared.Smoothness.{Smoothness}
+use Rattle.create_core.proofs.Lent.{create-lists-in}
 use Rattle.create_core.specs.Core.{createTangents}
 use Rattle.create_core.specs.Filled.{Lists, createFilled}
 use Rattle.create_core.proofs.Filled.{filled-same}
-use Rattle.makings.proofs.Lengths.{MeshListsFit, mesh-lists-fit}
+use Rattle.create_shared.proofs.Lengths.{MeshListsFit, mesh-lists-fit}
 use Rattle.create.specs.Create.{listsFit, scratchFits, checkCreate, checkLists}
 
 -- question 2 of the lists read and of the tangents

@@ -4,7 +4,7 @@ ghost use mathlib.Core.Path.{_≡_};
 ghost use lib.ListN.{length, replicate};
 ghost use Rattle.float.specs.Ops.{zero};
 ghost use Rattle.mesh.specs.Check.{whenAccepted, Values};
-ghost use Rattle.entries.specs.Entries.{entriesOf};
+ghost use Rattle.create_smoothness.specs.Entries.{entriesOf};
 ghost use Rattle.create.specs.Create.{listsFit, scratchFits, checkCreate, checkLists, tangentsAfter};
 use mesh::Checked;
 
@@ -23,9 +23,17 @@ pub fn lists_fit(
 ) -> bool
     ensures { λ r. ⌜ r ≡ listsFit halfedges positions normals «face_normals» refs entries values tangents n p ⌝ }
 {
-    let lists = makings::mesh_lists_fit(n, p, halfedges, positions, normals, face_normals, refs);
-    mesh::both(
-        mesh::both(lists, mesh::has_length(values, entries, 1)),
+    let lists = create_shared::mesh_lists_fit(
+        n,
+        p,
+        halfedges,
+        positions,
+        normals,
+        face_normals,
+        refs,
+    );
+    common::both(
+        common::both(lists, mesh::has_length(values, entries, 1)),
         mesh::has_length(tangents, n, 4),
     )
 }
@@ -43,13 +51,13 @@ pub fn scratch_fits(
 ) -> bool
     ensures { λ r. ⌜ r ≡ scratchFits fixed flat smooth desired at link n p ⌝ }
 {
-    let flags = mesh::both(mesh::has_length(fixed, n, 1), mesh::has_length(flat, n, 1));
-    let angles = mesh::both(
-        mesh::both(flags, mesh::has_length(smooth, n, 1)),
+    let flags = common::both(mesh::has_length(fixed, n, 1), mesh::has_length(flat, n, 1));
+    let angles = common::both(
+        common::both(flags, mesh::has_length(smooth, n, 1)),
         mesh::has_length(desired, n, 1),
     );
-    mesh::both(
-        mesh::both(angles, mesh::has_length(at, p, 1)),
+    common::both(
+        common::both(angles, mesh::has_length(at, p, 1)),
         mesh::has_length(link, n, 1),
     )
 }
@@ -141,12 +149,12 @@ pub fn create_tangents(
         t.len(),
     );
     let scratch = scratch_lists_fit(n, p, fixed, flat, smooth, desired, at, link);
-    let lengths = mesh::both(lists, scratch);
+    let lengths = common::both(lists, scratch);
     let checked = check_create(n, p, h, refs, entries, values, lengths);
     let Checked::Accepted = checked else {
         return checked;
     };
-    entries::entry_smoothness(entries, values, smooth);
+    create_smoothness::entry_smoothness(entries, values, smooth);
     create_core::make_tangents(
         n,
         p,

@@ -6,15 +6,15 @@ use mathlib.Core.Bool.{Bool}
 use lib.IntN.{ℤ}
 use lib.Ieee.{Float}
 use Rattle.mesh.specs.Sound.{Sound}
-use Rattle.faces.specs.Faces.{flatFaces, isFlat}
-use Rattle.entries.specs.declared.Smoothness.{Smoothness}
-use Rattle.entries.specs.EntrySmoothness.{EntriesIn, entrySmoothness}
-use Rattle.edges.specs.Edges.{Pair, sharpenedEdges, edgesOf}
-use Rattle.edges.specs.Smoothness.{smoothness}
-use Rattle.edges.proofs.Edges.{same-map}
-use Rattle.creases.specs.Creases.{vertTangents}
-use Rattle.creases.proofs.Verts.{vert-tangents}
-use Rattle.create_steps.specs.Lent.{pairsOf}
+use Rattle.create_shared.specs.Faces.{flatFaces, isFlat}
+use Rattle.create_smoothness.specs.declared.Smoothness.{Smoothness}
+use Rattle.create_smoothness.specs.EntrySmoothness.{EntriesIn, entrySmoothness}
+use Rattle.create_edges.specs.Edges.{Pair, sharpenedEdges, edgesOf}
+use Rattle.create_edges.specs.Smoothness.{smoothness}
+use Rattle.create_edges.proofs.Edges.{same-map}
+use Rattle.create_creases.specs.Creases.{vertTangents}
+use Rattle.create_creases.proofs.Verts.{vert-tangents}
+use Rattle.create_core.specs.Lent.{pairsOf}
 use Rattle.create_core.specs.Core.{createWith, createTangents}
 use Rattle.create_core.specs.Filled.{createFilled}
 

@@ -1,4 +1,6 @@
 -- The laws of `create_core`: those that the crates above cite are public.
+pub mod Lent
+mod Shape
+mod Pillow
 mod Core
-mod Lent
 pub mod Filled

@@ -5,18 +5,18 @@ use mathlib.Core.Bool.{Bool}
 use lib.IntN.{ℤ}
 use lib.Ieee.{Float}
 use Rattle.smoothing.specs.Edges.{isInsideQuad}
-use Rattle.faces.specs.Faces.{flatFaces, isFlat}
-use Rattle.entries.specs.declared.Smoothness.{Smoothness}
-use Rattle.edges.specs.Edges.{Pair, sharpenedEdges, edgesOf}
-use Rattle.creases.specs.Creases.{vertTangents}
-use Rattle.create_steps.specs.Shape.{shapedTangents}
+use Rattle.create_shared.specs.Faces.{flatFaces, isFlat}
+use Rattle.create_smoothness.specs.declared.Smoothness.{Smoothness}
+use Rattle.create_edges.specs.Edges.{Pair, sharpenedEdges, edgesOf}
+use Rattle.create_creases.specs.Creases.{vertTangents}
+use Rattle.create_core.specs.Shape.{shapedTangents}
 use Rattle.linearize.specs.Linearize.{linearizeFlatTangents}
 use Rattle.distribute.specs.Distribute.{spreadTangents}
 
 -- `vert` is `vert_tangents`. Straightening and spreading follow what the creases do. Spreading goes by the point normals as lent, without the flat faces' normals that stood in for some of them, and by the halfedges that were fixed.
 unfoldable pub createWith : List ℤ → List Float → List Float → List Float → List ℤ → (ℕ → List Pair) → List Float → Bool → ℕ → ℕ → List Float
 createWith H P N A R vert T old n p =
-    let m = shapedTangents H R P N A (isInsideQuad H R T old) vert n p in
+    let m = shapedTangents H P N A R (isInsideQuad H R T old) vert n p in
     spreadTangents H P N (m .fixed) (linearizeFlatTangents H P (m .tangents) n) n .tangents
 
 unfoldable pub createTangents : List ℤ → List Float → List Float → List Float → List ℤ → List Smoothness → List Float → Bool → ℕ → ℕ → List Float

@@ -9,13 +9,13 @@ use lib.Ieee.{Float}
 use Rattle.mesh.specs.Check.{checkMesh, checkRefs}
 use Rattle.mesh.specs.declared.Checked.{Checked}
 use Rattle.mesh.specs.declared.Checked.the-variants.{Accepted}
-use Rattle.entries.specs.Entries.{halfedgesOf, smoothnessOf}
-use Rattle.entries.specs.Questions.{passedOf, checkPassed}
-use Rattle.entries.specs.EntrySmoothness.{EntriesIn}
-use Rattle.entries.specs.declared.Smoothness.{Smoothness}
-use Rattle.entries.specs.declared.Passed.{Passed}
-use Rattle.entries.proofs.Flat.{entries-in}
-use Rattle.entries.proofs.Passing.{scanned}
+use Rattle.create_smoothness.specs.Entries.{halfedgesOf, smoothnessOf}
+use Rattle.create_smoothness.specs.Questions.{passedOf, checkPassed}
+use Rattle.create_smoothness.specs.EntrySmoothness.{EntriesIn}
+use Rattle.create_smoothness.specs.declared.Smoothness.{Smoothness}
+use Rattle.create_smoothness.specs.declared.Passed.{Passed}
+use Rattle.create_smoothness.proofs.Flat.{entries-in}
+use Rattle.create_smoothness.proofs.Passing.{scanned}
 use Rattle.create.specs.Create.{listsFit, scratchFits, checkCreate}
 use Rattle.create.proofs.Accepted.{AcceptedLists, accepted-lists}
 use Rattle.create_entries.specs.CreateEntries.{checkLists}

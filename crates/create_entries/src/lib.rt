@@ -5,11 +5,11 @@ ghost use mathlib.Core.Bool.{_&&_};
 ghost use lib.ListN.{length, replicate};
 ghost use Rattle.float.specs.Ops.{zero};
 ghost use Rattle.mesh.specs.Check.{checkMesh, checkRefs, whenAccepted, Values};
-ghost use Rattle.entries.specs.Questions.{checkPassed};
+ghost use Rattle.create_smoothness.specs.Questions.{checkPassed};
 ghost use Rattle.create.specs.Create.{listsFit, scratchFits, tangentsAfter};
 ghost use Rattle.create_entries.specs.CreateEntries.{checkLists};
-use entries::Passed;
-use entries::Smoothness;
+use create_smoothness::Passed;
+use create_smoothness::Smoothness;
 use mesh::Checked;
 
 // The questions 1 to 10, of which 9 and 10 were put to the `sharp` entries before. Of the lists that are written only the
@@ -47,8 +47,8 @@ fn check_lists(
         t,
     );
     let scratch = create::scratch_fits(n, p, fixed, flat, smooth, desired, at, link);
-    let checked = mesh::check_mesh(h, n, p, mesh::both(lists, scratch));
-    entries::check_passed(mesh::check_refs(checked, refs, n), passed, sharp)
+    let checked = mesh::check_mesh(h, n, p, common::both(lists, scratch));
+    create_smoothness::check_passed(mesh::check_refs(checked, refs, n), passed, sharp)
 }
 
 // Making from sharp edges, for lists of any length and content: `create::create_tangents` with the sharp entries as structs.
@@ -88,7 +88,7 @@ pub fn create_entries(
         normals,
         face_normals,
         refs,
-        entries::scan(sharp, n),
+        create_smoothness::scan(sharp, n),
         sharp.len(),
         t.len(),
         fixed.len(),
@@ -101,7 +101,7 @@ pub fn create_entries(
     let Checked::Accepted = checked else {
         return checked;
     };
-    entries::sharp_smoothness(sharp, smooth);
+    create_smoothness::sharp_smoothness(sharp, smooth);
     create_core::make_tangents(
         n,
         p,

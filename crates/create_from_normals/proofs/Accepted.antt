@@ -14,7 +14,7 @@ use Rattle.mesh.specs.declared.Checked.the-variants.{Accepted}
 use Rattle.mesh.proofs.Tests.{and-true, has-length, has-one}
 use Rattle.mesh.proofs.Accepted.{accepted, refs-accepted}
 use Rattle.normals_core.specs.Core.{Lists}
-use Rattle.makings.proofs.Lengths.{MeshListsFit, mesh-lists-fit}
+use Rattle.create_shared.proofs.Lengths.{MeshListsFit, mesh-lists-fit}
 use Rattle.create_from_normals.specs.FromNormals.{listsFit, scratchFits, checkNormals, checkLists}
 
 -- question 2 of the lists read and of the tangents

@@ -1,4 +1,4 @@
--- Making from normals as a public call: `create_tangents_from_normals` of src/smoothing_tangents.rs, with its questions. H are the halfedges, P the positions, N the point normals, A the face normals, R the face references, G the lent normals, T the tangents, `old` whether these are old tangents, X, Q, C, D and F the scratch lists `fixed`, `inside`, `current`, `desired` and `first`, n and p the counts of halfedges and points.
+-- Making from normals as a public call: `create_tangents_from_normals` of src/smoothing_tangents.rs, with its questions. H are the halfedges, P the positions, N the point normals, A the face normals, R the face references, G the lent normals, T the tangents, `old` whether these are old tangents, X, B, C, D and W the scratch lists `fixed`, `inside`, `current`, `desired` and `first`, n and p the counts of halfedges and points.
 use Prim.Native.Nat.{ℕ}
 use mathlib.Core.List.{List}
 use mathlib.Core.Bool.{Bool, _&&_}
@@ -8,7 +8,7 @@ use lib.Ieee.{Float}
 use Rattle.mesh.specs.Questions.{hasLength}
 use Rattle.mesh.specs.Check.{checkMesh, checkRefs, whenAccepted}
 use Rattle.mesh.specs.declared.Checked.{Checked}
-use Rattle.makings.specs.Lengths.{meshListsFit}
+use Rattle.create_shared.specs.Lengths.{meshListsFit}
 use Rattle.normals_core.specs.Core.{createTangentsFromNormals}
 
 -- ---- the questions
@@ -29,13 +29,13 @@ checkNormals H R n p lengths = checkRefs (checkMesh H n p lengths) R n
 
 -- the answer, for every input
 abbrev pub checkLists : List ℤ → List Float → List Float → List Float → List ℤ → List Float → List Float → List ℕ → List ℕ → List Float → List Float → List ℕ → ℕ → ℕ → Checked
-checkLists H P N A R G T X Q C D F n p =
+checkLists H P N A R G T X B C D W n p =
     let lists = listsFit (length H) (length P) (length N) (length A) (length R) (length G) (length T) n p in
-    let scratch = scratchFits (length X) (length Q) (length C) (length D) (length F) n p in
+    let scratch = scratchFits (length X) (length B) (length C) (length D) (length W) n p in
     checkNormals H R n p (lists && scratch)
 
 -- ---- the call
 
 -- the tangents after a call with this answer
 abbrev pub tangentsAfter : Checked → List ℤ → List Float → List Float → List Float → List ℤ → List Float → List Float → Bool → ℕ → ℕ → List Float
-tangentsAfter answer H P N A R G T old n p = whenAccepted answer (createTangentsFromNormals H R P N A G T old n p) T
+tangentsAfter answer H P N A R G T old n p = whenAccepted answer (createTangentsFromNormals H P N A R G T old n p) T

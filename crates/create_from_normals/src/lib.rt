@@ -21,9 +21,17 @@ fn lists_fit(
 ) -> bool
     ensures { λ r. ⌜ r ≡ listsFit halfedges positions normals «face_normals» refs «halfedge_normals» tangents n p ⌝ }
 {
-    let lists = makings::mesh_lists_fit(n, p, halfedges, positions, normals, face_normals, refs);
-    mesh::both(
-        mesh::both(lists, mesh::has_length(halfedge_normals, n, 3)),
+    let lists = create_shared::mesh_lists_fit(
+        n,
+        p,
+        halfedges,
+        positions,
+        normals,
+        face_normals,
+        refs,
+    );
+    common::both(
+        common::both(lists, mesh::has_length(halfedge_normals, n, 3)),
         mesh::has_length(tangents, n, 4),
     )
 }
@@ -40,15 +48,15 @@ fn scratch_fits(
 ) -> bool
     ensures { λ r. ⌜ r ≡ scratchFits (length (now (fixed .entry))) (length (now (inside .entry))) (length (now (current .entry))) (length (now (desired .entry))) (length (now (first .entry))) n p ⌝ }
 {
-    let flags = mesh::both(
+    let flags = common::both(
         mesh::has_length(fixed.len(), n, 1),
         mesh::has_length(inside.len(), n, 1),
     );
-    let angles = mesh::both(
-        mesh::both(flags, mesh::has_length(current.len(), n, 1)),
+    let angles = common::both(
+        common::both(flags, mesh::has_length(current.len(), n, 1)),
         mesh::has_length(desired.len(), n, 1),
     );
-    mesh::both(angles, mesh::has_length(first.len(), p, 1))
+    common::both(angles, mesh::has_length(first.len(), p, 1))
 }
 
 // The questions 1 to 8; `lengths` is the answer to question 2.
@@ -100,7 +108,7 @@ pub fn create_tangents_from_normals(
         t.len(),
     );
     let scratch = scratch_fits(n, p, fixed, inside, current, desired, first);
-    let lengths = mesh::both(lists, scratch);
+    let lengths = common::both(lists, scratch);
     let checked = check_normals(n, p, h, refs, lengths);
     let Checked::Accepted = checked else {
         return checked;

@@ -1,5 +1,5 @@
 -- Loops of code over a walk: what holds of the place that a walk has come to, one step at a time. `Walking` is the invariant, `stepsLeft` the measure.
---   loop { current = step(current); act(current); if stop(current) { break current; } }    `walking-..`; proofs/Loops.antt of `spread` has what its loops carry
+--   loop { current = step(current); act(current); if stop(current) { break current; } }    `walking-..`; proofs/Loops.antt of `distribute_spread` has what its loops carry
 --   loop { act(current); current = step(current); if current == start { break; } }         `around-..`; the state of a fold over `cycleFrom` is carried as
 --                                                                                          "what is left of the fold gives the whole"
 use mathlib.Core.Path.{_≡_, refl, sym, ap, _∙_, subst}

@@ -1,7 +1,6 @@
 // The two steps around a point of the mesh, by which `collect_vertex_cycle` and the walks of `distribute_tangents` go. The
 // walks are loops of the crates above, which prove them by proofs/Loops.antt.
 ghost use mathlib.Core.Path.{_≡_};
-ghost use mathlib.Core.Bool.{_||_};
 ghost use Prim.Native.Nat.{_+_, _<_, _^_};
 ghost use Rattle.mesh.specs.Mesh.{prevHalfedge};
 ghost use Rattle.mesh.specs.Inside.{Inside};
@@ -21,11 +20,4 @@ pub fn prev_around(h: &[i32], e: usize) -> usize
     ensures { λ r. ⌜ r ≡ prevAround (now (h .entry)) e ⌝ }
 {
     mesh::paired_halfedge(h, mesh::prev_halfedge(e))
-}
-
-// Either holds. A call, so that what it says stays one term in a proof.
-pub fn either(a: bool, b: bool) -> bool
-    ensures { λ r. ⌜ r ≡ a || b ⌝ }
-{
-    a || b
 }

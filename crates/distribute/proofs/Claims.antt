@@ -1,4 +1,4 @@
--- The guards never fire, and no angle is read past its list: what the laws of `spread` say of the float steps on an accepted mesh.
+-- The guards never fire, and no angle is read past its list: what the laws of `distribute_spread` say of the float steps on an accepted mesh.
 use Prim.Native.Nat.{ℕ, zero, suc, _+_, _≤_}
 use native.Mathlib.Omega.{arith}
 use mathlib.Core.Path.{_≡_, refl, sym, ap, _∙_}
@@ -7,17 +7,18 @@ use borrow.Author.Tests.{le-ltb}
 use lib.ListN.{length, getD, length-set, length-append}
 use lib.IntN.{ℤ}
 use lib.Ieee.{Float}
-use Rattle.mesh.specs.Fold.{foldTo}
+use Rattle.common.specs.Fold.{foldTo}
+use Rattle.common.proofs.Fold.{fold-first}
 use Rattle.cycles.specs.Walk.{cycleOf}
 use Rattle.cycles.proofs.Orbits.{cycle-back, cycle-within, cycle-some}
 use Rattle.cycles.proofs.Around.{next-permutes}
-use Rattle.spread.specs.Spread.{State, marked, turnAt}
-use Rattle.spread.specs.Order.{AngleCount, AnglesSuffice}
-use Rattle.spread.proofs.Sublists.{sublist-length}
-use Rattle.spread.proofs.Turns.{turnAll}
-use Rattle.spread.proofs.Places.{gatherPlaces, turnPlaces, turns-gathers}
-use Rattle.spread.proofs.Walks.{second-is}
-use Rattle.spread.proofs.Guards.{unguarded, angles-suffice, angles-gathered}
+use Rattle.distribute_spread.specs.Spread.{State, marked, turnAt}
+use Rattle.distribute_spread.specs.Order.{AngleCount, AnglesSuffice}
+use Rattle.distribute_spread.proofs.Sublists.{sublist-length}
+use Rattle.distribute_spread.proofs.Turns.{turnAll}
+use Rattle.distribute_spread.proofs.Places.{gatherPlaces, turnPlaces, turns-gathers}
+use Rattle.distribute_spread.proofs.Walks.{second-is}
+use Rattle.distribute_spread.proofs.Guards.{unguarded, angles-suffice, angles-gathered}
 use Rattle.distribute_steps.specs.FloatSteps.{Plan, begin, gatherEdge, plan, clampAngle, clampedAngle, next, floatSteps}
 use Rattle.distribute_walks.proofs.Lawful.{lawful, angleCount, angles-counted}
 use Rattle.distribute.specs.Claims.{WalksGo, GuardsNeverFire, planAt, planFrom, AnglesInLists, NextInList}
@@ -39,12 +40,6 @@ guards-never-fire H P N F T C D n p U start w =
     }
 
 -- ---- the plan, turn after turn
-
--- the first turn apart
-fold-first : {X : Type 0} (step : X → ℕ → X) (x : X) (k : ℕ) → foldTo step x (suc k) ≡ foldTo (λ y i. step y (suc i)) (step x 0) k
-unfolding foldTo
-fold-first step x zero = refl
-fold-first step x (suc k) = ap (λ y. step y (suc k)) (fold-first step x k)
 
 plan-index : (i : ℕ) (by : Plan) → planAt by i .index ≡ by .index + i
 unfolding planAt next

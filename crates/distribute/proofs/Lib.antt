@@ -1,7 +1,6 @@
 -- The laws of `distribute`, for the crates above.
 mod Pass
 mod Values
-pub mod Cleared
 pub mod Accepted
 pub mod Order
 pub mod Claims

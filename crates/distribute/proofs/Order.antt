@@ -4,7 +4,7 @@ use mathlib.Core.List.{List}
 use Prim.Native.Nat.{ℕ}
 use lib.IntN.{ℤ}
 use lib.Ieee.{Float}
-use Rattle.spread.proofs.Order.{order-free}
+use Rattle.distribute_spread.proofs.Order.{order-free}
 use Rattle.distribute.specs.Distribute.{distributeTangents, tangentsAfter, AnyOrder}
 use Rattle.distribute.specs.declared.Spreading.{Spreading}
 use Rattle.distribute_walks.proofs.Lawful.{lawful}

@@ -5,9 +5,9 @@ use mathlib.Core.List.{List, []}
 use Prim.Native.Nat.{ℕ, suc, _+_, _-_, _≤_, _<_}
 use native.Mathlib.Omega.{arith}
 use native.Mathlib.Numerals.{add-one}
-use Rattle.spread.specs.Steps.{Steps}
-use Rattle.spread.specs.Spread.{State, spreadFrom, pass}
-use Rattle.spread.proofs.Branches.{passOn, pass-all, pass-end, pass-start, pass-over}
+use Rattle.distribute_spread.specs.Steps.{Steps}
+use Rattle.distribute_spread.specs.Spread.{State, spreadFrom, pass}
+use Rattle.distribute_spread.proofs.Branches.{passOn, pass-all, pass-end, pass-start, pass-over}
 use Rattle.distribute_walks.specs.Walks.{stateOf, Gives, spreadAt}
 use Rattle.distribute_walks.specs.declared.Counts.{Counts}
 use Rattle.distribute.specs.Distribute.{Reports}

@@ -2,8 +2,8 @@
 use mathlib.Core.Path.{_≡_, refl}
 use Rattle.mesh.specs.declared.Checked.{Checked}
 use Rattle.mesh.specs.declared.Checked.the-variants.{Accepted, Refused}
-use Rattle.spread.specs.Steps.{Steps}
-use Rattle.spread.specs.Spread.{State}
+use Rattle.distribute_spread.specs.Steps.{Steps}
+use Rattle.distribute_spread.specs.Spread.{State}
 use Rattle.distribute.specs.Distribute.{answerOf, Values}
 use Rattle.distribute.specs.declared.Spreading.{Spreading}
 

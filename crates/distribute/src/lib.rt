@@ -1,5 +1,5 @@
 // `distribute_tangents` of src/smoothing_tangents.rs (document 01's spreading) as a public call, with its two counts. The
-// float steps are the crate `distribute_steps`, the walks `distribute_walks`, and the theorem of demand 3 is in `spread`.
+// float steps are the crate `distribute_steps`, the walks `distribute_walks`, and the theorem of demand 3 is in `distribute_spread`.
 ghost use mathlib.Core.Path.{_≡_};
 ghost use lib.ListN.{length, replicate};
 ghost use Rattle.float.specs.Ops.{zero};
@@ -100,16 +100,6 @@ fn spread_all(
     counts
 }
 
-// Zeros for the whole list.
-pub fn clear(list: &mut [f64])
-    ensures { λ _. ⌜ now (list .exit) ≡ replicate (length (now (list .entry))) zero ⌝ }
-{
-    let n = list.len();
-    for i in 0..n {
-        list[i] = 0.0;
-    }
-}
-
 // Spreading of an accepted mesh: the loop, and then zeros in both scratch lists.
 pub fn spread_tangents(
     n: usize,
@@ -128,8 +118,8 @@ pub fn spread_tangents(
     ensures desired { λ _. ⌜ now (desired .exit) ≡ replicate n zero ⌝ }
 {
     let counts = spread_all(n, p, h, pos, normals, fixed, t, current, desired);
-    clear(current);
-    clear(desired);
+    common::fill_floats(current, 0.0);
+    common::fill_floats(desired, 0.0);
     counts
 }
 
@@ -147,19 +137,19 @@ fn lengths_fit(
 ) -> bool
     ensures { λ r. ⌜ r ≡ lengthsFit (now (h .entry)) (now (pos .entry)) (now (normals .entry)) (now (fixed .entry)) (now (t .entry)) (now (current .entry)) (now (desired .entry)) n p ⌝ }
 {
-    let points = mesh::both(
-        mesh::both(
+    let points = common::both(
+        common::both(
             mesh::has_length(h.len(), n, mesh::HALFEDGE_STRIDE),
             mesh::has_length(pos.len(), p, 3),
         ),
         mesh::has_length(normals.len(), p, 3),
     );
-    let lists = mesh::both(
-        mesh::both(points, mesh::has_length(fixed.len(), n, 1)),
+    let lists = common::both(
+        common::both(points, mesh::has_length(fixed.len(), n, 1)),
         mesh::has_length(t.len(), n, 4),
     );
-    mesh::both(
-        mesh::both(lists, mesh::has_length(current.len(), n, 1)),
+    common::both(
+        common::both(lists, mesh::has_length(current.len(), n, 1)),
         mesh::has_length(desired.len(), n, 1),
     )
 }

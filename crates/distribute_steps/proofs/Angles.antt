@@ -15,7 +15,7 @@ use Rattle.float.specs.Ops.{_⊖_, _⊗_, zero as 0f}
 use Rattle.linalg.specs.declared.Vec3.{Vec3}
 use Rattle.linalg.specs.declared.Vec4.{Vec4}
 use Rattle.linalg.specs.Vec.{add3, crossOf}
-use Rattle.mesh.specs.Fold.{foldTo}
+use Rattle.common.specs.Fold.{foldTo}
 use Rattle.smoothing.specs.Directions.{safeNormalize}
 use Rattle.smoothing.specs.Lists.{tangentAt}
 use Rattle.distribute_steps.specs.FloatSteps.{Gathered, begin, lastOr, tangentDirection, nextCurrent, nextDesired, gatherEdge, addOffset, offsetSum, scaleOf, offsetOf, plan, clampAngle, clampedAngle, turnAngle, turnedTangent, turn, next}

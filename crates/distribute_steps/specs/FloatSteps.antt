@@ -1,4 +1,4 @@
--- The float steps of `distribute_tangents` of src/smoothing_tangents.rs, operation by operation, and the record that fills them into spreading. H are the halfedges, P the positions, N the point normals, F the flags. A read past the end of a list of angles gives not-a-number; specs/Claims.antt of `distribute` says that there is none.
+-- The float steps of `distribute_tangents` of src/smoothing_tangents.rs, operation by operation, and the record that fills them into spreading. H are the halfedges, P the positions, N the point normals, X the flags. A read past the end of a list of angles gives not-a-number; specs/Claims.antt of `distribute` says that there is none.
 use Prim.Native.Nat.{ℕ, suc, _+_, _-_}
 use mathlib.Core.List.{List, [], _∷_, _++_}
 use mathlib.Core.Bool.{Bool, cond, not, _&&_, _||_}
@@ -11,11 +11,11 @@ use Rattle.linalg.specs.declared.Vec3.{Vec3}
 use Rattle.linalg.specs.declared.Vec4.{Vec4}
 use Rattle.linalg.specs.Vec.{add3, sub3, crossOf, dotOf, qrotOf, rotationQuatAxisAngle}
 use Rattle.mesh.specs.Mesh.{startVert, endVert}
-use Rattle.mesh.specs.Fold.{foldTo}
+use Rattle.common.specs.Fold.{foldTo}
 use Rattle.smoothing.specs.Directions.{vec3FromVec4, safeNormalize, wrapOf, angleBetween}
 use Rattle.smoothing.specs.Lists.{pointAt, tangentAt, putTangent}
 use Rattle.cycles.specs.Cycles.{nextAround}
-use Rattle.spread.specs.Steps.{Steps}
+use Rattle.distribute_spread.specs.Steps.{Steps}
 
 -- ---- what is read
 
@@ -25,11 +25,11 @@ isMark w = eq w (neg one)
 
 -- `fixed_halfedges[e]`
 abbrev pub isFixed : List ℕ → ℕ → Bool
-isFixed F e = eqb (getD F e 0) 1
+isFixed X e = eqb (getD X e 0) 1
 
 -- fixed and unmarked: a start, and where the first walk ends
 abbrev pub isStart : List ℕ → List Float → ℕ → Bool
-isStart F T e = not (isMark (tangentAt T e .w)) && isFixed F e
+isStart X T e = not (isMark (tangentAt T e .w)) && isFixed X e
 
 -- `approx_normal`: the normal of the start's point
 abbrev pub approxNormal : List ℤ → List Float → ℕ → Vec3
@@ -189,7 +189,7 @@ next p = record {
 -- ---- spreading with these steps, over n halfedges
 
 abbrev pub floatSteps : List ℤ → List Float → List Float → List ℕ → ℕ → Steps
-floatSteps H P N F n = record {
+floatSteps H P N X n = record {
   Tangents = List Float;
   Tangent = Vec4;
   Weight = Float;
@@ -197,7 +197,7 @@ floatSteps H P N F n = record {
   Plan = Plan;
   n = n;
   step = nextAround H;
-  fixed = isFixed F;
+  fixed = isFixed X;
   read = tangentAt;
   write = putTangent;
   weight = λ v. v .w;

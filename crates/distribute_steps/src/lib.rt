@@ -169,7 +169,7 @@ pub fn gather_edge(
 pub fn turns_none(g: Carried) -> bool
     ensures { λ r. ⌜ ((C D : List Float) → g .count ≤ length C → r ≡ turnsNone (gatheredOf C D g)) ⌝ }
 {
-    cycles::either(g.count == 1, linalg::dot(g.normal, g.normal) == 0.0)
+    common::either(g.count == 1, linalg::dot(g.normal, g.normal) == 0.0)
 }
 
 // One turn of the loop that sums the offset.

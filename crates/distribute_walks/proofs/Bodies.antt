@@ -1,4 +1,4 @@
--- The bodies of the two loops, over any lawful steps: what a loop keeps of the place that its walk has come to, one step at a time, with a marked halfedge passed over. They rest on the laws of `spread` for loops.
+-- The bodies of the two loops, over any lawful steps: what a loop keeps of the place that its walk has come to, one step at a time, with a marked halfedge passed over. They rest on the laws of `distribute_spread` for loops.
 use mathlib.Core.Path.{_≡_, refl, sym, ap, _∙_}
 use mathlib.Core.Bool.{Bool, true, false, true≢false, cond, not, _&&_}
 use mathlib.Core.List.{List, _∷_}
@@ -9,11 +9,11 @@ use native.Mathlib.Omega.{arith}
 use native.Mathlib.Numerals.{add-one}
 use borrow.Author.Tests.{eqb-false, ne-eqb}
 use lib.Dec.{eqb}
-use Rattle.spread.specs.Steps.{Steps, Lawful}
-use Rattle.spread.specs.Spread.{State, marked, firstWalk, turnAt, secondWalk}
-use Rattle.spread.specs.Order.{FixedUnmarked}
-use Rattle.spread.proofs.Places.{isStop}
-use Rattle.spread.proofs.Loops.{firstLeft, secondLeft, anglesLeft, FirstAt, FirstStep, first-begin, first-within, first-some, first-pass, first-gather, first-end, SecondAt, SecondStep, second-begin, second-start, index-below, second-pass, second-turn, second-stop, second-end}
+use Rattle.distribute_spread.specs.Steps.{Steps, Lawful}
+use Rattle.distribute_spread.specs.Spread.{State, marked, firstWalk, turnAt, secondWalk}
+use Rattle.distribute_spread.specs.Order.{FixedUnmarked}
+use Rattle.distribute_spread.proofs.Places.{isStop}
+use Rattle.distribute_spread.proofs.Loops.{firstLeft, secondLeft, anglesLeft, FirstAt, FirstStep, first-begin, first-within, first-some, first-pass, first-gather, first-end, SecondAt, SecondStep, second-begin, second-start, index-below, second-pass, second-turn, second-stop, second-end}
 use Rattle.distribute_walks.specs.Walks.{stateOf, moreTurned}
 use Rattle.distribute_walks.specs.declared.Counts.{Counts}
 

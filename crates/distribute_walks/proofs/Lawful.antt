@@ -12,10 +12,10 @@ use Rattle.linalg.specs.declared.Vec4.{Vec4}
 use Rattle.mesh.specs.Sound.{Sound}
 use Rattle.cycles.proofs.Around.{next-permutes}
 use Rattle.smoothing.proofs.Tangents.{length-put, tangent-put-same, tangent-put-other, same-tangents}
-use Rattle.spread.specs.Steps.{Lawful}
-use Rattle.spread.specs.Order.{AngleCount}
-use Rattle.spread.proofs.Loops.{anglesLeft}
-use Rattle.spread.proofs.Guards.{angles-gathered}
+use Rattle.distribute_spread.specs.Steps.{Lawful}
+use Rattle.distribute_spread.specs.Order.{AngleCount}
+use Rattle.distribute_spread.proofs.Loops.{anglesLeft}
+use Rattle.distribute_spread.proofs.Guards.{angles-gathered}
 use Rattle.distribute_steps.specs.FloatSteps.{Gathered, isStart, begin, gatherEdge, turnAngle, turnedTangent, floatSteps}
 use Rattle.distribute_walks.specs.Walks.{firstFrom}
 use Rattle.distribute_walks.proofs.Bodies.{stop-is}

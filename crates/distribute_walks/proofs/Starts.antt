@@ -3,10 +3,10 @@ use mathlib.Core.Path.{_≡_, refl, sym, ap, _∙_}
 use mathlib.Core.Bool.{Bool, true, false, true≢false}
 use mathlib.Core.List.{List}
 use Prim.Native.Nat.{ℕ, suc}
-use Rattle.spread.specs.Steps.{Steps}
-use Rattle.spread.specs.Spread.{Found, State, marked, firstWalk, secondWalk, walksFrom, spreadFrom}
-use Rattle.spread.proofs.Branches.{walks-first, walks-both, from-marked, from-unmarked}
-use Rattle.spread.proofs.Places.{isStop}
+use Rattle.distribute_spread.specs.Steps.{Steps}
+use Rattle.distribute_spread.specs.Spread.{Found, State, marked, firstWalk, secondWalk, walksFrom, spreadFrom}
+use Rattle.distribute_spread.proofs.Branches.{walks-first, walks-both, from-marked, from-unmarked}
+use Rattle.distribute_spread.proofs.Places.{isStop}
 use Rattle.distribute_walks.specs.Walks.{stateOf, Gives, spreadAt}
 use Rattle.distribute_walks.specs.declared.Counts.{Counts}
 use Rattle.distribute_walks.proofs.Bodies.{stop-is}

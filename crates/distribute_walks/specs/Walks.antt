@@ -1,4 +1,4 @@
--- What the walks of the code ask and ensure: the lists of an accepted call, the code's state, and one step of each walk. H are the halfedges, P the positions, N the point normals, F the flags, T the tangents, C and D the scratch lists, n and p the counts of halfedges and points.
+-- What the walks of the code ask and ensure: the lists of an accepted call, the code's state, and one step of each walk. H are the halfedges, P the positions, N the point normals, X the flags, T the tangents, C and D the scratch lists, n and p the counts of halfedges and points.
 use Prim.Native.Nat.{ℕ, suc, _+_, _*_, _^_, _≤_, _<_}
 use mathlib.Core.Path.{_≡_}
 use mathlib.Core.List.{List}
@@ -9,8 +9,8 @@ use lib.Ieee.{Float}
 use Rattle.mesh.specs.Mesh.{halfedgeStride}
 use Rattle.mesh.specs.Sound.{Sound}
 use Rattle.smoothing.specs.Lists.{tangentAt}
-use Rattle.spread.specs.Steps.{Steps}
-use Rattle.spread.specs.Spread.{Found, State, firstWalk, spreadFrom}
+use Rattle.distribute_spread.specs.Steps.{Steps}
+use Rattle.distribute_spread.specs.Spread.{Found, State, firstWalk, spreadFrom}
 use Rattle.distribute_steps.specs.FloatSteps.{isMark, isStart, begin, floatSteps}
 use Rattle.distribute_steps.specs.Scratch.{gatheredOf, directionsAt, EdgeFrom}
 use Rattle.distribute_steps.specs.declared.Carried.{Carried}
@@ -21,12 +21,12 @@ use Rattle.distribute_walks.specs.declared.Ended.{Ended}
 
 -- ---- the lists of an accepted call
 
-pub record Lists (H : List ℤ) (P N : List Float) (F : List ℕ) (T C D : List Float) (n p : ℕ) : Type 0 where
+pub record Lists (H : List ℤ) (P N : List Float) (X : List ℕ) (T C D : List Float) (n p : ℕ) : Type 0 where
   pub sound : Sound H n p
   pub whole : length H ≡ n * halfedgeStride
   pub positions : length P ≡ p * 3
   pub normals : length N ≡ p * 3
-  pub flags : length F ≡ n
+  pub flags : length X ≡ n
   pub tangents : length T ≡ n * 4
   pub current : length C ≡ n
   pub desired : length D ≡ n
@@ -57,12 +57,12 @@ spreadAt S start st = cond (S .fixed start) (spreadFrom S start st) st
 -- ---- the first walk
 
 -- what it found, with the angles in the scratch lists
-abbrev pub foundOf : (H : List ℤ) (P N : List Float) (F : List ℕ) (n : ℕ) → List Float → List Float → Ended → Found (floatSteps H P N F n)
-foundOf H P N F n C D r = record { last = r .last; looked = r .looked; gathered = gatheredOf C D (r .carried) }
+abbrev pub foundOf : (H : List ℤ) (P N : List Float) (X : List ℕ) (n : ℕ) → List Float → List Float → Ended → Found (floatSteps H P N X n)
+foundOf H P N X n C D r = record { last = r .last; looked = r .looked; gathered = gatheredOf C D (r .carried) }
 
 -- what it comes to, from a start and with so many steps looked at before
-abbrev pub firstFrom : (H : List ℤ) (P N : List Float) (F : List ℕ) (n : ℕ) → List Float → ℕ → ℕ → Found (floatSteps H P N F n)
-firstFrom H P N F n T start looked = firstWalk (floatSteps H P N F n) (suc n) T start start looked (begin H P start (tangentAt T start))
+abbrev pub firstFrom : (H : List ℤ) (P N : List Float) (X : List ℕ) (n : ℕ) → List Float → ℕ → ℕ → Found (floatSteps H P N X n)
+firstFrom H P N X n T start looked = firstWalk (floatSteps H P N X n) (suc n) T start start looked (begin H P start (tangentAt T start))
 
 -- halfedge e has a tangent and an edge, and `first` are the directions at the start
 pub record CanLook (H : List ℤ) (P T : List Float) (start e : ℕ) (first : Directions) : Type 0 where
@@ -87,16 +87,16 @@ pub record CanTurn (T C D : List Float) (by : Turning) (i e : ℕ) : Type 0 wher
   pub angle-below : isMark (tangentAt T e .w) ≡ false → i < by .count
 
 -- what the walk from `start` is lent: as many angles as the first walk gathers
-pub record SecondInput (H : List ℤ) (F : List ℕ) (T C D : List Float) (n p start : ℕ) (by : Turning) : Type 0 where
+pub record SecondInput (H : List ℤ) (X : List ℕ) (T C D : List Float) (n p start : ℕ) (by : Turning) : Type 0 where
   pub sound : Sound H n p
   pub whole : length H ≡ n * halfedgeStride
-  pub flags : length F ≡ n
+  pub flags : length X ≡ n
   pub tangents : length T ≡ n * 4
   pub current-in : by .count ≤ length C
   pub desired-in : by .count ≤ length D
   pub start-below : start < n
-  pub start-is : isStart F T start ≡ true
+  pub start-is : isStart X T start ≡ true
   pub positions : List Float
   pub normals : List Float
   pub looked : ℕ
-  pub angles : by .count ≡ length (firstFrom H positions normals F n T start looked .gathered .desiredAngle)
+  pub angles : by .count ≡ length (firstFrom H positions normals X n T start looked .gathered .desiredAngle)

@@ -8,7 +8,7 @@ ghost use lib.ListN.{length};
 ghost use lib.Dec.{eqb};
 ghost use lib.Ieee.{Float};
 ghost use Rattle.smoothing.specs.Lists.{tangentAt, putTangent};
-ghost use Rattle.spread.specs.Spread.{secondWalk};
+ghost use Rattle.distribute_spread.specs.Spread.{secondWalk};
 ghost use Rattle.distribute_steps.specs.FloatSteps.{isMark, isFixed, isStart, edgeDirection, gatherEdge, turn, next, floatSteps};
 ghost use Rattle.distribute_steps.specs.Scratch.{gatheredOf, directionsAt, planOf};
 ghost use Rattle.distribute_walks.specs.Walks.{Lists, Room, Gives, moreTurned, spreadAt, foundOf, firstFrom, CanLook, CanGather, CanTurn, SecondInput};
@@ -144,7 +144,7 @@ fn leaves(fixed: &[u8], start: usize, e: usize) -> bool
     requires { ⌜ e < length (now fixed) ⌝ }
     ensures { λ r. ⌜ r ≡ (not (eqb e start) && isFixed (now (fixed .entry)) e) ⌝ }
 {
-    mesh::both(e != start, fixed[e] == 1)
+    common::both(e != start, fixed[e] == 1)
 }
 
 // The second walk: leaves by its label at a fixed halfedge other than the start, before that one's mark is read.

@@ -19,7 +19,7 @@ use Rattle.mesh.specs.Mesh.{halfedgeStride, isForward}
 use Rattle.mesh.specs.Questions.{hasLength}
 use Rattle.mesh.specs.declared.Checked.the-variants.{Accepted}
 use Rattle.mesh.proofs.Tests.{and-true}
-use Rattle.mesh.proofs.Fold.{fold-keeps}
+use Rattle.common.proofs.Fold.{fold-keeps}
 use Rattle.mesh.proofs.Accepted.{accepted}
 use Rattle.smoothing.specs.Lists.{tangentAt, putTangent, weightAt, isMarkedInsideQuad}
 use Rattle.smoothing.proofs.Tangents.{weight-of, length-put, tangent-put-other}

@@ -13,7 +13,7 @@ use Rattle.linalg.specs.Vec.{add3, neg3, div3}
 use Rattle.mesh.specs.Mesh.{halfedgeStride, pairedHalfedge, isForward}
 use Rattle.mesh.specs.Questions.{hasLength}
 use Rattle.mesh.specs.Check.{checkMesh, whenAccepted}
-use Rattle.mesh.specs.Fold.{foldTo}
+use Rattle.common.specs.Fold.{foldTo}
 use Rattle.mesh.specs.Sound.{Sound}
 use Rattle.mesh.specs.declared.Checked.{Checked}
 use Rattle.smoothing.specs.Directions.{vec3FromVec4}

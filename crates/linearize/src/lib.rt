@@ -53,7 +53,7 @@ fn linearize_edge(t: &mut [f64], e: usize, pair: usize, edge: Vec3, tangent: Vec
     requires { ⌜ (e * 4 + 4 ≤ length (now t)) × (pair * 4 + 4 ≤ length (now t)) ⌝ }
     ensures { λ _. ⌜ now (t .exit) ≡ linearizeEdge (now (t .entry)) e pair edge tangent other ⌝ }
 {
-    if mesh::both(is_flat(tangent), is_flat(other)) {
+    if common::both(is_flat(tangent), is_flat(other)) {
         let third = linalg::divide(edge, 3.0);
         smoothing::put_tangent(t, e, with_unit_weight(third));
         smoothing::put_tangent(t, pair, with_unit_weight(linalg::neg(third)));
@@ -99,8 +99,8 @@ pub fn linearize_all(n: usize, p: usize, h: &[i32], pos: &[f64], t: &mut [f64])
 fn lengths_fit(n: usize, p: usize, h: &[i32], pos: &[f64], t: &[f64]) -> bool
     ensures { λ r. ⌜ r ≡ lengthsFit (now (h .entry)) (now (pos .entry)) (now (t .entry)) n p ⌝ }
 {
-    mesh::both(
-        mesh::both(
+    common::both(
+        common::both(
             mesh::has_length(h.len(), n, mesh::HALFEDGE_STRIDE),
             mesh::has_length(pos.len(), p, 3),
         ),

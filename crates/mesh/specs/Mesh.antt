@@ -23,7 +23,7 @@ refStride = 3
 
 -- number k of item e, in a list of `stride` numbers to an item; 0 past the end
 unfoldable pub numberAt : List ℤ → ℕ → ℕ → ℕ → ℤ
-numberAt S e stride k = getD S (e * stride + k) (pos 0)
+numberAt list e stride k = getD list (e * stride + k) (pos 0)
 
 -- an i32 as the number of a point or a halfedge; a negative one is above every count
 unfoldable pub indexOf : ℤ → ℕ

@@ -126,13 +126,6 @@ pub fn prev_halfedge(e: usize) -> usize
     base + pos
 }
 
-// Both hold. A call, so that what it says stays one term in a proof.
-pub fn both(a: bool, b: bool) -> bool
-    ensures { λ r. ⌜ r ≡ a && b ⌝ }
-{
-    a && b
-}
-
 // Do the references of the triangles a and b have the same number k?
 fn same_ref(refs: &[i32], a: usize, b: usize, k: usize) -> bool
     requires { ⌜ k ≤ 4 ⌝ }
@@ -144,8 +137,8 @@ fn same_ref(refs: &[i32], a: usize, b: usize, k: usize) -> bool
 pub fn same_face(refs: &[i32], a: usize, b: usize) -> bool
     ensures { λ r. ⌜ r ≡ sameFace (now (refs .entry)) a b ⌝ }
 {
-    both(
-        both(same_ref(refs, a, b, 0), same_ref(refs, a, b, 1)),
+    common::both(
+        common::both(same_ref(refs, a, b, 0), same_ref(refs, a, b, 1)),
         same_ref(refs, a, b, 2),
     )
 }

@@ -1,7 +1,7 @@
 // The questions 3 to 7 put to the three halfedges of a triangle at once, by comparisons of the list's own numbers, with an exit at
 // the first no.
 use super::HALFEDGE_STRIDE;
-use super::both;
+use common::both;
 ghost use mathlib.Core.Path.{_≡_};
 ghost use Prim.Native.Nat.{_+_, _*_, _<_, _≤_, _^_};
 ghost use mathlib.Core.Bool.{_&&_};

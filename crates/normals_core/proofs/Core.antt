@@ -9,7 +9,7 @@ use lib.Ieee.{Float}
 use Rattle.float.specs.Ops.{zero}
 use Rattle.mesh.specs.Sound.{Sound}
 use Rattle.smoothing.specs.Edges.{isInsideQuad}
-use Rattle.makings.specs.Makings.{Tangents, tangentsOf}
+use Rattle.create_shared.specs.Makings.{Tangents, tangentsOf}
 use Rattle.normals_steps.specs.Carried.{isInside}
 use Rattle.normals_walks.specs.Walks.{normalsVerts}
 use Rattle.normals_walks.proofs.Inside.{verts-inside}
@@ -21,15 +21,15 @@ use Rattle.normals_core.proofs.Flags.{inside-is}
 -- the tangents T and the fixed flags X that the loop over the points leaves, with the flags Q
 pub made : {H : List ℤ} {n j : ℕ} → Sound H n j → (R : List ℤ) (P N A G O : List Float) (old : Bool) (p : ℕ) (T T₀ : List Float) (X X₀ Q : List ℕ) (k : ℕ)
     → tangentsOf T X ≡ normalsVerts H P N A G (isInside Q) n k (tangentsOf T₀ X₀) → Q ≡ insideQuads H R O old n → T₀ ≡ replicate (n * 4) zero → X₀ ≡ replicate n 0 → k ≡ p
-    → tangentsOf T X ≡ normalTangents H R P N A G O old n p
+    → tangentsOf T X ≡ normalTangents H P N A R G O old n p
 unfolding normalTangents
 made {H} {n} s R P N A G O old p T T₀ X X₀ Q k e q t x d =
     e ∙ verts-inside s P N A G (isInside Q) (isInsideQuad H R O old) (λ i h. rw q (inside-is H R O old n i h)) k (tangentsOf T₀ X₀) ∙ rw (t, x, d)
 
 -- the tangents U, where T and X are the tangents and the fixed flags before spreading
 pub created : (H R : List ℤ) (P N A G O : List Float) (old : Bool) (n p : ℕ) (T : List Float) (X : List ℕ) (U : List Float) (k : ℕ)
-    → tangentsOf T X ≡ normalTangents H R P N A G O old n k → k ≡ p → U ≡ spreadTangents H P N X T n .tangents
-    → U ≡ createTangentsFromNormals H R P N A G O old n p
+    → tangentsOf T X ≡ normalTangents H P N A R G O old n k → k ≡ p → U ≡ spreadTangents H P N X T n .tangents
+    → U ≡ createTangentsFromNormals H P N A R G O old n p
 unfolding createTangentsFromNormals
 created H R P N A G O old n p T X U k e q u =
-    u ∙ ap (λ (m : Tangents). spreadTangents H P N (m .fixed) (m .tangents) n .tangents) (e ∙ ap (λ (j : ℕ). normalTangents H R P N A G O old n j) q)
+    u ∙ ap (λ (m : Tangents). spreadTangents H P N (m .fixed) (m .tangents) n .tangents) (e ∙ ap (λ (j : ℕ). normalTangents H P N A R G O old n j) q)

@@ -11,7 +11,7 @@ use Rattle.mesh.specs.Inside.{Inside}
 use Rattle.mesh.proofs.Accepted.{inside}
 use Rattle.smoothing.specs.Edges.{InsideQuadIn}
 use Rattle.smoothing.proofs.Edges.{inside-quad-in}
-use Rattle.faces.specs.Faces.{vertHalfedge}
+use Rattle.create_shared.specs.Faces.{vertHalfedge}
 use Rattle.normals_state.specs.Units.{UnitsIn}
 use Rattle.normals_walks.specs.Walks.{VertsLists}
 use Rattle.distribute_walks.specs.Walks.{Lists as SpreadLists}

@@ -5,7 +5,7 @@ ghost use lib.ListN.{length, set, replicate};
 ghost use Rattle.float.specs.Ops.{zero};
 ghost use Rattle.smoothing.specs.Edges.{InsideQuadIn};
 ghost use Rattle.smoothing.specs.Inner.{putEdge};
-ghost use Rattle.makings.specs.Makings.{tangentsOf};
+ghost use Rattle.create_shared.specs.Makings.{tangentsOf};
 ghost use Rattle.normals_state.specs.Units.{UnitsIn};
 ghost use Rattle.distribute_walks.specs.Walks.{Lists as SpreadLists};
 ghost use Rattle.distribute.specs.Distribute.{spreadTangents};
@@ -79,12 +79,12 @@ fn normal_tangents(
     first: &mut [usize],
 )
     requires { ⌜ TangentLists (now h) (now pos) (now normals) (now «face_normals») (now «halfedge_normals») (now t) (now fixed) (now inside) (now first) n × UnitsIn (now «face_normals») (now «face_units») n ⌝ }
-    ensures { λ _. ⌜ tangentsOf (now (t .exit)) (now (fixed .exit)) ≡ normalTangents (now (h .entry)) (now (refs .entry)) (now (pos .entry)) (now (normals .entry)) (now («face_normals» .entry)) (now («halfedge_normals» .entry)) (now (t .entry)) old n (length (now (first .entry))) ⌝ }
+    ensures { λ _. ⌜ tangentsOf (now (t .exit)) (now (fixed .exit)) ≡ normalTangents (now (h .entry)) (now (pos .entry)) (now (normals .entry)) (now («face_normals» .entry)) (now (refs .entry)) (now («halfedge_normals» .entry)) (now (t .entry)) old n (length (now (first .entry))) ⌝ }
 {
     inside_quads(n, h, refs, t, old, inside);
-    distribute::clear(t);
-    faces::fill_bytes(fixed, 0);
-    faces::vert_halfedge(h, first, n);
+    common::fill_floats(t, 0.0);
+    common::fill_bytes(fixed, 0);
+    create_shared::vert_halfedge(h, first, n);
     normals_walks::normals_verts(
         n,
         h,
@@ -106,9 +106,9 @@ fn clear_scratch(fixed: &mut [u8], inside: &mut [u8], first: &mut [usize])
     ensures inside { λ _. ⌜ now (inside .exit) ≡ replicate (length (now (inside .entry))) 0 ⌝ }
     ensures first { λ _. ⌜ now (first .exit) ≡ replicate (length (now (first .entry))) 0 ⌝ }
 {
-    faces::fill_bytes(fixed, 0);
-    faces::fill_bytes(inside, 0);
-    faces::fill(first, 0);
+    common::fill_bytes(fixed, 0);
+    common::fill_bytes(inside, 0);
+    common::fill_numbers(first, 0);
 }
 
 // The tangents of an accepted call, and zeros in all scratch lists. Until spreading, `current` holds the unit vectors of the
@@ -131,7 +131,7 @@ pub fn make_tangents(
     first: &mut [usize],
 )
     requires { ⌜ Lists (now h) (now pos) (now normals) (now «face_normals») (now «halfedge_normals») (now t) (now fixed) (now inside) (now current) (now desired) (now first) n p ⌝ }
-    ensures tangents { λ _. ⌜ now (t .exit) ≡ createTangentsFromNormals (now (h .entry)) (now (refs .entry)) (now (pos .entry)) (now (normals .entry)) (now («face_normals» .entry)) (now («halfedge_normals» .entry)) (now (t .entry)) old n p ⌝ }
+    ensures tangents { λ _. ⌜ now (t .exit) ≡ createTangentsFromNormals (now (h .entry)) (now (pos .entry)) (now (normals .entry)) (now («face_normals» .entry)) (now (refs .entry)) (now («halfedge_normals» .entry)) (now (t .entry)) old n p ⌝ }
     ensures fixed { λ _. ⌜ now (fixed .exit) ≡ replicate n 0 ⌝ }
     ensures inside { λ _. ⌜ now (inside .exit) ≡ replicate n 0 ⌝ }
     ensures current { λ _. ⌜ now (current .exit) ≡ replicate n zero ⌝ }

@@ -8,7 +8,7 @@ use lib.ListN.{length, set, length-set}
 use lib.Seq.{getD-set-same, getD-set-other, lt-length-set}
 use lib.Ieee.{Float}
 use Rattle.linalg.specs.declared.Vec3.{Vec3}
-use Rattle.mesh.specs.Fold.{foldTo}
+use Rattle.common.specs.Fold.{foldTo}
 use Rattle.smoothing.specs.Directions.{safeNormalize, equalUnits}
 use Rattle.smoothing.specs.Lists.{pointAt}
 use Rattle.smoothing.proofs.Directions.{equal-by-units}

@@ -4,7 +4,7 @@ use mathlib.Core.Path.{_≡_}
 use mathlib.Core.List.{List}
 use lib.ListN.{length, set}
 use lib.Ieee.{Float}
-use Rattle.mesh.specs.Fold.{foldTo}
+use Rattle.common.specs.Fold.{foldTo}
 use Rattle.smoothing.specs.Directions.{safeNormalize}
 use Rattle.smoothing.specs.Lists.{pointAt}
 

@@ -78,7 +78,7 @@ pub fn get_normal(halfedge_normals: &[f64], e: usize) -> Vec3
 pub fn is_zero(v: Vec3) -> bool
     ensures { λ r. ⌜ r ≡ isZero v ⌝ }
 {
-    mesh::both(mesh::both(v.x == 0.0, v.y == 0.0), v.z == 0.0)
+    common::both(common::both(v.x == 0.0, v.y == 0.0), v.z == 0.0)
 }
 
 // A normal, or another where it is missing.
@@ -104,7 +104,7 @@ fn same_normal(a: Vec3, b: Vec3) -> bool
     let same_x = same_number(a.x, b.x);
     let same_y = same_number(a.y, b.y);
     let same_z = same_number(a.z, b.z);
-    mesh::both(mesh::both(same_x, same_y), same_z)
+    common::both(common::both(same_x, same_y), same_z)
 }
 
 // The unit vector of a normal, where that of the normal before it is known: on a smooth surface the two are mostly the same.
@@ -252,7 +252,7 @@ fn next_start(here: bool, next: bool, start: PackedStart, e: usize) -> PackedSta
 fn next_last(here: bool, next: bool, normal: Vec3, last: Vec3) -> Vec3
     ensures { λ r. ⌜ r ≡ nextLast here next normal last ⌝ }
 {
-    if mesh::both(!here, next) {
+    if common::both(!here, next) {
         normal
     } else {
         last

@@ -17,7 +17,7 @@ use Rattle.normals_steps.specs.Steps.{signedDir, tangentBetween, withWei
 
 -- halfedge e has flag 1
 abbrev pub isInside : List ℕ → ℕ → Bool
-isInside Q e = eqb (getD Q e 0) 1
+isInside B e = eqb (getD B e 0) 1
 
 -- the direction of the tangent of halfedge e between two normals, where its edge is known
 unfoldable pub directionBetween : List ℤ → List Float → Vec3 → Vec3 → Bool → Vec3 → ℕ → Vec3

@@ -14,7 +14,7 @@ use Rattle.smoothing.specs.Directions.{vec3FromVec4, equalNormals, circularTang
 use Rattle.smoothing.specs.Lists.{tangentAt, putTangent, weightAt, isMarkedInsideQuad}
 use Rattle.smoothing.specs.Edges.{edgeVec, tangentFromNormal}
 use Rattle.cycles.specs.Cycles.{nextAround}
-use Rattle.makings.specs.Makings.{Tangents, alignTangents}
+use Rattle.create_shared.specs.Makings.{Tangents, alignTangents}
 use Rattle.normals_state.specs.declared.FaceEdges.{FaceEdges}
 use Rattle.normals_state.specs.declared.FaceEdges.the-variants.{NoEdge, OneEdge, TwoEdges, Spoiled}
 use Rattle.normals_state.specs.declared.StartHalfedge.{StartHalfedge}
@@ -31,11 +31,11 @@ pub record NormalsIn (H : List ℤ) (P A G T : List Float) (n : ℕ) : Type 0 wh
   pub positions : length P ≡ state .missing .points * 3
   pub tangents : length T ≡ n * 4
 
--- and two flags for each halfedge, and the unit vector of each triangle's normal: Q, X and U are the code's lists `inside`, `fixed` and `face_units`
-pub record StepIn (H : List ℤ) (P A U G : List Float) (Q : List ℕ) (T : List Float) (X : List ℕ) (n : ℕ) : Type 0 where
+-- and two flags for each halfedge, and the unit vector of each triangle's normal: B, X and U are the code's lists `inside`, `fixed` and `face_units`
+pub record StepIn (H : List ℤ) (P A U G : List Float) (B : List ℕ) (T : List Float) (X : List ℕ) (n : ℕ) : Type 0 where
   pub lists : NormalsIn H P A G T n
   pub face-units : UnitsIn A U n
-  pub inside : length Q ≡ n
+  pub inside : length B ≡ n
   pub fixed : length X ≡ n
 
 -- the halfedges that the state of a walk names are halfedges

@@ -4,7 +4,7 @@ ghost use mathlib.Core.Bool.{cond};
 ghost use Prim.Native.Nat.{_+_, _*_, _≤_, _<_};
 ghost use lib.ListN.{length};
 ghost use Rattle.smoothing.specs.Edges.{EdgeIn, NormalsIn, FacesIn};
-ghost use Rattle.makings.specs.Makings.{MakingIn, tangentsOf};
+ghost use Rattle.create_shared.specs.Makings.{MakingIn, tangentsOf};
 ghost use Rattle.normals_state.specs.Packed.{stateOf};
 ghost use Rattle.normals_steps.specs.Steps.{FaceEdgesIn, signedDir, tangentBetween, withWeight, insideQuadWeight, missingNormalWeight, walkOf, vertNormalStep, fillOf, fillTangent, putFillTangent, fillStep, faceTangent, fixFaceEdges, alignFaceEdges};
 ghost use Rattle.normals_steps.specs.Carried.{isInside, directionBetween, tangentStepOf, normalStepOf};
@@ -131,8 +131,8 @@ pub fn normal_step(
 {
     let after = normals_state::next_state(state, here, next, e);
     let in_quad = inside[e] == 1;
-    let missing = cycles::either(here.zero, next.zero);
-    if cycles::either(in_quad, missing) {
+    let missing = common::either(here.zero, next.zero);
+    if common::either(in_quad, missing) {
         smoothing::put_tangent(t, e, flag_tangent(in_quad, after.last_normal));
         return after;
     }
@@ -244,7 +244,7 @@ fn fix_face_edges(
     ensures { λ _. ⌜ tangentsOf (now (t .exit)) (now (fixed .exit)) ≡ fixFaceEdges (now (h .entry)) (now (pos .entry)) (tangentsOf (now (t .entry)) (now (fixed .entry))) a b ⌝ }
 {
     let dir = face_tangent(h, pos, a, b);
-    makings::align_tangents(n, h, pos, t, fixed, a, b, dir);
+    create_shared::align_tangents(n, h, pos, t, fixed, a, b, dir);
 }
 
 // The same where there are two.

@@ -7,13 +7,13 @@ use borrow.Author.Tests.{ltb-true}
 use lib.Dec.{eqb, ltb}
 use lib.IntN.{ℤ}
 use lib.Ieee.{Float}
-use Rattle.mesh.specs.Fold.{foldTo}
+use Rattle.common.specs.Fold.{foldTo}
 use Rattle.mesh.specs.Sound.{Sound}
 use Rattle.cycles.specs.Walk.{cycleFrom}
 use Rattle.cycles.specs.Orbits.{Permutes}
 use Rattle.cycles.proofs.Around.{next-permutes}
-use Rattle.faces.specs.Faces.{vertHalfedge}
-use Rattle.makings.specs.Makings.{Tangents}
+use Rattle.create_shared.specs.Faces.{vertHalfedge}
+use Rattle.create_shared.specs.Makings.{Tangents}
 use Rattle.normals_steps.specs.Steps.{Walk, normalStep}
 use Rattle.normals_walks.specs.Walks.{normalWalk, finishVert, normalsVert, normalsVerts}
 

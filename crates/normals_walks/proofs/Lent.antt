@@ -6,7 +6,7 @@ use mathlib.Core.List.{List}
 use lib.ListN.{length}
 use lib.IntN.{ℤ}
 use lib.Ieee.{Float}
-use Rattle.makings.specs.Makings.{TangentsIn, MakingIn}
+use Rattle.create_shared.specs.Makings.{TangentsIn, MakingIn}
 use Rattle.normals_steps.specs.Steps.{NormalsIn, StepIn}
 use Rattle.normals_walks.specs.Walks.{FacesLists, VertsLists}
 

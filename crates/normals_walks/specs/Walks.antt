@@ -8,13 +8,13 @@ use lib.IntN.{ℤ}
 use lib.Dec.{ltb}
 use lib.Ieee.{Float}
 use Rattle.linalg.specs.declared.Vec3.{Vec3}
-use Rattle.mesh.specs.Fold.{foldTo}
+use Rattle.common.specs.Fold.{foldTo}
 use Rattle.mesh.specs.Mesh.{halfedgeStride}
 use Rattle.mesh.specs.Sound.{Sound}
 use Rattle.smoothing.specs.Lists.{pointAt}
-use Rattle.makings.specs.Makings.{TangentsIn, Tangents, tangentsOf}
+use Rattle.create_shared.specs.Makings.{TangentsIn, Tangents, tangentsOf}
 use Rattle.cycles.specs.Cycles.{nextAround, vertexCycle, vertexCycleBack}
-use Rattle.faces.specs.Faces.{vertHalfedge}
+use Rattle.create_shared.specs.Faces.{vertHalfedge}
 use Rattle.normals_state.specs.declared.StartHalfedge.{StartHalfedge}
 use Rattle.normals_state.specs.declared.StartHalfedge.the-variants.{NoneMissing, SomeMissing, StartAt}
 use Rattle.normals_state.specs.State.{getNormal, isZero, someMissing, startState}
@@ -29,17 +29,17 @@ pub record FacesLists (H : List ℤ) (P A T : List Float) (n : ℕ) : Type 0 whe
   pub positions : length P ≡ tangents .points * 3
   pub face-normals : length A ≡ n
 
--- All lists of the loop over the points. U, Q and X are the code's lists `face_units`, `inside` and `fixed`; F has a place for each point, which holds its `vert_halfedge`.
-pub record VertsLists (H : List ℤ) (P N A U G : List Float) (Q F : List ℕ) (T : List Float) (X : List ℕ) (n : ℕ) : Type 0 where
-  pub sound : Sound H n (length F)
+-- All lists of the loop over the points. U, B and X are the code's lists `face_units`, `inside` and `fixed`; W has a place for each point, which holds its `vert_halfedge`.
+pub record VertsLists (H : List ℤ) (P N A U G : List Float) (B W : List ℕ) (T : List Float) (X : List ℕ) (n : ℕ) : Type 0 where
+  pub sound : Sound H n (length W)
   pub whole : length H ≡ n * halfedgeStride
-  pub positions : length P ≡ length F * 3
-  pub point-normals : length N ≡ length F * 3
+  pub positions : length P ≡ length W * 3
+  pub point-normals : length N ≡ length W * 3
   pub face-normals : length A ≡ n
   pub face-units : UnitsIn A U n
   pub normals : length G ≡ n * 3
-  pub inside : length Q ≡ n
-  pub vert-halfedge : (v : ℕ) → v < length F → getD F v 0 ≡ vertHalfedge H n v
+  pub inside : length B ≡ n
+  pub vert-halfedge : (v : ℕ) → v < length W → getD W v 0 ≡ vertHalfedge H n v
   pub tangents : length T ≡ n * 4
   pub fixed : length X ≡ n
 

@@ -3,7 +3,7 @@
 ghost use mathlib.Core.Path.{_≡_};
 ghost use Prim.Native.Nat.{_+_, _*_, _≤_, _<_};
 ghost use lib.ListN.{length};
-ghost use Rattle.makings.specs.Makings.{tangentsOf};
+ghost use Rattle.create_shared.specs.Makings.{tangentsOf};
 ghost use Rattle.normals_steps.specs.Steps.{NormalsIn, StepIn, StartIn, StateIn, walkOf};
 ghost use Rattle.normals_steps.specs.Carried.{isInside};
 ghost use Rattle.normals_walks.specs.Walks.{FacesLists, VertsLists, normalWalk, vertNormalWalk, fillWalk, fillMissing, finishVert, normalsVert, normalsVerts};
@@ -167,7 +167,7 @@ fn finish_vert(
     let start = state.start_halfedge;
     let last = state.last_normal;
     let face_edges = state.face_edges;
-    if mesh::both(
+    if common::both(
         normals_state::some_missing(start),
         normals_state::is_zero(last),
     ) {

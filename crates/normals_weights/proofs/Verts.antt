@@ -20,8 +20,8 @@ use Rattle.cycles.specs.Cycles.{nextAround, vertexCycle, vertexCycleBack}
 use Rattle.cycles.proofs.Paths.{iter-zero, iter-suc}
 use Rattle.cycles.proofs.Orbits.{cycle-reached, cycle-all, cycle-below, cycles-equal}
 use Rattle.cycles.proofs.Around.{next-permutes, cycle-ways}
-use Rattle.faces.specs.Faces.{vertHalfedge}
-use Rattle.makings.specs.Makings.{Tangents, tangentsOf}
+use Rattle.create_shared.specs.Faces.{vertHalfedge}
+use Rattle.create_shared.specs.Makings.{Tangents, tangentsOf}
 use Rattle.normals_state.specs.declared.StartHalfedge.{StartHalfedge}
 use Rattle.normals_state.specs.declared.StartHalfedge.the-variants.{NoneMissing, SomeMissing, StartAt}
 use Rattle.normals_state.specs.State.{getNormal, isZero, isMissing, someMissing, setStart, missingStart, nextStart, nextLast, zeroNormal, startState}

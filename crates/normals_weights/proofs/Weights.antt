@@ -14,13 +14,13 @@ use Rattle.mesh.specs.Questions.{signClear}
 use Rattle.mesh.specs.Check.{checkMesh}
 use Rattle.mesh.specs.Sound.{Sound}
 use Rattle.mesh.proofs.Accepted.{accepted, refs-accepted}
-use Rattle.mesh.proofs.Fold.{fold-keeps}
+use Rattle.common.proofs.Fold.{fold-keeps}
 use Rattle.smoothing.specs.Lists.{weightAt}
 use Rattle.smoothing.specs.Edges.{edgeVec, isInsideQuad}
 use Rattle.smoothing.proofs.Tangents.{weight-of}
-use Rattle.spread.proofs.Own.{own}
-use Rattle.spread.proofs.Order.{order-free}
-use Rattle.makings.specs.Makings.{tangentsOf}
+use Rattle.distribute_spread.proofs.Own.{own}
+use Rattle.distribute_spread.proofs.Order.{order-free}
+use Rattle.create_shared.specs.Makings.{tangentsOf}
 use Rattle.normals_steps.specs.Steps.{insideQuadWeight, missingNormalWeight}
 use Rattle.normals_walks.specs.Walks.{normalsVert, normalsVerts}
 use Rattle.distribute_steps.specs.FloatSteps.{floatSteps}
@@ -62,7 +62,7 @@ unfolding weightAt
 zero-weight n e h = getD-replicate (n * 4) (e * 4 + 3) zero nan (omega arith)
 
 module _ {H : List ℤ} {n p : ℕ} (S : Sound H n p) (R : List ℤ) (P N A G O : List Float) (old : Bool) where
-  before-spreading : AllMade H P n (normalTangents H R P N A G O old n p)
+  before-spreading : AllMade H P n (normalTangents H P N A R G O old n p)
   unfolding normalTangents normalsVerts
   before-spreading =
       fold-keeps (normalsVert H P N A G (isInsideQuad H R O old) n) (tangentsOf (replicate (n * 4) zero) (replicate n 0)) (AllMade H P n) p
@@ -76,13 +76,13 @@ module _ {H : List ℤ} {n p : ℕ} (S : Sound H n p) (R : List ℤ) (P N A G O 
       ∙ order-free (lawful S P N X) T l _ (own (floatSteps H P N X n)) .weights-kept e
       ∙ weight-of T e
 
-  made-weight : (e : ℕ) → e < n → MadeWeight H P e (weightAt (createTangentsFromNormals H R P N A G O old n p) e)
+  made-weight : (e : ℕ) → e < n → MadeWeight H P e (weightAt (createTangentsFromNormals H P N A R G O old n p) e)
   unfolding createTangentsFromNormals
   made-weight e l =
-      let m = normalTangents H R P N A G O old n p in
+      let m = normalTangents H P N A R G O old n p in
       rw (spreading-keeps (m .fixed) (m .tangents) (before-spreading .whole) e) (before-spreading .made e l)
 
-  pub weights : WeightsOf H R P N A G O old n p
+  pub weights : WeightsOf H P N A R G O old n p
   weights = record {
     made = made-weight;
     mark-or-clear = λ e l. mark-or-clear (made-weight e l);

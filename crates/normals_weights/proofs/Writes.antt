@@ -16,7 +16,7 @@ use Rattle.smoothing.specs.Lists.{tangentAt, putTangent, weightAt, isMarkedInsi
 use Rattle.smoothing.specs.Edges.{edgeVec, tangentFromNormal}
 use Rattle.smoothing.proofs.Tangents.{length-put, weight-put-same, weight-put-other}
 use Rattle.cycles.specs.Cycles.{nextAround}
-use Rattle.makings.specs.Makings.{Tangents, putCircularTangent, alignTangents}
+use Rattle.create_shared.specs.Makings.{Tangents, putCircularTangent, alignTangents}
 use Rattle.normals_state.specs.declared.FaceEdges.{FaceEdges}
 use Rattle.normals_state.specs.declared.FaceEdges.the-variants.{NoEdge, OneEdge, TwoEdges, Spoiled}
 use Rattle.normals_state.specs.State.{getNormal, isZero, isMissing, nextStart, nextLast, nextState, spoilFaceEdges}

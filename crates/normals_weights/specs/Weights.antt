@@ -1,4 +1,4 @@
--- The weights that `create_tangents_from_normals` leaves on an accepted mesh. On its way it gives the weight -3 to a halfedge whose normal is missing, and reads it back; none is left at the end. H are the halfedges, R the face references, P the positions, N the point normals, A the face normals, G the lent normals, O the tangents as lent, `old` whether these are old tangents, n and p the counts of halfedges and points.
+-- The weights that `create_tangents_from_normals` leaves on an accepted mesh. On its way it gives the weight -3 to a halfedge whose normal is missing, and reads it back; none is left at the end. H are the halfedges, R the face references, P the positions, N the point normals, A the face normals, G the lent normals, T the tangents as lent, `old` whether these are old tangents, n and p the counts of halfedges and points.
 use Prim.Native.Nat.{ℕ, _<_}
 use mathlib.Core.Path.{_≡_}
 use mathlib.Core.Logic.{_⊎_}
@@ -32,11 +32,11 @@ pub record Weights (H : List ℤ) (P T : List Float) (n : ℕ) : Type 0 where
   pub none-missing : (e : ℕ) → e < n → weightAt T e ≡ missingNormalWeight → ⊥
 
 -- THE CLAIM, for every sound mesh and any other lists
-abbrev pub WeightsOf : List ℤ → List ℤ → List Float → List Float → List Float → List Float → List Float → Bool → ℕ → ℕ → Type 0
-WeightsOf H R P N A G O old n p = Weights H P (createTangentsFromNormals H R P N A G O old n p) n
+abbrev pub WeightsOf : List ℤ → List Float → List Float → List Float → List ℤ → List Float → List Float → Bool → ℕ → ℕ → Type 0
+WeightsOf H P N A R G T old n p = Weights H P (createTangentsFromNormals H P N A R G T old n p) n
 
--- The same of the public call, for every input that it accepts; X, Q, C, D and F are its scratch lists
+-- The same of the public call, for every input that it accepts; X, B, C, D and W are its scratch lists
 abbrev pub WeightsAfter : List ℤ → List Float → List Float → List Float → List ℤ → List Float → List Float → List ℕ → List ℕ → List Float → List Float → List ℕ → Bool → ℕ → ℕ → Type 0
-WeightsAfter H P N A R G O X Q C D F old n p =
-    let answer = checkLists H P N A R G O X Q C D F n p in
-    answer ≡ Accepted → Weights H P (tangentsAfter answer H P N A R G O old n p) n
+WeightsAfter H P N A R G T X B C D W old n p =
+    let answer = checkLists H P N A R G T X B C D W n p in
+    answer ≡ Accepted → Weights H P (tangentsAfter answer H P N A R G T old n p) n

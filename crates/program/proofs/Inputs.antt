@@ -17,11 +17,11 @@ use Rattle.records.specs.Lists.{Lists, ifSpread, readAnswer, readLists}
 use Rattle.records.specs.declared.Parsed.{Parsed}
 use Rattle.records.specs.declared.Parsed.the-variants.{Input, Refused as InputRefused}
 use Rattle.records.proofs.Accepted.{never-short, parsed-bound}
-use Rattle.lines.specs.Lines.{linesOf, rendered}
-use Rattle.lines.proofs.Whole.{whole}
-use Rattle.lines.specs.declared.Output.{Output}
-use Rattle.lines.specs.declared.Output.the-variants.{Refused}
-use Rattle.operations.specs.Operations.{straightenLines, spreadLines, operationLines, straightenTangents, spreadTangents, operationTangents, spreadScratch, operationScratch, SpreadIn, Shows}
+use Rattle.program_lines.specs.Lines.{linesOf, rendered}
+use Rattle.program_lines.proofs.Whole.{whole}
+use Rattle.program_lines.specs.declared.Output.{Output}
+use Rattle.program_lines.specs.declared.Output.the-variants.{Refused}
+use Rattle.program_operations.specs.Operations.{straightenLines, spreadLines, operationLines, straightenTangents, spreadTangents, operationTangents, spreadScratch, operationScratch, SpreadIn, Shows}
 use Rattle.program.specs.Program.{outputOf, halfedgesOf, positionsOf, tangentsOf, normalsOf, flagsOf, positionsAfter, halfedgesAfter, normalsAfter, flagsAfter, tangentsAfter, scratchAfter, hasRoom, Room}
 
 -- ---- the room

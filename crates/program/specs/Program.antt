@@ -11,9 +11,9 @@ use Rattle.little_endian.specs.Filled.{items}
 use Rattle.records.specs.Records.{bodyAt, parseInput}
 use Rattle.records.specs.declared.Parsed.{Parsed}
 use Rattle.records.specs.declared.Parsed.the-variants.{Input, Refused as InputRefused}
-use Rattle.lines.specs.Lines.{linesOf}
-use Rattle.lines.specs.declared.Output.the-variants.{Refused}
-use Rattle.operations.specs.Operations.{operationLines, operationTangents, operationScratch}
+use Rattle.program_lines.specs.Lines.{linesOf}
+use Rattle.program_lines.specs.declared.Output.the-variants.{Refused}
+use Rattle.program_operations.specs.Operations.{operationLines, operationTangents, operationScratch}
 
 -- ---- the lists of an accepted input
 

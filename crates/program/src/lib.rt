@@ -4,10 +4,10 @@ ghost use mathlib.Core.Path.{_≡_};
 ghost use mathlib.Core.Bool.{cond};
 ghost use mathlib.Core.List.{[]};
 ghost use lib.ListN.{length};
-ghost use Rattle.lines.specs.Text.{Put};
-ghost use Rattle.operations.specs.Operations.{Shows};
+ghost use Rattle.program_lines.specs.Text.{Put};
+ghost use Rattle.program_operations.specs.Operations.{Shows};
 ghost use Rattle.program.specs.Program.{outputOf, positionsAfter, halfedgesAfter, tangentsAfter, normalsAfter, flagsAfter, scratchAfter, hasRoom, listsHaveRoom, Room};
-use lines::Output;
+use program_lines::Output;
 use records::Parsed;
 
 // The lengths of lists with room for every input: its positions or point normals, its halfedges, its tangents, one place
@@ -48,7 +48,7 @@ fn respond(
             operation,
             points,
             halfedges,
-        } => operations::operate(
+        } => program_operations::operate(
             operation,
             halfedges,
             points,
@@ -139,5 +139,5 @@ pub fn answer(
         return 0;
     }
     let output = respond(input, pos, h, t, normals, flags, current, desired);
-    lines::render(output, t, out)
+    program_lines::render(output, t, out)
 }

@@ -58,12 +58,12 @@ module _ (s : List ℕ) (P : List Float) (H : List ℤ) (T N : List Float) (F : 
   got : Through (inputRefusal s .number) (operationIn s) (pointsIn s) (halfedgesIn s) o p n
   got = got-through s o p n (sym e)
 
-  pub no-room : b ≡ false → Refused 2 0 ≡ readAnswer s (listsOf P H T N F)
+  pub no-room : b ≡ false → Refused 2 0 ≡ readAnswer s (listsOf H P N F T)
   unfolding readAnswer readRefusal
   no-room f = rw (got .no-number, got .same-operation, got .same-points, got .same-halfedges, ← h, f)
 
   module _ (f : b ≡ true) where
-    pub read : Input o p n ≡ readAnswer s (listsOf P H T N F)
+    pub read : Input o p n ≡ readAnswer s (listsOf H P N F T)
     unfolding readAnswer readRefusal
     read = rw (got .no-number, got .same-operation, got .same-points, got .same-halfedges, ← h, f)
 
@@ -103,7 +103,7 @@ module _ (s : List ℕ) (P : List Float) (H : List ℤ) (T N : List Float) (F : 
           T′ ≡ filled (f64Item s (bodyAt p n 5)) (4 * n) T →
           N′ ≡ filled (f64Item s (bodyAt p n 6)) (3 * p) N →
           F′ ≡ filled (byteItem s (bodyAt p n 7)) n F →
-          listsOf P′ H′ T′ N′ F′ ≡ readLists (Input o p n) s (listsOf P H T N F)
+          listsOf H′ P′ N′ F′ T′ ≡ readLists (Input o p n) s (listsOf H P N F T)
       unfolding readLists
       spread-lists P′ H′ T′ N′ F′ x y z v w = rw (all-due (3 * p), all-due n, x, y, z, v, w)
 
@@ -112,7 +112,7 @@ module _ (s : List ℕ) (P : List Float) (H : List ℤ) (T N : List Float) (F : 
         P′ ≡ filled (f64Item s (bodyAt p n 3)) (3 * p) P →
         H′ ≡ filled (i32Item s (bodyAt p n 4)) (3 * n) H →
         T′ ≡ filled (f64Item s (bodyAt p n 5)) (4 * n) T →
-        listsOf P′ H′ T′ N F ≡ readLists (Input o p n) s (listsOf P H T N F)
+        listsOf H′ P′ N F T′ ≡ readLists (Input o p n) s (listsOf H P N F T)
     unfolding readLists ifSpread
     mesh-lists g P′ H′ T′ x y z =
         rw (ne-eqb o 2 g, ← filled-none (f64Item s (bodyAt p n 6)) N, ← filled-none (byteItem s (bodyAt p n 7)) F, x, y, z)

@@ -20,8 +20,8 @@ pub record Lists : Type 0 where
   pub normals : List Float
   pub flags : List ℕ
 
-abbrev pub listsOf : List Float → List ℤ → List Float → List Float → List ℕ → Lists
-listsOf P H T N F = record { positions = P; halfedges = H; tangents = T; normals = N; flags = F }
+abbrev pub listsOf : List ℤ → List Float → List Float → List ℕ → List Float → Lists
+listsOf H P N X T = record { positions = P; halfedges = H; tangents = T; normals = N; flags = X }
 
 -- so many, if the operation is spreading, which alone has point normals and flags
 unfoldable pub ifSpread : ℕ → ℕ → ℕ
@@ -38,27 +38,27 @@ hasRoom operation p n positions halfedges tangents normals flags =
 
 -- Have the lists room for the input? 2 where not, else 0. The lists of the program always have.
 abbrev pub roomRefusal : List ℕ → Lists → ℕ
-roomRefusal s L =
-    cond (hasRoom (operationIn s) (pointsIn s) (halfedgesIn s) (length (L .positions)) (length (L .halfedges)) (length (L .tangents)) (length (L .normals)) (length (L .flags))) 0 2
+roomRefusal s lists =
+    cond (hasRoom (operationIn s) (pointsIn s) (halfedgesIn s) (length (lists .positions)) (length (lists .halfedges)) (length (lists .tangents)) (length (lists .normals)) (length (lists .flags))) 0 2
 
 -- the first no of a reading: the room is asked about after the input, and has place 0
 unfoldable pub readRefusal : List ℕ → Lists → Refusal
-readRefusal s L = orElse (inputRefusal s .number) (inputRefusal s .place) (orElse (roomRefusal s L) 0 none)
+readRefusal s lists = orElse (inputRefusal s .number) (inputRefusal s .place) (orElse (roomRefusal s lists) 0 none)
 
 -- the answer of a reading
 unfoldable pub readAnswer : List ℕ → Lists → Parsed
-readAnswer s L = parsedOf (readRefusal s L) (operationIn s) (pointsIn s) (halfedgesIn s)
+readAnswer s lists = parsedOf (readRefusal s lists) (operationIn s) (pointsIn s) (halfedgesIn s)
 
 -- What the lists hold after that answer: the numbers of the input s in front and the rest as lent, or all as lent where it is a refusal.
 unfoldable pub readLists : Parsed → List ℕ → Lists → Lists
-readLists (Refused number place) s L = L
-readLists (Input operation p n) s L =
+readLists (Refused number place) s lists = lists
+readLists (Input operation p n) s lists =
     record {
-      positions = filled (f64Item s (bodyAt p n 3)) (3 * p) (L .positions);
-      halfedges = filled (i32Item s (bodyAt p n 4)) (3 * n) (L .halfedges);
-      tangents = filled (f64Item s (bodyAt p n 5)) (4 * n) (L .tangents);
-      normals = filled (f64Item s (bodyAt p n 6)) (ifSpread operation (3 * p)) (L .normals);
-      flags = filled (byteItem s (bodyAt p n 7)) (ifSpread operation n) (L .flags);
+      positions = filled (f64Item s (bodyAt p n 3)) (3 * p) (lists .positions);
+      halfedges = filled (i32Item s (bodyAt p n 4)) (3 * n) (lists .halfedges);
+      tangents = filled (f64Item s (bodyAt p n 5)) (4 * n) (lists .tangents);
+      normals = filled (f64Item s (bodyAt p n 6)) (ifSpread operation (3 * p)) (lists .normals);
+      flags = filled (byteItem s (bodyAt p n 7)) (ifSpread operation n) (lists .flags);
     }
 
 -- what the filling of the lists may take for granted: the counts fit their words, the bodies are in the input, and each list has its room

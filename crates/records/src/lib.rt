@@ -254,10 +254,10 @@ pub fn read_input(
     vn: &mut [f64],
     flags: &mut [u8],
 ) -> Parsed
-    ensures answer { λ r. ⌜ r ≡ readAnswer (now (input .entry)) (listsOf (now (pos .entry)) (now (h .entry)) (now (t .entry)) (now (vn .entry)) (now (flags .entry))) ⌝ }
-    ensures lists { λ r. ⌜ listsOf (now (pos .exit)) (now (h .exit)) (now (t .exit)) (now (vn .exit)) (now (flags .exit))
-        ≡ readLists r (now (input .entry)) (listsOf (now (pos .entry)) (now (h .entry)) (now (t .entry)) (now (vn .entry)) (now (flags .entry))) ⌝ }
-    ensures values { λ r. ⌜ Values (readRefusal (now (input .entry)) (listsOf (now (pos .entry)) (now (h .entry)) (now (t .entry)) (now (vn .entry)) (now (flags .entry)))) (operationIn (now (input .entry))) (pointsIn (now (input .entry))) (halfedgesIn (now (input .entry))) r ⌝ }
+    ensures answer { λ r. ⌜ r ≡ readAnswer (now (input .entry)) (listsOf (now (h .entry)) (now (pos .entry)) (now (vn .entry)) (now (flags .entry)) (now (t .entry))) ⌝ }
+    ensures lists { λ r. ⌜ listsOf (now (h .exit)) (now (pos .exit)) (now (vn .exit)) (now (flags .exit)) (now (t .exit))
+        ≡ readLists r (now (input .entry)) (listsOf (now (h .entry)) (now (pos .entry)) (now (vn .entry)) (now (flags .entry)) (now (t .entry))) ⌝ }
+    ensures values { λ r. ⌜ Values (readRefusal (now (input .entry)) (listsOf (now (h .entry)) (now (pos .entry)) (now (vn .entry)) (now (flags .entry)) (now (t .entry)))) (operationIn (now (input .entry))) (pointsIn (now (input .entry))) (halfedgesIn (now (input .entry))) r ⌝ }
 {
     let parsed = parse_input(input);
     let Parsed::Input {

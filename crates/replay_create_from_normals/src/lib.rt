@@ -1,10 +1,10 @@
 // A call of making from normals on the lists of a case.
 use replay_cases::Case;
+use replay_cases::ends_at;
 use replay_cases::float_part;
 use replay_cases::places;
+use replay_cases::same_scratch;
 use replay_cases::signed_part;
-use replay_makings::ends_at;
-use replay_makings::same_scratch;
 
 // Calls it with scratch lists of its own. Are the answer and the scratch lists those of the case? `none` is an empty list:
 // there is one list of halfedges less.
@@ -45,7 +45,7 @@ fn from_normals(
         first,
     );
     let scratch = same_scratch(c, fixed, inside, current, desired, first, none);
-    mesh::both(replay_cases::same_checked(checked, c), scratch)
+    common::both(replay_cases::same_checked(checked, c), scratch)
 }
 
 // The call, whose lists of floats are the parts of xs and whose lists of signed numbers are the parts of `is`. At s[at..]
@@ -78,5 +78,5 @@ pub fn agrees(
         halfedge_normals,
         t,
     );
-    mesh::both(same, replay::same_floats(s, at, t, t.len()))
+    common::both(same, replay::same_floats(s, at, t, t.len()))
 }

@@ -1,10 +1,10 @@
 // A call of making from sharp edges on the lists of a case.
 use replay_cases::Case;
+use replay_cases::ends_at;
 use replay_cases::float_part;
 use replay_cases::places;
+use replay_cases::same_scratch;
 use replay_cases::signed_part;
-use replay_makings::ends_at;
-use replay_makings::same_scratch;
 
 // Calls it with scratch lists of its own. Are the answer and the scratch lists those of the case?
 fn sharp(
@@ -47,7 +47,7 @@ fn sharp(
         link,
     );
     let scratch = same_scratch(c, fixed, flat, smooth, desired, halfedges, link);
-    mesh::both(replay_cases::same_checked(checked, c), scratch)
+    common::both(replay_cases::same_checked(checked, c), scratch)
 }
 
 // The call, whose lists of floats are the parts of xs and whose lists of signed numbers are the parts of `is`. At s[at..]
@@ -80,5 +80,5 @@ pub fn agrees(
         values,
         t,
     );
-    mesh::both(same, replay::same_floats(s, at, t, t.len()))
+    common::both(same, replay::same_floats(s, at, t, t.len()))
 }

@@ -1,4 +1,4 @@
--- An accepted mesh, with its flags and its points, has what crate `faces` asks for. Assumes nothing.
+-- An accepted mesh, with its flags and its points, has what crate `create_shared` asks for. Assumes nothing.
 use Prim.Native.Nat.{ℕ, _*_}
 use mathlib.Core.Path.{_≡_, refl, sym, ap, _∙_, subst}
 use mathlib.Core.List.{List}
@@ -12,8 +12,8 @@ use Rattle.mesh.specs.Check.{checkMesh}
 use Rattle.mesh.specs.declared.Checked.the-variants.{Accepted}
 use Rattle.mesh.proofs.Tests.{has-length}
 use Rattle.mesh.proofs.Accepted.{accepted}
-use Rattle.faces.specs.Lent.{VertsIn}
-use Rattle.faces.proofs.Lent.{verts-in, verts-still}
+use Rattle.create_shared.specs.Lent.{VertsIn}
+use Rattle.create_shared.proofs.Lent.{verts-in, verts-still}
 use Rattle.replay_mesh_faces.specs.Points.{Points}
 
 -- the points, in a list that has as many places as the points' own

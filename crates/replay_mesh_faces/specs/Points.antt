@@ -8,7 +8,7 @@ use Rattle.mesh.specs.Mesh.{halfedgeStride}
 use Rattle.mesh.specs.Sound.{Sound}
 
 -- an accepted mesh, with a flag for each halfedge and a number for each point
-pub record Points (H : List ℤ) (F E : List ℕ) (p : ℕ) : Type 0 where
+pub record Points (H : List ℤ) (F W : List ℕ) (p : ℕ) : Type 0 where
   pub sound : Sound H (length F) p
   pub whole : length H ≡ length F * halfedgeStride
-  pub points : length E ≡ p
+  pub points : length W ≡ p

@@ -1,6 +1,6 @@
 // Leaves over the faces of a mesh: `flat_faces`, `vert_flat_face` and `vert_halfedge`.
 ghost use Rattle.replay_mesh_faces.specs.Points.{Points};
-use faces::FlatFace;
+use create_shared::FlatFace;
 use mesh::Checked;
 use replay_cases::Case;
 use replay_cases::same_checked;
@@ -24,7 +24,7 @@ fn shifted(s: &[u8], at: usize) -> usize {
 fn same_faces(s: &[u8], at: usize, found: &[usize]) -> bool {
     let mut from = at;
     for v in 0..found.len() {
-        if face_number(faces::flat_face(found, v)) != shifted(s, from) {
+        if face_number(create_shared::flat_face(found, v)) != shifted(s, from) {
             return false;
         }
         from = replay::after(from, 4);
@@ -61,7 +61,7 @@ fn flat_all(
     requires { ⌜ Points (now h) (now flat) (now points) p ⌝ }
 {
     let triangles = flat.len() / 3;
-    faces::flat_faces(h, refs, flat);
+    create_shared::flat_faces(h, refs, flat);
     let from = replay::after(at, 4);
     if !replay::same_bytes(s, from, flat, triangles) {
         return false;
@@ -81,12 +81,12 @@ fn points_all(
 ) -> bool
     requires { ⌜ Points (now h) (now flat) (now points) p ⌝ }
 {
-    faces::vert_flat_face(h, refs, flat, points);
+    create_shared::vert_flat_face(h, refs, flat, points);
     if !same_faces(s, at, points) {
         return false;
     }
     let then = replay::after_fours(at, points.len());
-    faces::vert_halfedge(h, points, flat.len());
+    create_shared::vert_halfedge(h, points, flat.len());
     same_first(s, replay::after(then, 4), points, flat.len())
 }
 

@@ -1,4 +1,4 @@
--- What the replay of the leaves knows of a mesh once its questions are asked. H are the halfedges, P the positions, A the face normals, O the halfedges' own normals, T the tangents.
+-- What the replay of the leaves knows of a mesh once its questions are asked. H are the halfedges, P the positions, A the face normals, G the halfedges' own normals, T the tangents.
 use Prim.Native.Nat.{ℕ, _*_}
 use mathlib.Core.Path.{_≡_}
 use mathlib.Core.List.{List}
@@ -9,12 +9,12 @@ use Rattle.mesh.specs.Mesh.{halfedgeStride}
 use Rattle.mesh.specs.Sound.{Sound}
 
 -- for `tangent_from_normal`
-pub record NormalLists (H : List ℤ) (P A O : List Float) (n p : ℕ) : Type 0 where
+pub record NormalLists (H : List ℤ) (P A G : List Float) (n p : ℕ) : Type 0 where
   pub sound : Sound H n p
   pub whole : length H ≡ n * halfedgeStride
   pub positions : length P ≡ p * 3
   pub faces : length A ≡ n
-  pub normals : length O ≡ n * 3
+  pub normals : length G ≡ n * 3
 
 -- for `is_inside_quad` and `is_marked_inside_quad`
 pub record QuadLists (H : List ℤ) (T : List Float) (n p : ℕ) : Type 0 where

@@ -50,12 +50,12 @@ fn asked_tfn(
 ) -> bool {
     let n = c.n;
     let p = c.p;
-    let lengths = mesh::both(
-        mesh::both(
+    let lengths = common::both(
+        common::both(
             mesh::has_length(h.len(), n, mesh::HALFEDGE_STRIDE),
             mesh::has_length(pos.len(), p, 3),
         ),
-        mesh::both(
+        common::both(
             mesh::has_length(normals.len(), n, 1),
             mesh::has_length(own.len(), n, 3),
         ),
@@ -133,7 +133,7 @@ fn marked_all(s: &[u8], at: usize, h: &[i32], t: &[f64], n: usize, p: usize) -> 
 fn asked_quad(s: &[u8], at: usize, c: Case, h: &[i32], refs: &[i32], t: &[f64], old: bool) -> bool {
     let n = c.n;
     let p = c.p;
-    let lengths = mesh::both(
+    let lengths = common::both(
         mesh::has_length(h.len(), n, mesh::HALFEDGE_STRIDE),
         mesh::has_length(t.len(), n, 4),
     );

@@ -111,7 +111,7 @@ fn check_flags(s: &[u8], at: usize, c: Case, checked: Checked) -> Checked {
 
 pub fn questions(s: &[u8], op: usize, c: Case) -> bool {
     let l = lists_at(s, c.at);
-    let fit = mesh::both(shared_fit(s, c, l.halfedges), own_fit(s, op, c, l));
+    let fit = common::both(shared_fit(s, c, l.halfedges), own_fit(s, op, c, l));
     let checked = check_mesh(s, l.halfedges, c, fit);
     if op == 7 {
         return same_checked(check_flags(s, l.flags, c, checked), c);

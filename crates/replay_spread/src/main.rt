@@ -1,7 +1,7 @@
 // Replays the oracle's answers to spreading, read from standard input, and writes how many were compared and how many
 // differ. README.md beside src/ says what a case holds and how the file was made.
+use common::both;
 use distribute::Spreading;
-use mesh::both;
 use replay::Tally;
 use replay_cases::Case;
 use replay_cases::bytes;

@@ -1,8 +1,8 @@
 -- What a crease listing's entries are, by any rule for one edge: two for each edge that is listed, and nothing past them is written. Assumes nothing.
-use Prim.Native.Nat.{ℕ, zero, suc, _+_, _*_, _≤_}
+use Prim.Native.Nat.{ℕ, zero, suc, _*_, _≤_}
 use native.Mathlib.Nat.{le-refl}
 use native.Mathlib.Omega.{arith}
-use mathlib.Core.Path.{_≡_, refl, sym, _∙_}
+use mathlib.Core.Path.{_≡_, refl, _∙_}
 use mathlib.Core.List.{List}
 use mathlib.Core.Logic.{_≢_}
 use mathlib.Core.Bool.{Bool, true, false, cond}
@@ -12,14 +12,10 @@ use lib.IntN.{ℤ}
 use lib.Ieee.{Float, nan, ofBits, ne, lt}
 use Rattle.float.specs.Ops.{lit}
 use Rattle.float.specs.F64.{maxOf}
-use Rattle.mesh.specs.Fold.{foldTo}
-use Rattle.mesh.proofs.Fold.{fold-next, fold-keeps}
+use Rattle.common.specs.Fold.{foldTo}
+use Rattle.common.proofs.Fold.{fold-keeps}
 use Rattle.sharpen.specs.Crease.{minRadians}
 use Rattle.sharpen.specs.Entries.{Entries, entriesIn, pushEntry, pushEdge, listEdge, listEdges, countBelow}
-
--- one turn more of a loop, whose state so far is x
-pub fold-turn : {X : Type 0} (step : X → ℕ → X) (s x : X) (k : ℕ) → x ≡ foldTo step s k → step x k ≡ foldTo step s (k + 1)
-fold-turn step s x k e = rw e (sym (fold-next step s k))
 
 -- the places of s from its entries on are as in E and S
 abbrev pub Kept : List ℕ → List Float → Entries → Type 0

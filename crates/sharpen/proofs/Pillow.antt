@@ -12,7 +12,7 @@ use Rattle.math.specs.Acos.{acosBeyond, acosOf}
 use Rattle.linalg.specs.Vec.{dotOf}
 use Rattle.mesh.specs.Mesh.{numberAt, indexOf, field, nextHalfedge}
 use Rattle.mesh.specs.Lowest.{lowest}
-use Rattle.mesh.specs.Fold.{foldTo}
+use Rattle.common.specs.Fold.{foldTo}
 use Rattle.mesh.specs.Scalar.{radiansOf}
 use Rattle.mesh.specs.Check.{checkMesh}
 use Rattle.smoothing.specs.Lists.{pointAt}

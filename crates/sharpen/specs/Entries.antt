@@ -6,7 +6,7 @@ use lib.ListN.{set}
 use lib.IntN.{ℤ}
 use lib.Ieee.{Float}
 use Rattle.mesh.specs.Mesh.{pairedHalfedge}
-use Rattle.mesh.specs.Fold.{foldTo}
+use Rattle.common.specs.Fold.{foldTo}
 
 -- the lists, and the number of entries so far
 pub record Entries : Type 0 where
@@ -15,7 +15,7 @@ pub record Entries : Type 0 where
   pub count : ℕ
 
 abbrev pub entriesIn : List ℕ → List Float → ℕ → Entries
-entriesIn E S k = record { halfedges = E; smoothness = S; count = k }
+entriesIn I Q k = record { halfedges = I; smoothness = Q; count = k }
 
 -- `out.push(Smoothness { halfedge, smoothness })`: the entry at the next place
 unfoldable pub pushEntry : Entries → ℕ → Float → Entries

@@ -1,4 +1,4 @@
--- The crease listing as a public call: its questions, its answer, and the lists after it. H are the halfedges, A the face normals, E and S the two lent lists, n and p the counts.
+-- The crease listing as a public call: its questions, its answer, and the lists after it. H are the halfedges, A the face normals, I and Q the two lent lists, n and p the counts.
 use Prim.Native.Nat.{ℕ, _+_, _*_, _/_, _≤_}
 use mathlib.Core.Path.{_≡_}
 use mathlib.Core.List.{List}
@@ -43,33 +43,33 @@ tallyOf (RefusedListing number place) = 0
 
 -- question 2 of the lists that the call is lent
 abbrev pub lengthsFit : List ℤ → List Float → List ℕ → List Float → ℕ → Bool
-lengthsFit H A E S n =
+lengthsFit H A I Q n =
     hasLength (length H) n halfedgeStride && hasLength (length A) (n / 3) 3
-    && (hasLength (length E) n 1 && hasLength (length S) n 1)
+    && (hasLength (length I) n 1 && hasLength (length Q) n 1)
 
 -- questions 1 to 7
 abbrev pub checkLists : List ℤ → List Float → List ℕ → List Float → ℕ → ℕ → Checked
-checkLists H A E S n p = checkMesh H n p (lengthsFit H A E S n)
+checkLists H A I Q n p = checkMesh H n p (lengthsFit H A I Q n)
 
 -- what they establish
-pub record Lists (H : List ℤ) (A : List Float) (E : List ℕ) (S : List Float) (n p : ℕ) : Type 0 where
+pub record Lists (H : List ℤ) (A : List Float) (I : List ℕ) (Q : List Float) (n p : ℕ) : Type 0 where
   pub sound : Sound H n p
   pub whole : length H ≡ n * halfedgeStride
   pub normals : length A ≡ n / 3 * 3
-  pub halfedges : length E ≡ n
-  pub smoothness : length S ≡ n
+  pub halfedges : length I ≡ n
+  pub smoothness : length Q ≡ n
 
 -- what one turn of the loop needs, after k entries: normals at halfedge e, and room for two entries more where its edge is listed
-pub record EdgeFits (H : List ℤ) (A : List Float) (limit : Float) (e k : ℕ) (E : List ℕ) (S : List Float) : Type 0 where
+pub record EdgeFits (H : List ℤ) (A : List Float) (limit : Float) (e k : ℕ) (I : List ℕ) (Q : List Float) : Type 0 where
   pub normals : NormalsIn H A e
-  pub halfedges : isCrease H A limit e ≡ true → k + 2 ≤ length E
-  pub smoothness : isCrease H A limit e ≡ true → k + 2 ≤ length S
+  pub halfedges : isCrease H A limit e ≡ true → k + 2 ≤ length I
+  pub smoothness : isCrease H A limit e ≡ true → k + 2 ≤ length Q
 
 -- ---- the call
 
 -- the lists with the entries of an accepted mesh
 abbrev pub creases : List ℤ → List Float → Float → Float → List ℕ → List Float → ℕ → Entries
-creases H A angle smooth E S n = listEdges H (isCrease H A (minRadians angle)) smooth (entriesIn E S 0) n
+creases H A angle smooth I Q n = listEdges H (isCrease H A (minRadians angle)) smooth (entriesIn I Q 0) n
 
 -- the crease tally: the number of edges that are listed
 abbrev pub creaseTally : List ℤ → List Float → Float → ℕ → ℕ
@@ -81,11 +81,11 @@ answerOf (Refused number place) entries tally = RefusedListing number place
 
 -- the answer of `sharpen_edges`
 abbrev pub sharpenEdges : List ℤ → List Float → Float → Float → List ℕ → List Float → ℕ → ℕ → Listing
-sharpenEdges H A angle smooth E S n p = answerOf (checkLists H A E S n p) (creases H A angle smooth E S n .count) (creaseTally H A angle n)
+sharpenEdges H A angle smooth I Q n p = answerOf (checkLists H A I Q n p) (creases H A angle smooth I Q n .count) (creaseTally H A angle n)
 
 -- the lists after it: as lent where it refuses
 abbrev pub entriesAfter : List ℤ → List Float → Float → Float → List ℕ → List Float → ℕ → ℕ → Entries
-entriesAfter H A angle smooth E S n p = whenAccepted (checkLists H A E S n p) (creases H A angle smooth E S n) (entriesIn E S 0)
+entriesAfter H A angle smooth I Q n p = whenAccepted (checkLists H A I Q n p) (creases H A angle smooth I Q n) (entriesIn I Q 0)
 
 -- what the definitions give of an answer `r`, after the answer `checked` of the questions, where `listed` are the entries of the listing and `edges` is its tally: number, place, entries and tally; and that the tally is half of the entries
 pub record Values (checked : Checked) (listed : Entries) (edges : ℕ) (r : Listing) : Type 0 where

@@ -167,12 +167,12 @@ fn lengths_fit(
 ) -> bool
     ensures { λ r. ⌜ r ≡ lengthsFit (now (h .entry)) (now (normals .entry)) (now (halfedges .entry)) (now (smoothness .entry)) n ⌝ }
 {
-    mesh::both(
-        mesh::both(
+    common::both(
+        common::both(
             mesh::has_length(h.len(), n, mesh::HALFEDGE_STRIDE),
             mesh::has_length(normals.len(), n / 3, 3),
         ),
-        mesh::both(
+        common::both(
             mesh::has_length(halfedges.len(), n, 1),
             mesh::has_length(smoothness.len(), n, 1),
         ),

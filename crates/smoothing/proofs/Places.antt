@@ -10,7 +10,7 @@ use lib.IntN.{ℤ}
 use lib.Dec.{eqb}
 use lib.Ieee.{Float}
 use Rattle.mesh.specs.Mesh.{pairedHalfedge, isForward}
-use Rattle.mesh.specs.Fold.{foldTo}
+use Rattle.common.specs.Fold.{foldTo}
 use Rattle.mesh.specs.Sound.{Sound}
 use Rattle.mesh.proofs.Pairs.{one-forward}
 use Rattle.smoothing.specs.Lists.{tangentAt, putTangent}

@@ -10,12 +10,12 @@ use borrow.Author.Tests.{not-true}
 use lib.IntN.{ℤ}
 use lib.Ieee.{Float}
 use Rattle.mesh.specs.Mesh.{pairedHalfedge, nextHalfedge, prevHalfedge}
-use Rattle.mesh.specs.Fold.{foldTo}
+use Rattle.common.specs.Fold.{foldTo}
 use Rattle.mesh.specs.Sound.{Sound}
 use Rattle.mesh.specs.declared.Checked.{Checked}
 use Rattle.mesh.specs.declared.Checked.the-variants.{Accepted, Refused}
 use Rattle.mesh.proofs.Tests.{and-true}
-use Rattle.mesh.proofs.Fold.{fold-next}
+use Rattle.common.proofs.Fold.{fold-next}
 use Rattle.mesh.proofs.Accepted.{inside}
 use Rattle.mesh.proofs.Halfedges.{next-cases, prev-is}
 use Rattle.smoothing.specs.Lists.{isMarkedInsideQuad}

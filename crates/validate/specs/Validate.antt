@@ -10,7 +10,7 @@ use Rattle.mesh.specs.Mesh.{halfedgeStride, pairedHalfedge, nextHalfedge, prevH
 use Rattle.mesh.specs.Questions.{hasLength}
 use Rattle.mesh.specs.Check as mesh
 use Rattle.mesh.specs.Check.{checkMesh, whenAccepted}
-use Rattle.mesh.specs.Fold.{foldTo}
+use Rattle.common.specs.Fold.{foldTo}
 use Rattle.mesh.specs.declared.Checked.{Checked}
 use Rattle.mesh.specs.declared.Checked.the-variants.{Accepted, Refused as CheckRefused}
 use Rattle.smoothing.specs.Lists.{isMarkedInsideQuad}

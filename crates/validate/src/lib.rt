@@ -6,7 +6,7 @@ ghost use Prim.Native.Nat.{_*_};
 ghost use lib.ListN.{length};
 ghost use Rattle.mesh.specs.Mesh.{halfedgeStride};
 ghost use Rattle.mesh.specs.Check.{checkMesh};
-ghost use Rattle.mesh.specs.Fold.{foldTo};
+ghost use Rattle.common.specs.Fold.{foldTo};
 ghost use Rattle.mesh.specs.Sound.{Sound};
 ghost use Rattle.validate.specs.Validate.{validSoFar, validTangents, lengthsFit, validAnswer, numberOf, placeOf, valueOf, Values};
 ghost use Rattle.validate.specs.Marks.{markValid, triangleValid, MarkIn, TriangleIn, Lists};
@@ -113,7 +113,7 @@ fn marks_valid(n: usize, p: usize, h: &[i32], t: &[f64]) -> bool
 fn lengths_fit(n: usize, p: usize, h: &[i32], pos: &[f64]) -> bool
     ensures { λ r. ⌜ r ≡ lengthsFit (now (h .entry)) (now (pos .entry)) n p ⌝ }
 {
-    mesh::both(
+    common::both(
         mesh::has_length(h.len(), n, mesh::HALFEDGE_STRIDE),
         mesh::has_length(pos.len(), p, 3),
     )

@@ -2,9 +2,9 @@
 use mathlib.Core.Path.{_≡_, refl, sym, subst, _∙_}
 use denote.Ref.{now}
 use Rattle.mesh.proofs.Values.{values-same}
-use Rattle.entries.specs.Entries.{entriesOf}
-use Rattle.entries.specs.EntrySmoothness.{EntriesIn}
-use Rattle.entries.proofs.Flat.{flat-entries-in}
+use Rattle.create_smoothness.specs.Entries.{entriesOf}
+use Rattle.create_smoothness.specs.EntrySmoothness.{EntriesIn}
+use Rattle.create_smoothness.proofs.Flat.{flat-entries-in}
 use Rattle.create.specs.Create.{checkLists}
 use Rattle.create.proofs.Accepted.{AcceptedLists, accepted-lists, made}
 use Rattle.create.proofs.create_tangents.Statement.{statement}

@@ -3,7 +3,7 @@ use Rattle.create_core.proofs.clear_scratch.Statement.{statement}
 use Rattle.create_core.proofs.clear_scratch.Tie as tie
 
 returns : tie.Need-returns
-returns c = (c .before .before .before .before .before .before .before .before .before .before .before .before .before .before .fill-bytes .ensures, (c .before .before .before .before .before .before .before .before .before .before .fill-bytes2 .ensures, (c .before .before .before .before .before .before .fill .ensures, c .before .before .fill2 .ensures)))
+returns c = (c .before .before .before .before .before .before .before .before .before .before .before .before .before .before .fill-bytes .ensures, (c .before .before .before .before .before .before .before .before .before .before .fill-bytes2 .ensures, (c .before .before .before .before .before .before .fill-numbers .ensures, c .before .before .fill-numbers2 .ensures)))
 
 pub clear-scratch-spec : {M : Type 1} → statement M
 clear-scratch-spec =
@@ -15,6 +15,6 @@ clear-scratch-spec =
     (λ c κs. tt)
     (λ c. c .before .before .before .before .before .before .before .before .before .before .before .before .before .before .fill-bytes .kept .0)
     (λ c. c .before .before .before .before .before .before .before .before .before .before .fill-bytes2 .kept .0)
-    (λ c. c .before .before .before .before .before .before .fill .kept .0)
-    (λ c. c .before .before .fill2 .kept .0)
+    (λ c. c .before .before .before .before .before .before .fill-numbers .kept .0)
+    (λ c. c .before .before .fill-numbers2 .kept .0)
     returns)

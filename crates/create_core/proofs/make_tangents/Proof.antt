@@ -2,7 +2,7 @@
 use mathlib.Core.Path.{_∙_}
 use denote.Ref.{now}
 use Rattle.create_core.proofs.Lent.{spread-in}
-use Rattle.distribute.proofs.Cleared.{cleared}
+use Rattle.common.proofs.Filled.{cleared}
 use Rattle.create_core.proofs.Core.{created}
 use Rattle.create_core.proofs.make_tangents.Statement.{statement}
 use Rattle.create_core.proofs.make_tangents.Tie as tie

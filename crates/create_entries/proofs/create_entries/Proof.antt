@@ -54,24 +54,24 @@ use Rattle.mesh.specs.declared.Checked.the-variants.{Accepted, Refused}
 use Rattle.mesh.proofs.Values.{values-same}
 use Rattle.mesh.proofs.Checked as Ch
 use Rattle.mesh.proofs.Checked.Laws as Ch′
-use Rattle.entries.specs.Questions.{passedOf}
-use Rattle.entries.specs.EntrySmoothness.{EntriesIn, entrySmoothness}
-use Rattle.entries.specs.declared.Smoothness.{Smoothness}
-use Rattle.entries.specs.declared.Passed.{Passed}
-use Rattle.entries.proofs.Again.{LentAgain, lends-again, comes-back, gives-up}
-use Rattle.entries.proofs.Steps.{ungroup, flat, tree, twice-both, lengths-said, Lengths-are, alone, hears-lengths, numbers, owns-numbers, also, says-and, hears-and, plus-nothing, plus-fact}
-use Rattle.entries.proofs.Frame.{Cmd, len, lend, Declared, Frame, is-slice, some-slice, after, stored, allocs-frame, passes-frame, frees-frame, holds, piece, keeps, args, lands-frame, does}
-use Rattle.entries.proofs.Smoothness as S
-use Rattle.entries.proofs.Passed as Pa
-use Rattle.entries.proofs.Passed.Laws as Pa′
-use Rattle.entries.proofs.scan as f-scan
-use Rattle.entries.proofs.scan.Symbol as scan-def
-use Rattle.entries.proofs.scan.Symbol.{name as #scan}
-use Rattle.entries.proofs.scan.Met as scan-thm
-use Rattle.entries.proofs.sharp_smoothness as f-smooth
-use Rattle.entries.proofs.sharp_smoothness.Symbol as smooth-def
-use Rattle.entries.proofs.sharp_smoothness.Symbol.{name as #sharp-smoothness}
-use Rattle.entries.proofs.sharp_smoothness.Met as smooth-thm
+use Rattle.create_smoothness.specs.Questions.{passedOf}
+use Rattle.create_smoothness.specs.EntrySmoothness.{EntriesIn, entrySmoothness}
+use Rattle.create_smoothness.specs.declared.Smoothness.{Smoothness}
+use Rattle.create_smoothness.specs.declared.Passed.{Passed}
+use Rattle.create_smoothness.proofs.Again.{LentAgain, lends-again, comes-back, gives-up}
+use Rattle.create_smoothness.proofs.Steps.{ungroup, flat, tree, twice-both, lengths-said, Lengths-are, alone, hears-lengths, numbers, owns-numbers, also, says-and, hears-and, plus-nothing, plus-fact}
+use Rattle.create_smoothness.proofs.Frame.{Cmd, len, lend, Declared, Frame, is-slice, some-slice, after, stored, allocs-frame, passes-frame, frees-frame, holds, piece, keeps, args, lands-frame, does}
+use Rattle.create_smoothness.proofs.Smoothness as S
+use Rattle.create_smoothness.proofs.Passed as Pa
+use Rattle.create_smoothness.proofs.Passed.Laws as Pa′
+use Rattle.create_smoothness.proofs.scan as f-scan
+use Rattle.create_smoothness.proofs.scan.Symbol as scan-def
+use Rattle.create_smoothness.proofs.scan.Symbol.{name as #scan}
+use Rattle.create_smoothness.proofs.scan.Met as scan-thm
+use Rattle.create_smoothness.proofs.sharp_smoothness as f-smooth
+use Rattle.create_smoothness.proofs.sharp_smoothness.Symbol as smooth-def
+use Rattle.create_smoothness.proofs.sharp_smoothness.Symbol.{name as #sharp-smoothness}
+use Rattle.create_smoothness.proofs.sharp_smoothness.Met as smooth-thm
 use Rattle.create_core.specs.Filled.{Lists}
 use Rattle.create_core.specs.Filled.{createFilled}
 use Rattle.create_core.proofs.make_tangents as f-make
@@ -498,7 +498,7 @@ create-entries-spec 𝓤 H 𝓜 𝓖 𝓡 =
     entered 𝓤 H (tripleOf 𝓤 H (𝓖 .A) f.signature (f.spec 𝓤 H (𝓖 .A) (𝓜 .mem) (𝓡 .run)))
     (tables 𝓤 H 𝓜 𝓡 code.env .C) (tables 𝓤 H 𝓜 𝓡 code.env .Λ) #create-entries code.function (code.unfolded 𝓤 H 𝓜 𝓡)
     (create-entries-meets 𝓤 H (𝓖 .A) (givenOf 𝓤 H 𝓜 𝓖) (𝓜 .mem) (𝓡 .run) (tablesOf 𝓤 H 𝓜 (tables 𝓤 H 𝓜 𝓡 code.env))
-    (cited 𝓤 H (Scan 𝓤 H (𝓖 .A) (𝓜 .mem) (𝓡 .run)) 𝓜 𝓡 code.env #scan scan-def.routine code.calls-entries·scan (scan-thm.met 𝓤 H 𝓜 𝓖 𝓡))
+    (cited 𝓤 H (Scan 𝓤 H (𝓖 .A) (𝓜 .mem) (𝓡 .run)) 𝓜 𝓡 code.env #scan scan-def.routine code.calls-create-smoothness·scan (scan-thm.met 𝓤 H 𝓜 𝓖 𝓡))
     (cited 𝓤 H (Check 𝓤 H (𝓖 .A) (𝓜 .mem) (𝓡 .run)) 𝓜 𝓡 code.env #check-lists check-def.routine code.calls-create-entries·check-lists (check-thm.met 𝓤 H 𝓜 𝓖 𝓡))
-    (cited 𝓤 H (Smooth 𝓤 H (𝓖 .A) (𝓜 .mem) (𝓡 .run)) 𝓜 𝓡 code.env #sharp-smoothness smooth-def.routine code.calls-entries·sharp-smoothness (smooth-thm.met 𝓤 H 𝓜 𝓖 𝓡))
+    (cited 𝓤 H (Smooth 𝓤 H (𝓖 .A) (𝓜 .mem) (𝓡 .run)) 𝓜 𝓡 code.env #sharp-smoothness smooth-def.routine code.calls-create-smoothness·sharp-smoothness (smooth-thm.met 𝓤 H 𝓜 𝓖 𝓡))
     (cited 𝓤 H (Make 𝓤 H (𝓖 .A) (𝓜 .mem) (𝓡 .run)) 𝓜 𝓡 code.env #make-tangents make-def.routine code.calls-create-core·make-tangents (make-thm.met 𝓤 H 𝓜 𝓖 𝓡)))

@@ -1,7 +1,7 @@
 -- `distribute::spread_tangents` meets its contract: three calls in a row. Assumes nothing.
 use mathlib.Core.Path.{_∙_}
 use Rattle.float.specs.Ops.{zero}
-use Rattle.distribute.proofs.Cleared.{cleared}
+use Rattle.common.proofs.Filled.{cleared}
 use Rattle.distribute.proofs.spread_tangents.Statement.{statement}
 use Rattle.distribute.proofs.spread_tangents.Tie as tie
 
@@ -12,10 +12,10 @@ same-length : tie.Need-same-length
 same-length c = c .before .before .before .before .before .before .before .before .before .before .before .before .before .before .spread-all .kept .1 .1 .1 .1 .1 .1 .0
 
 same-length-2 : tie.Need-same-length-2
-same-length-2 c = c .before .before .before .before .before .before .clear .kept .0 ∙ c .before .before .before .before .before .before .before .before .before .before .before .before .before .before .spread-all .kept .1 .1 .1 .1 .1 .1 .1 .0
+same-length-2 c = c .before .before .before .before .before .before .fill-floats .kept .0 ∙ c .before .before .before .before .before .before .before .before .before .before .before .before .before .before .spread-all .kept .1 .1 .1 .1 .1 .1 .1 .0
 
 same-length-3 : tie.Need-same-length-3
-same-length-3 c = c .before .before .clear2 .kept .0 ∙ c .before .before .before .before .before .before .before .before .before .before .before .before .before .before .spread-all .kept .1 .1 .1 .1 .1 .1 .1 .1 .0
+same-length-3 c = c .before .before .fill-floats2 .kept .0 ∙ c .before .before .before .before .before .before .before .before .before .before .before .before .before .before .spread-all .kept .1 .1 .1 .1 .1 .1 .1 .1 .0
 
 returns : tie.Need-returns
 returns c =
@@ -23,8 +23,8 @@ returns c =
     let w = c .before .before .before .before .before .before .before .before .before .before .before .before .before .before .before .before .before .before .before .before .before .before .before .before .pre in (
       s .ensures,
       (
-        cleared _ zero _ _ (c .before .before .before .before .before .before .clear .ensures) (s .kept .1 .1 .1 .1 .1 .1 .1 .0 ∙ w .current),
-        cleared _ zero _ _ (c .before .before .clear2 .ensures) (s .kept .1 .1 .1 .1 .1 .1 .1 .1 .0 ∙ w .desired),
+        cleared _ zero _ _ (c .before .before .before .before .before .before .fill-floats .ensures) (s .kept .1 .1 .1 .1 .1 .1 .1 .0 ∙ w .current),
+        cleared _ zero _ _ (c .before .before .fill-floats2 .ensures) (s .kept .1 .1 .1 .1 .1 .1 .1 .1 .0 ∙ w .desired),
       ),
     )
 

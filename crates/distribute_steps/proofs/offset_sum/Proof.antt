@@ -2,7 +2,7 @@
 use mathlib.Core.Path.{_≡_, sym}
 use Prim.Native.Nat.{_-_, _≤_}
 use native.Mathlib.Omega.{arith}
-use Rattle.mesh.proofs.Fold.{fold-none, fold-next}
+use Rattle.common.proofs.Fold.{fold-none, fold-next}
 use Rattle.distribute_steps.specs.FloatSteps.{offsetSum}
 use Rattle.distribute_steps.proofs.offset_sum.Statement.{statement}
 use Rattle.distribute_steps.proofs.offset_sum.Tie as tie

@@ -5,9 +5,9 @@ use native.Mathlib.Omega.{arith}
 use lib.ListN.{length}
 use denote.Ref.{now}
 use Rattle.mesh.proofs.Accepted.{inside}
-use Rattle.spread.specs.Steps.{Lawful}
+use Rattle.distribute_spread.specs.Steps.{Lawful}
 use Rattle.smoothing.specs.Lists.{tangentAt}
-use Rattle.spread.proofs.Loops.{firstLeft, first-below}
+use Rattle.distribute_spread.proofs.Loops.{firstLeft, first-below}
 use Rattle.distribute_steps.specs.FloatSteps.{begin, floatSteps}
 use Rattle.distribute_steps.specs.Scratch.{gatheredOf}
 use Rattle.distribute_steps.proofs.Angles.{begin-directions}

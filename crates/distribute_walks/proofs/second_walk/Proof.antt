@@ -10,7 +10,7 @@ use Rattle.mesh.specs.Sound.{Sound}
 use Rattle.mesh.proofs.Accepted.{inside}
 use Rattle.cycles.specs.Cycles.{nextAround}
 use Rattle.cycles.proofs.Paths.{stepsLeft}
-use Rattle.spread.proofs.Loops.{second-below, index-below}
+use Rattle.distribute_spread.proofs.Loops.{second-below, index-below}
 use Rattle.distribute_steps.specs.FloatSteps.{isFixed}
 use Rattle.distribute_steps.specs.Scratch.{planOf}
 use Rattle.distribute_walks.specs.declared.Counts.{Counts}

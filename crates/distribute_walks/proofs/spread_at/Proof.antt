@@ -6,8 +6,8 @@ use borrow.Author.Tests.{not-true, not-false}
 use lib.Seq.{length-take-le}
 use lib.Ieee.{Float}
 use denote.Ref.{now}
-use Rattle.spread.specs.Steps.{Steps}
-use Rattle.spread.specs.Spread.{Found}
+use Rattle.distribute_spread.specs.Steps.{Steps}
+use Rattle.distribute_spread.specs.Spread.{Found}
 use Rattle.distribute_steps.specs.FloatSteps.{floatSteps}
 use Rattle.distribute_walks.specs.Walks.{foundOf}
 use Rattle.distribute_walks.specs.declared.Ended.{Ended}

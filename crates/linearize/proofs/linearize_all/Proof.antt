@@ -3,8 +3,8 @@ use Prim.Native.Nat.{_-_, _≤_}
 use native.Mathlib.Omega.{arith}
 use mathlib.Core.Path.{_≡_, refl, sym, _∙_}
 use lib.ListN.{length}
-use Rattle.mesh.specs.Fold.{foldTo}
-use Rattle.mesh.proofs.Fold.{fold-none, fold-next}
+use Rattle.common.specs.Fold.{foldTo}
+use Rattle.common.proofs.Fold.{fold-none, fold-next}
 use Rattle.smoothing.proofs.Edges.{edge-in, quad-in}
 use Rattle.linearize.specs.Linearize.{linearizeAt, linearizeFlatTangents}
 use Rattle.linearize.proofs.linearize_all.Statement.{statement}

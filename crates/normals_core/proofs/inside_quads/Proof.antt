@@ -3,9 +3,8 @@ use Prim.Native.Nat.{_≤_, _-_}
 use native.Mathlib.Omega.{arith}
 use mathlib.Core.Path.{_≡_, refl, sym, _∙_}
 use lib.ListN.{length}
-use Rattle.mesh.specs.Fold.{foldTo}
-use Rattle.mesh.proofs.Fold.{fold-none}
-use Rattle.faces.proofs.Loops.{fold-turn}
+use Rattle.common.specs.Fold.{foldTo}
+use Rattle.common.proofs.Fold.{fold-none, fold-turn}
 use Rattle.normals_core.specs.Flags.{insideQuadStep}
 use Rattle.normals_core.proofs.Flags.{inside-ended}
 use Rattle.normals_core.proofs.Lent.{flag-in}

@@ -1,6 +1,6 @@
 -- `normals_core::make_tangents` meets its contract: four calls in a row. Assumes nothing.
 use mathlib.Core.Path.{_∙_}
-use Rattle.distribute.proofs.Cleared.{cleared}
+use Rattle.common.proofs.Filled.{cleared}
 use Rattle.normals_state.proofs.Units.{units-in}
 use Rattle.normals_core.proofs.Core.{created}
 use Rattle.normals_core.proofs.Lent.{spread-in}

@@ -1,7 +1,7 @@
 -- `normals_steps::normal_step` meets its contract: each way is what the test picks. Assumes nothing.
 use native.Mathlib.Omega.{arith}
 use mathlib.Core.Path.{refl}
-use Rattle.makings.proofs.Makings.{tangent-in}
+use Rattle.create_shared.proofs.Makings.{tangent-in}
 use Rattle.normals_state.specs.Packed.{stateOf}
 use Rattle.normals_steps.specs.Carried.{normalStepOf}
 use Rattle.normals_steps.proofs.normal_step.Statement.{statement}

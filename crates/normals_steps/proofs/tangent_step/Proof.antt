@@ -2,7 +2,7 @@
 use native.Mathlib.Omega.{arith}
 use mathlib.Core.Path.{refl}
 use Rattle.smoothing.proofs.Edges.{faces-in}
-use Rattle.makings.proofs.Makings.{tangent-in}
+use Rattle.create_shared.proofs.Makings.{tangent-in}
 use Rattle.normals_steps.specs.Carried.{tangentStepOf}
 use borrow.Author.Needs.{needs}
 use Rattle.normals_steps.proofs.tangent_step.Statement.{statement}

@@ -2,10 +2,9 @@
 use Rattle.normals_walks.specs.Walks.{normalsVert, normalsVerts}
 use Rattle.normals_walks.proofs.Lent.{verts-still}
 use Rattle.normals_steps.specs.Carried.{isInside}
-use Rattle.makings.specs.Makings.{tangentsOf}
-use Rattle.mesh.proofs.Fold.{fold-none}
-use Rattle.faces.proofs.Loops.{fold-turn}
-use Rattle.mesh.specs.Fold.{foldTo}
+use Rattle.create_shared.specs.Makings.{tangentsOf}
+use Rattle.common.proofs.Fold.{fold-none, fold-turn}
+use Rattle.common.specs.Fold.{foldTo}
 use lib.ListN.{length}
 use native.Mathlib.Omega.{arith}
 use mathlib.Core.Path.{_≡_, refl, sym, _∙_}

@@ -2,7 +2,7 @@
 use Rattle.normals_walks.specs.Walks.{vertNormalWalk}
 use Rattle.normals_steps.specs.Steps.{vertNormalStep}
 use Rattle.smoothing.proofs.Edges.{faces-in}
-use Rattle.makings.proofs.Makings.{tangent-in}
+use Rattle.create_shared.proofs.Makings.{tangent-in}
 use Rattle.mesh.proofs.Accepted.{inside}
 use Rattle.cycles.proofs.Around.{next-permutes}
 use Rattle.cycles.proofs.Loops.{Walking, around-start, around-step, around-less, around-fold-step, around-fold-stop}

@@ -16,7 +16,7 @@ enum-known-operation c = search needs
 reading : (k : tie.After-read-input) →
     let a = k .before .before .before .before .before .before .before .before .before .before .before .before .before .args in
     let r = k .read-input in
-    Reading (a .input .now) (listsOf (a .pos .now) (a .h .now) (a .t .now) (a .normals .now) (a .flags .now)) (listsOf (r .last .1 .0) (r .last .1 .1 .0) (r .last .1 .1 .1 .0) (r .last .1 .1 .1 .1 .0) (r .last .1 .1 .1 .1 .1 .0)) (r .result)
+    Reading (a .input .now) (listsOf (a .h .now) (a .pos .now) (a .normals .now) (a .flags .now) (a .t .now)) (listsOf (r .last .1 .1 .0) (r .last .1 .0) (r .last .1 .1 .1 .1 .0) (r .last .1 .1 .1 .1 .1 .0) (r .last .1 .1 .1 .0)) (r .result)
 reading k =
     let h = k .before .before .before .before .before .before .before .before .before .before .before .before .before .pre in
     record {

@@ -20,7 +20,7 @@ enum-told c = search needs
 returns : tie.Need-returns
 returns c =
     let a = c .before .before .before .before .before .before .before .before .args in
-    let L = listsOf (a .pos .now) (a .h .now) (a .t .now) (a .vn .now) (a .flags .now) in
+    let L = listsOf (a .h .now) (a .pos .now) (a .vn .now) (a .flags .now) (a .t .now) in
     let r = c .before .before .parse-input in
     let g = c .enum-told .given in
     let e = goes-back (a .input .now) L (r .result) (g .0 .0) (g .0 .1 .0) (r .ensures) (g .1) in
@@ -36,7 +36,7 @@ returns-2 c =
     let a = c .before .before .before .before .before .before .before .before .before .before .before .args in
     let g = c .before .before .before .parsed .given in
     let e = no-room (a .input .now) (a .pos .now) (a .h .now) (a .t .now) (a .vn .now) (a .flags .now) (g .0 .0) (g .0 .1 .0) (g .0 .1 .1 .0) (sym (g .1) ∙ c .before .before .before .before .before .parse-input .ensures) (c .before .has-room .result) (c .before .has-room .ensures) (not-true _ (c .if1 .taken)) in
-    (e, (as-lent (a .input .now) (listsOf (a .pos .now) (a .h .now) (a .t .now) (a .vn .now) (a .flags .now)) 2 0, read-values _ _ _ e))
+    (e, (as-lent (a .input .now) (listsOf (a .h .now) (a .pos .now) (a .vn .now) (a .flags .now) (a .t .now)) 2 0, read-values _ _ _ e))
 
 fill-mesh-requires : tie.Need-fill-mesh-requires
 fill-mesh-requires c κs =

@@ -1,5 +1,5 @@
 -- `replay_mesh_faces::flat_all` is safe and ends: the flags keep their number. Assumes nothing.
-use Rattle.faces.proofs.Lent.{flat-in}
+use Rattle.create_shared.proofs.Lent.{flat-in}
 use Rattle.replay_mesh_faces.proofs.Lent.{points-still}
 use borrow.Author.Needs.{needs}
 use Rattle.replay_mesh_faces.proofs.flat_all.Statement.{statement}

@@ -4,10 +4,10 @@ use native.Mathlib.Omega.{arith}
 use mathlib.Core.Path.{_≡_, refl, sym, ap, _∙_}
 use lib.ListN.{length}
 use denote.Ref.{now}
-use Rattle.mesh.proofs.Fold.{fold-none}
+use Rattle.common.proofs.Fold.{fold-none, fold-turn}
 use Rattle.sharpen.specs.Crease.{isCrease}
 use Rattle.sharpen.specs.Entries.{Entries, entriesIn, listEdges}
-use Rattle.sharpen.proofs.Listed.{fold-turn, entries-twice}
+use Rattle.sharpen.proofs.Listed.{entries-twice}
 use Rattle.sharpen.proofs.Room.{edge-fits}
 use Rattle.sharpen.proofs.list_edges.Statement.{statement}
 use Rattle.sharpen.proofs.list_edges.Tie as tie
@@ -42,7 +42,7 @@ loop-again c =
       omega arith,
       kept .0 ∙ l .inv .1,
       kept .1 .0 ∙ l .inv .2,
-      r .list-edge .ensures ∙ fold-turn _ _ _ _ (l .inv .3),
+      fold-turn _ _ _ _ _ (l .inv .3) (r .list-edge .ensures),
     )
 
 returns : tie.Need-returns Inv-loop μ-loop

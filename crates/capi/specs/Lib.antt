@@ -1,2 +1,0 @@
--- The specs of `capi`.
-pub mod Answers

@@ -1,0 +1,3 @@
+-- The laws of `common`, all for the crates above.
+pub mod Fold
+pub mod Filled

@@ -1,0 +1,2 @@
+-- The specs of `common`.
+pub mod Fold

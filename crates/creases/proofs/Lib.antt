@@ -1,7 +1,0 @@
--- The laws of `creases`: those that the crates above cite are public.
-pub mod Lent
-pub mod Creases
-pub mod Linked
-pub mod Points
-pub mod Verts
-mod Pillow

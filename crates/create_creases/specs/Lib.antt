@@ -1,0 +1,3 @@
+-- The specs of `create_creases`, in the order of reading.
+pub mod Creases
+pub mod Linked

@@ -1,0 +1,68 @@
+-- `create_sharpen::shape_verts` meets its contract. The invariant: both lists are the fold over the points passed. Assumes nothing.
+use Rattle.create_sharpen.proofs.Lent.{vert-still}
+use Rattle.create_shared.specs.Makings.{tangentsOf}
+use Rattle.create_sharpen.specs.Shapes.{shapeVert, shapeVerts}
+use Rattle.common.proofs.Fold.{fold-none, fold-turn}
+use Rattle.common.specs.Fold.{foldTo}
+use lib.ListN.{length}
+use Rattle.create_shared.specs.Faces.{isFlat}
+use Rattle.create_creases.specs.Linked.{pairsAt}
+use native.Mathlib.Omega.{arith}
+use mathlib.Core.Path.{_≡_, refl, sym, _∙_}
+use Prim.Native.Nat.{_-_, _≤_}
+use Rattle.create_sharpen.proofs.shape_verts.Statement.{statement}
+use Rattle.create_sharpen.proofs.shape_verts.Tie as tie
+
+abbrev Inv-loop : tie.InvT-loop
+Inv-loop n h pos flat smooth at link t₀ fixed₀ v₀ t fixed v =
+    (v ≤ length at) × (length t ≡ length t₀) × (length fixed ≡ length fixed₀)
+    × (tangentsOf t fixed ≡ foldTo (shapeVert h pos (isFlat flat) n (pairsAt h smooth n)) (tangentsOf t₀ fixed₀) v)
+
+abbrev μ-loop : tie.MeasureT-loop
+μ-loop n h pos flat smooth at link t₀ fixed₀ v₀ t fixed v = length at - v
+
+loop-holds : tie.Need-loop-holds Inv-loop μ-loop
+loop-holds c = (omega arith, refl, refl, sym (fold-none _ _))
+
+shape-vert-requires : tie.Need-shape-vert-requires Inv-loop μ-loop
+shape-vert-requires c κs = let l = c .before .before .before .loop in (omega arith, vert-still (l .inv .1) (l .inv .2) (c .before .before .before .before .before .before .before .before .before .before .before .pre))
+
+add-v : tie.Need-add-v Inv-loop μ-loop
+add-v c = omega arith
+
+loop-less : tie.Need-loop-less Inv-loop μ-loop
+loop-less c = omega arith
+
+loop-again : tie.Need-loop-again Inv-loop μ-loop
+loop-again c =
+    let l = c .before .before .before .before .before .before .before .before .loop in
+    let m = c .before .before .before .before .shape-vert in
+    (omega arith, m .kept .1 .1 .1 .1 .1 .1 .1 .0 ∙ l .inv .1, m .kept .1 .1 .1 .1 .1 .1 .1 .1 .0 ∙ l .inv .2, fold-turn _ _ _ _ (l .v) (l .inv .3) (m .ensures))
+
+same-length : tie.Need-same-length Inv-loop μ-loop
+same-length c = c .before .loop .inv .1
+
+same-length-2 : tie.Need-same-length-2 Inv-loop μ-loop
+same-length-2 c = c .before .loop .inv .2
+
+returns : tie.Need-returns Inv-loop μ-loop
+unfolding shapeVerts
+returns c =
+    let l = c .before .loop in
+    let q : l .v ≡ length (c .before .before .before .before .before .before .before .before .before .args .at .now) = omega arith in
+    rw q at (l .inv .3)
+
+pub shape-verts-spec : {M : Type 1} → statement M
+shape-verts-spec =
+    tie.close
+    (tie.spec
+    Inv-loop
+    μ-loop
+    loop-holds
+    shape-vert-requires
+    add-v
+    loop-less
+    loop-again
+    same-length
+    same-length-2
+    returns)

@@ -1,0 +1,4 @@
+-- The specs of `create_smoothness`.
+pub mod Entries
+pub mod EntrySmoothness
+pub mod Questions

@@ -1,4 +1,0 @@
--- The laws of `edges`: those that the crates above cite are public.
-pub mod Boundaries
-pub mod Edges
-mod Pillow

@@ -1,4 +1,0 @@
--- The specs of `edges`, in the order of reading.
-pub mod Edges
-pub mod Smoothness
-pub mod Lent

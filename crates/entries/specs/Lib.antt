@@ -1,4 +1,0 @@
--- The specs of `entries`.
-pub mod Entries
-pub mod EntrySmoothness
-pub mod Questions

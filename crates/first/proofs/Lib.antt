@@ -1,3 +1,0 @@
--- The laws of `first`: those that the crates above cite are public.
-pub mod Lent
-mod First

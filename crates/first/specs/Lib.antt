@@ -1,3 +1,0 @@
--- The specs of `first`, in the order of reading. `Lent` is for the contracts inside a call.
-pub mod First
-pub mod Lent

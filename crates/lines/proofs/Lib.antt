@@ -1,6 +1,0 @@
--- The laws that the proofs of `lines` share; `Whole` is for the crates above.
-mod Put
-mod Digits
-mod Lengths
-mod Cases
-pub mod Whole

@@ -1,3 +1,0 @@
--- The laws of `makings` that the crates above cite.
-pub mod Lengths
-pub mod Makings

@@ -1,2 +1,0 @@
--- The specs of `operations`.
-pub mod Operations

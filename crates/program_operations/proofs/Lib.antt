@@ -1,0 +1,2 @@
+-- The laws that the proofs of `program_operations` share.
+mod Shown

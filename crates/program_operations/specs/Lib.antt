@@ -1,0 +1,2 @@
+-- The specs of `program_operations`.
+pub mod Operations

@@ -1,2 +1,0 @@
--- The laws of `shapes`, which the crates above cite.
-pub mod Lent

@@ -1,0 +1,2 @@
+-- The specs of `tangents_c`.
+pub mod Answers
