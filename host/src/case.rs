@@ -2,27 +2,44 @@
 
 use crate::{create_tangents, create_tangents_from_normals, distribute_tangents, linearize_flat_tangents, sharpen_edges, valid_tangents};
 use crate::{CreateScratch, NormalsScratch, Refused};
-use std::collections::BTreeMap;
 use std::fmt::Write as _;
+use std::io::BufRead;
 
-/// A case, or an answer: its operation, its number, and its lines by their first word.
+/// A case, or an answer: its text, from the line `case` or `result` to the line `end`.
 pub struct Block {
-    pub op: String,
-    pub id: String,
-    lines: BTreeMap<String, String>,
+    text: String,
 }
 
 impl Block {
+    pub fn text(&self) -> &str {
+        &self.text
+    }
+
+    /// Operation and number, as in `spread 12`.
+    pub fn name(&self) -> &str {
+        let first = self.text.lines().next().unwrap_or("");
+        first.split_once(' ').map_or("", |(_, name)| name)
+    }
+
+    pub fn op(&self) -> &str {
+        self.name().split(' ').next().unwrap_or("")
+    }
+
+    pub fn has_line(&self, line: &str) -> bool {
+        self.text.lines().any(|l| l == line)
+    }
+
+    /// The rest of the line that begins with the word.
+    fn after(&self, word: &str) -> Option<&str> {
+        self.text.lines().map(|l| l.split_once(' ').unwrap_or((l, ""))).find(|(first, _)| *first == word).map(|(_, rest)| rest)
+    }
+
     fn words(&self, name: &str) -> impl Iterator<Item = &str> {
-        self.lines.get(name).map_or("", |s| s.as_str()).split_whitespace()
+        self.after(name).unwrap_or("").split_whitespace()
     }
 
     pub fn has(&self, name: &str) -> bool {
-        self.lines.contains_key(name)
-    }
-
-    pub fn line(&self, name: &str) -> Option<&str> {
-        self.lines.get(name).map(|s| s.as_str())
+        self.after(name).is_some()
     }
 
     pub fn floats(&self, name: &str) -> Vec<f64> {
@@ -48,27 +65,20 @@ impl Block {
     }
 }
 
-/// The cases, or the answers, of a text.
-pub fn blocks(text: &str) -> Vec<Block> {
-    let mut out = Vec::new();
-    let mut here: Option<Block> = None;
-    for line in text.lines() {
-        let (word, rest) = line.split_once(' ').unwrap_or((line, ""));
-        match word {
-            "case" | "result" => {
-                let (op, id) = rest.split_once(' ').expect("operation and number");
-                here = Some(Block { op: op.into(), id: id.into(), lines: BTreeMap::new() });
+/// The cases, or the answers, of a text, read one at a time. One that is cut off at the text's end is left out.
+pub fn blocks(mut source: impl BufRead) -> impl Iterator<Item = Block> {
+    std::iter::from_fn(move || {
+        let mut text = String::new();
+        while source.read_line(&mut text).expect("text") > 0 {
+            if text.ends_with("\nend\n") {
+                return Some(Block { text });
             }
-            "end" => out.extend(here.take()),
-            "" | "#" => {}
-            _ => {
-                if let Some(b) = &mut here {
-                    b.lines.insert(word.into(), rest.into());
-                }
+            if !text.starts_with("case ") && !text.starts_with("result ") {
+                text.clear();
             }
         }
-    }
-    out
+        None
+    })
 }
 
 fn hex(name: &str, xs: &[f64]) -> String {
@@ -98,7 +108,7 @@ pub fn answer(c: &Block) -> Option<Result<Vec<String>, Refused>> {
     let (n, p) = c.counts();
     let (h, pos) = (c.signed("he"), c.floats("pos"));
     let mut t = c.floats("tan");
-    Some(match c.op.as_str() {
+    Some(match c.op() {
         "straighten" => linearize_flat_tangents(n, p, &h, &pos, &mut t).map(|()| vec![hex("tan", &t)]),
         "check" => valid_tangents(n, p, &h, &pos, &t).map(|v| vec![format!("valid {}", v as u8)]),
         "crease" => {

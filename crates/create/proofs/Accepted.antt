@@ -10,7 +10,8 @@ use Rattle.mesh.specs.Sound.{Sound}
 use Rattle.mesh.specs.Questions.{hasLength, signClear}
 use Rattle.mesh.specs.Check.{checkMesh, checkRefs}
 use Rattle.mesh.specs.declared.Checked.the-variants.{Accepted}
-use Rattle.mesh.proofs.Tests.{and-true, has-length, has-one}
+use Rattle.common.proofs.Tests.{and-true}
+use Rattle.mesh.proofs.Tests.{has-length, has-one}
 use Rattle.mesh.proofs.Accepted.{accepted, refs-accepted, entries-accepted}
 use Rattle.create_smoothness.specs.EntrySmoothness.{EntriesIn, entrySmoothness}
 use Rattle.create_smoothness.specs.declared.Smoothness.{Smoothness}

@@ -13,7 +13,7 @@ use lib.Ieee.{Float}
 use borrow.Author.Tests.{eqb-true}
 use Rattle.mesh.specs.Mesh.{startVert, pairedHalfedge, isForward}
 use Rattle.mesh.specs.Sound.{Sound}
-use Rattle.mesh.proofs.Tests.{and-true}
+use Rattle.common.proofs.Tests.{and-true, not-both}
 use Rattle.mesh.proofs.Pairs.{one-forward, paired-injective, paired-other}
 use Rattle.create_edges.specs.Smoothness.{isCrease}
 use Rattle.create_creases.specs.Linked.{addHalfedge, addCrease, creasesFrom, creasesAt}
@@ -120,9 +120,6 @@ module _ {H : List ℤ} {n p : ℕ} (s : Sound H n p) (S : List Float) (v : ℕ)
 -- ---- a halfedge is on one edge only
 
 module _ {H : List ℤ} {n p : ℕ} (s : Sound H n p) (S : List Float) (f : ℕ) (h : f < n) (c : isCrease H S f ≡ true) where
-  not-both : {b : Bool} → b ≡ true → b ≡ false → ⊥
-  not-both p q = let z : _≡_ {A = ℕ} 0 1 = cc in omega arith
-
   -- the pair of a forward halfedge is not forward
   backward : (g : ℕ) → g < n → isCrease H S g ≡ true → isForward H (pairedHalfedge H g) ≡ false
   backward g l d = one-forward s g l ∙ ap not (crease-forward H S g d)

@@ -17,6 +17,7 @@ use Rattle.float.specs.Ops.{zero as 0f, one}
 use Rattle.float.specs.F64.{minOf}
 use Rattle.mesh.specs.Mesh.{pairedHalfedge, isForward}
 use Rattle.common.specs.Fold.{foldTo}
+use Rattle.common.proofs.Tests.{not-both}
 use Rattle.mesh.specs.Questions.{signClear}
 use Rattle.mesh.specs.Sound.{Sound}
 use Rattle.mesh.proofs.Pairs.{one-forward}
@@ -25,9 +26,6 @@ use Rattle.create_smoothness.specs.EntrySmoothness.{EntriesIn, smoothnessAt, ad
 use Rattle.create_edges.specs.Edges.{sideOf, Pair, pairOf, Entry, absent, present, andModify, orInsert, modify, keyOf, insert, sharpenedEdges, edgesOf}
 use Rattle.create_edges.specs.Smoothness.{smoothness, pairSmoothness, isCrease, pairAt, SameMap}
 use Rattle.create_edges.proofs.Boundaries.{Each, Fits, each-sharpened, take-sharpened}
-
-not-both : {b : Bool} → b ≡ true → b ≡ false → ⊥
-not-both p q = let z : _≡_ {A = ℕ} 0 1 = cc in omega arith
 
 -- ---- what question 10 gives: an entry that is not ignored is below 1
 

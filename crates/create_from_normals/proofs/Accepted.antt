@@ -11,7 +11,8 @@ use Rattle.mesh.specs.Questions.{hasLength}
 use Rattle.mesh.specs.Check.{checkMesh}
 use Rattle.mesh.specs.Sound.{Sound}
 use Rattle.mesh.specs.declared.Checked.the-variants.{Accepted}
-use Rattle.mesh.proofs.Tests.{and-true, has-length, has-one}
+use Rattle.common.proofs.Tests.{and-true}
+use Rattle.mesh.proofs.Tests.{has-length, has-one}
 use Rattle.mesh.proofs.Accepted.{accepted, refs-accepted}
 use Rattle.normals_core.specs.Core.{Lists}
 use Rattle.create_shared.proofs.Lengths.{MeshListsFit, mesh-lists-fit}

@@ -5,7 +5,8 @@ use mathlib.Core.Path.{_≡_}
 use mathlib.Core.Bool.{true}
 use Rattle.mesh.specs.Mesh.{halfedgeStride, refStride}
 use Rattle.mesh.specs.Questions.{hasLength}
-use Rattle.mesh.proofs.Tests.{and-true, has-length}
+use Rattle.common.proofs.Tests.{and-true}
+use Rattle.mesh.proofs.Tests.{has-length}
 use Rattle.create_shared.specs.Lengths.{meshListsFit}
 
 pub record MeshListsFit (h l m a n p : ℕ) : Type 0 where

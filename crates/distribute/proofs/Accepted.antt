@@ -10,7 +10,7 @@ use lib.Ieee.{Float}
 use Rattle.mesh.specs.Mesh.{halfedgeStride}
 use Rattle.mesh.specs.Questions.{hasLength}
 use Rattle.mesh.specs.declared.Checked.the-variants.{Accepted}
-use Rattle.mesh.proofs.Tests.{and-true}
+use Rattle.common.proofs.Tests.{and-true}
 use Rattle.mesh.proofs.Accepted.{accepted, flags-accepted}
 use Rattle.distribute_walks.specs.Walks.{Lists}
 use Rattle.distribute.specs.Distribute.{lengthsFit, checkLists}

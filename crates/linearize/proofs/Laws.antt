@@ -18,7 +18,7 @@ use Rattle.linalg.specs.Vec.{neg3}
 use Rattle.mesh.specs.Mesh.{halfedgeStride, isForward}
 use Rattle.mesh.specs.Questions.{hasLength}
 use Rattle.mesh.specs.declared.Checked.the-variants.{Accepted}
-use Rattle.mesh.proofs.Tests.{and-true}
+use Rattle.common.proofs.Tests.{and-true}
 use Rattle.common.proofs.Fold.{fold-keeps}
 use Rattle.mesh.proofs.Accepted.{accepted}
 use Rattle.smoothing.specs.Lists.{tangentAt, putTangent, weightAt, isMarkedInsideQuad}

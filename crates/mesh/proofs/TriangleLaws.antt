@@ -12,7 +12,7 @@ use Rattle.mesh.specs.Mesh.{maxHalfedges, maxPoints, startVert, endVert,
 use Rattle.mesh.specs.Lowest.{lowest}
 use Rattle.mesh.specs.All.{halfedgeHolds, triangleHolds, trianglesHold}
 use Rattle.mesh.specs.Sound.{Sound}
-use Rattle.mesh.proofs.Tests.{and-true}
+use Rattle.common.proofs.Tests.{and-true}
 use Rattle.mesh.proofs.Halfedges.{next-cases}
 use Rattle.mesh.proofs.Lowest.{lowest-before}
 

@@ -10,7 +10,7 @@ use lib.Ieee.Bits.{ofBits-toBits}
 use borrow.Author.Tests.{eq-eqb, eqb-true}
 use Rattle.float.specs.F64.{bitsOf}
 use Rattle.linalg.specs.declared.Vec3.{Vec3}
-use Rattle.mesh.proofs.Tests.{and-true}
+use Rattle.common.proofs.Tests.{and-true}
 use Rattle.cycles.specs.Cycles.{nextAround}
 use Rattle.normals_state.specs.declared.CycleState.{CycleState}
 use Rattle.normals_state.specs.State.{nextState}

@@ -9,6 +9,7 @@ use lib.Dec.{eqb}
 use lib.ListN.{length, take, drop}
 use lib.Seq.{take-at, drop-at}
 use lib.Ieee.{Float}
+use Rattle.common.proofs.Tests.{and-true}
 use Rattle.little_endian.specs.Filled.{items, filled}
 use Rattle.little_endian.proofs.Filled.{items-length}
 use Rattle.little_endian.specs.Numbers.{f64Item}
@@ -26,11 +27,6 @@ use Rattle.program.specs.Program.{outputOf, halfedgesOf, positionsOf, ta
 
 -- ---- the room
 
-both : (a b : Bool) → a && b ≡ true → (a ≡ true) × (b ≡ true)
-both true b e = (refl, e)
-both false true e = (e, refl)
-both false false e = (e, e)
-
 -- the lists of the program have the room
 pub lists-have-room : hasRoom 8187 4464 5952 8187 1488 1488 1488 143040 ≡ true
 unfolding hasRoom
@@ -40,13 +36,13 @@ module _ (positions halfedges tangents normals flags current desired out : ℕ) 
   pub all-room : Room positions halfedges tangents normals flags current desired × (143040 ≤ out)
   unfolding hasRoom
   all-room =
-      let a = both _ _ room in
-      let b = both _ _ (a .0) in
-      let c = both _ _ (b .0) in
-      let d = both _ _ (c .0) in
-      let v = both _ _ (d .0) in
-      let w = both _ _ (v .0) in
-      let z = both _ _ (w .0) in (
+      let a = and-true _ _ room in
+      let b = and-true _ _ (a .0) in
+      let c = and-true _ _ (b .0) in
+      let d = and-true _ _ (c .0) in
+      let v = and-true _ _ (d .0) in
+      let w = and-true _ _ (v .0) in
+      let z = and-true _ _ (w .0) in (
         record {
           position-room = leb-true _ _ (z .0);
           halfedge-room = leb-true _ _ (z .1);

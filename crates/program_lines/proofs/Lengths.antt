@@ -9,6 +9,7 @@ use borrow.Author.Tests.{le-leb, lt-leb, leb-true, leb-false}
 use lib.Dec.{leb}
 use lib.ListN.{length, length-append}
 use lib.Ieee.{Float}
+use Rattle.common.proofs.Tests.{and-true}
 use Rattle.program_lines.specs.Text.{ascii}
 use Rattle.program_lines.specs.Lines.{numberLine, bitsField, tangentLine, tangentLines, tangentsLines, linesOf, halfedgesIn, hasRoom, rendered}
 use Rattle.program_lines.specs.declared.Output.{Output}
@@ -57,15 +58,10 @@ module _ (n numbers room : ℕ) where
         same-test true e = sym (le-leb (96 * (n + 2)) room (omega (arith, leb-true n (room / 96 - 2) e)))
         same-test false e = sym (lt-leb (96 * (n + 2)) room (omega (arith, leb-false n (room / 96 - 2) e)))
 
-both : (a b : Bool) → (a && b) ≡ true → (a ≡ true) × (b ≡ true)
-both true b e = (refl, e)
-both false true e = (e, refl)
-both false false e = (e, e)
-
 pub room-for : (n numbers room : ℕ) → hasRoom n numbers room ≡ true → (4 * n ≤ numbers) × (96 * (n + 2) ≤ room)
 unfolding hasRoom
 room-for n numbers room e =
-    let p = both (leb (4 * n) numbers) (leb (96 * (n + 2)) room) e in
+    let p = and-true (leb (4 * n) numbers) (leb (96 * (n + 2)) room) e in
     (leb-true (4 * n) numbers (p .0), leb-true (96 * (n + 2)) room (p .1))
 
 -- ---- what is rendered

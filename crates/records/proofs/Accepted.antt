@@ -11,7 +11,8 @@ use Rattle.records.specs.Records.{recordsLength, bodyBytes, operationRef
 use Rattle.records.specs.Lists.{ifSpread, hasRoom, Lists, roomRefusal, readRefusal, readAnswer}
 use Rattle.records.specs.declared.Parsed.the-variants.{Input}
 use Rattle.records.proofs.Parse.{passed-on, passed-test, through, accepted, mesh-bodies, cond-le}
-use Rattle.records.proofs.Lists.{both, room}
+use Rattle.common.proofs.Tests.{and-true}
+use Rattle.records.proofs.Lists.{room}
 
 -- the input got through, and the lists have room
 unfolds : (s : List ℕ) (L : Lists) (o p n : ℕ) → readAnswer s L ≡ Input o p n →
@@ -57,7 +58,7 @@ module _ (s : List ℕ) (L : Lists) (o p n : ℕ) (e : readAnswer s L ≡ Input 
   pub known-operation : (1 ≤ o) × (o ≤ 3)
   unfolding operationRefusal
   known-operation =
-      let h = both (leb 1 o) (leb o 3) (passed-test (leb 1 o && leb o 3) 22 (accepted s o p n parsed .1 .known)) in
+      let h = and-true (leb 1 o) (leb o 3) (passed-test (leb 1 o && leb o 3) 22 (accepted s o p n parsed .1 .known)) in
       (leb-true 1 o (h .0), leb-true o 3 (h .1))
 
   pub counts-bound : 24 * p + 44 * n + 35 ≤ 65536

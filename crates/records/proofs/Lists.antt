@@ -4,12 +4,8 @@ use mathlib.Core.Path.{_≡_, refl}
 use mathlib.Core.Bool.{Bool, true, false, _&&_}
 use borrow.Author.Tests.{le-leb, leb-true}
 use lib.Dec.{leb}
+use Rattle.common.proofs.Tests.{and-true}
 use Rattle.records.specs.Lists.{ifSpread, hasRoom}
-
-pub both : (a b : Bool) → (a && b) ≡ true → (a ≡ true) × (b ≡ true)
-both true b e = (refl, e)
-both false true e = (e, refl)
-both false false e = (e, e)
 
 module _ (o p n positions halfedges tangents normals flags : ℕ) where
   pub last-test : (x y : ℕ) → 3 * p ≤ positions → 3 * n ≤ halfedges → 4 * n ≤ tangents → x ≡ ifSpread o (3 * p) → x ≤ normals → y ≡ ifSpread o n →
@@ -21,8 +17,8 @@ module _ (o p n positions halfedges tangents normals flags : ℕ) where
       (3 * p ≤ positions) × (3 * n ≤ halfedges) × (4 * n ≤ tangents) × (ifSpread o (3 * p) ≤ normals) × (ifSpread o n ≤ flags)
   unfolding hasRoom
   room e =
-      let a = both _ _ e in
-      let b = both _ _ (a .0) in
-      let c = both _ _ (b .0) in
-      let d = both _ _ (c .0) in
+      let a = and-true _ _ e in
+      let b = and-true _ _ (a .0) in
+      let c = and-true _ _ (b .0) in
+      let d = and-true _ _ (c .0) in
       (leb-true _ _ (d .0), leb-true _ _ (d .1), leb-true _ _ (c .1), leb-true _ _ (b .1), leb-true _ _ (a .1))

@@ -10,7 +10,8 @@ use Rattle.mesh.specs.Mesh.{halfedgeStride}
 use Rattle.mesh.specs.Questions.{hasLength}
 use Rattle.mesh.specs.Check.{checkMesh}
 use Rattle.mesh.specs.declared.Checked.the-variants.{Accepted}
-use Rattle.mesh.proofs.Tests.{and-true, has-length, has-one}
+use Rattle.common.proofs.Tests.{and-true}
+use Rattle.mesh.proofs.Tests.{has-length, has-one}
 use Rattle.mesh.proofs.Accepted.{accepted}
 use Rattle.replay_mesh_leaves.specs.Lists.{NormalLists, QuadLists}
 

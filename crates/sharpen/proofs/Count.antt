@@ -8,6 +8,7 @@ use mathlib.Core.Logic.{_⊎_, inl, inr}
 use mathlib.Core.Bool.{Bool, true, false, not, _&&_}
 use borrow.Author.Tests.{eq-eqb, ne-eqb}
 use lib.Dec.{eqb}
+use Rattle.common.proofs.Tests.{and-last}
 use Rattle.sharpen.specs.Entries.{countBelow}
 
 module _ (t : ℕ → Bool) where
@@ -52,18 +53,10 @@ abbrev without : (ℕ → Bool) → ℕ → ℕ → Bool
 without d j k = d k && not (eqb k j)
 
 without-other : (d : ℕ → Bool) (j k : ℕ) → (k ≡ j → ⊥) → without d j k ≡ d k
-without-other d j k q = rw (ne-eqb k j q) (go (d k))
-  where
-    go : (b : Bool) → b && true ≡ b
-    go true = refl
-    go false = refl
+without-other d j k q = rw (ne-eqb k j q) (and-last (d k) .0)
 
 without-same : (d : ℕ → Bool) (j k : ℕ) → k ≡ j → without d j k ≡ false
-without-same d j k q = rw (eq-eqb k j q) (go (d k))
-  where
-    go : (b : Bool) → b && false ≡ false
-    go true = refl
-    go false = refl
+without-same d j k q = rw (eq-eqb k j q) (and-last (d k) .1)
 
 count-without : (d : ℕ → Bool) (j m : ℕ) → j < m → d j ≡ true → countBelow (without d j) m + 1 ≡ countBelow d m
 count-without d j zero h e = absurd (omega arith)

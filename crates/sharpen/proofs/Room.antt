@@ -11,7 +11,7 @@ use borrow.Author.Tests.{eqb-true}
 use Rattle.mesh.specs.Mesh.{pairedHalfedge, isForward}
 use Rattle.mesh.specs.Sound.{Sound}
 use Rattle.mesh.specs.declared.Checked.the-variants.{Accepted}
-use Rattle.mesh.proofs.Tests.{and-true}
+use Rattle.common.proofs.Tests.{and-true}
 use Rattle.mesh.proofs.Accepted.{accepted}
 use Rattle.mesh.proofs.Pairs.{one-forward, paired-injective}
 use Rattle.smoothing.proofs.Edges.{normals-in}

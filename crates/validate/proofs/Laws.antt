@@ -14,7 +14,7 @@ use Rattle.common.specs.Fold.{foldTo}
 use Rattle.mesh.specs.Sound.{Sound}
 use Rattle.mesh.specs.declared.Checked.{Checked}
 use Rattle.mesh.specs.declared.Checked.the-variants.{Accepted, Refused}
-use Rattle.mesh.proofs.Tests.{and-true}
+use Rattle.common.proofs.Tests.{and-true}
 use Rattle.common.proofs.Fold.{fold-next}
 use Rattle.mesh.proofs.Accepted.{inside}
 use Rattle.mesh.proofs.Halfedges.{next-cases, prev-is}

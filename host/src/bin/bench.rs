@@ -27,7 +27,7 @@ fn unit(c: &Block, repeats: usize) -> f64 {
         let mut t = lent.clone();
         t.resize(4 * n, 0.0);
         let start = Instant::now();
-        match c.op.as_str() {
+        match c.op() {
             "straighten" => linearize_flat_tangents(n, p, &h, &pos, &mut t).expect("accepted"),
             "check" => drop(std::hint::black_box(valid_tangents(n, p, &h, &pos, &t).expect("accepted"))),
             "crease" => drop(sharpen_edges(n, p, &h, &fnm, 60.0, 0.0, &mut list, &mut smooth).expect("accepted")),
@@ -75,7 +75,7 @@ fn main() {
     for kind in kinds {
         let text = run(&args[0], &[job, kind, &args[2], "1"]);
         std::fs::write(&file, &text).expect("a temporary file");
-        let case = &blocks(&text)[0];
+        let case = &blocks(text.as_bytes()).next().expect("a case");
         let times: Vec<(f64, f64)> =
             (0..runs).map(|_| (rust(&run(&args[0], &["bench", file.to_str().unwrap(), &args[3]])), unit(case, repeats))).collect();
         let mut ratios: Vec<f64> = times.iter().map(|(r, u)| u / r).collect();

@@ -1,28 +1,21 @@
 -- `distribute_steps::is_start` meets its contract.
-use mathlib.Core.Path.{_≡_, refl, sym}
-use mathlib.Core.Bool.{Bool, true, false, not, _&&_}
+use mathlib.Core.Path.{sym}
+use mathlib.Core.Bool.{not}
 use borrow.Author.Tests.{eq-eqb, ne-eqb}
 use denote.Ref.{now}
+use Rattle.common.proofs.Tests.{and-last}
 use Rattle.smoothing.specs.Lists.{tangentAt}
 use Rattle.distribute_steps.specs.FloatSteps.{isMark}
 use Rattle.distribute_steps.proofs.is_start.Statement.{statement}
 use Rattle.distribute_steps.proofs.is_start.Tie as tie
 
-and-false : (a : Bool) → a && false ≡ false
-and-false true = refl
-and-false false = refl
-
-and-true : (a : Bool) → a && true ≡ a
-and-true true = refl
-and-true false = refl
-
 returns : tie.Need-returns
 returns c =
     let a = c .before .before .before .before .args in
-    rw (ne-eqb _ _ (c .if1 .taken)) (sym (and-false (not (isMark (tangentAt (now (a .t)) (a .e) .w)))))
+    rw (ne-eqb _ _ (c .if1 .taken)) (sym (and-last (not (isMark (tangentAt (now (a .t)) (a .e) .w))) .1))
 
 returns-2 : tie.Need-returns-2
-returns-2 c = rw (eq-eqb _ _ (c .before .if1 .left), ← c .is-marked .ensures) (sym (and-true (not (c .is-marked .result))))
+returns-2 c = rw (eq-eqb _ _ (c .before .if1 .left), ← c .is-marked .ensures) (sym (and-last (not (c .is-marked .result)) .0))
 
 pub is-start-spec : {M : Type 1} → statement M
 is-start-spec =

@@ -2,7 +2,7 @@
 use mathlib.Core.Path.{sym, _∙_}
 use borrow.Author.Needs.{needs}
 use denote.Ref.{now}
-use Rattle.mesh.proofs.Tests.{and-true}
+use Rattle.common.proofs.Tests.{and-true}
 use Rattle.linearize.specs.Linearize.{linearizeEdge}
 use Rattle.linearize.proofs.Thirds.{both-flat}
 use Rattle.linearize.proofs.linearize_edge.Statement.{statement}

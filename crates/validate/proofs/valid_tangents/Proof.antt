@@ -8,7 +8,7 @@ use Rattle.mesh.specs.Mesh.{halfedgeStride}
 use Rattle.mesh.specs.Questions.{hasLength}
 use Rattle.mesh.specs.Check.{checkMesh}
 use Rattle.mesh.specs.declared.Checked.{Checked}
-use Rattle.mesh.proofs.Tests.{and-true}
+use Rattle.common.proofs.Tests.{and-true}
 use Rattle.mesh.proofs.Accepted.{accepted}
 use Rattle.validate.specs.Validate.{validTangents, lengthsFit}
 use Rattle.validate.proofs.Laws.{with-values}

@@ -14,7 +14,7 @@ use mir.Val.{toZ, ofZ}
 use Rattle.mesh.specs.Mesh.{halfedgeStride, numberAt, indexOf, field, startVert}
 use Rattle.mesh.specs.Inside.{noIndex}
 use Rattle.mesh.specs.All.{halfedgeHolds, triangleHolds}
-use Rattle.mesh.proofs.Tests.{and-true}
+use Rattle.common.proofs.Tests.{and-true}
 use Rattle.mesh.proofs.Signed.{read}
 use Rattle.mesh.proofs.triangles.triangle_holds.Statement.{statement}
 use Rattle.mesh.proofs.triangles.triangle_holds.Tie as tie
