@@ -1,4 +1,4 @@
-// A call of making from sharp edges on the lists of a case.
+// The calls of making from sharp edges on the lists of a case.
 use replay_cases::Case;
 use replay_cases::ends_at;
 use replay_cases::float_part;
@@ -50,12 +50,44 @@ fn sharp(
     common::both(replay_cases::same_checked(checked, c), scratch)
 }
 
+// The same with the entries as two lists or as structs.
+fn called(
+    structs: bool,
+    c: Case,
+    old: bool,
+    h: &[i32],
+    pos: &[f64],
+    normals: &[f64],
+    face_normals: &[f64],
+    refs: &[i32],
+    entries: &[usize],
+    values: &[f64],
+    t: &mut [f64],
+) -> bool {
+    if structs {
+        return replay_create_entries::structs(
+            c,
+            old,
+            h,
+            pos,
+            normals,
+            face_normals,
+            refs,
+            entries,
+            values,
+            t,
+        );
+    }
+    sharp(c, old, h, pos, normals, face_normals, refs, entries, values, t)
+}
+
 // The call, whose lists of floats are the parts of xs and whose lists of signed numbers are the parts of `is`. At s[at..]
 // are the tangents as the Rust left them.
 pub fn agrees(
     s: &[u8],
     at: usize,
     c: Case,
+    structs: bool,
     xs: &[f64],
     is: &[i32],
     entries: &[usize],
@@ -68,7 +100,8 @@ pub fn agrees(
     let values = float_part(xs, e.face_normals, xs.len());
     let h = signed_part(is, 0, e.halfedges);
     let refs = signed_part(is, e.halfedges, is.len());
-    let same = sharp(
+    let same = called(
+        structs,
         c,
         e.old,
         h,
