@@ -14,7 +14,7 @@ use base.Logic.{ent, sep, ex}
 use base.Fml.{Lft, GName, Fml, fsep, fat, froom, fdead, flent}
 use prog.Wp.{Heap}
 use ghost.Atoms.{Atoms, sem}
-use types.Kit.{Given, ‵, _⊛_, some, later, _$_, _∵_, !, qed, move, use1, use2, drop, rewrite, split, join, pick, fsplit, fjoin, fpick, fpack, feqL, feqI, await, updating, show, now as at-once, done}
+use types.Kit.{Given, ‵, _⊛_, some, later, _$_, _∵_, !, qed, move, use1, use2, drop, rewrite, split, pick, fsplit, fjoin, fpick, fpack, feqL, feqI, await, updating, show, now as at-once, done}
 use types.SemTy.{cells}
 use types.Share.{arr-parts}
 use types.Tokens.{lent-back}

@@ -47,7 +47,11 @@ fn entries_of(entries: &[usize], values: &[f64]) -> [Smoothness; 64] {
 fn count_of(entries: &[usize]) -> usize
     ensures { λ r. ⌜ r ≤ 64 ⌝ }
 {
-    if entries.len() <= 64 { entries.len() } else { 64 }
+    if entries.len() <= 64 {
+        entries.len()
+    } else {
+        64
+    }
 }
 
 // Calls it with the first `count` of the entries. It lends a list of structs, and is proved by hand.

@@ -78,7 +78,18 @@ fn called(
             t,
         );
     }
-    sharp(c, old, h, pos, normals, face_normals, refs, entries, values, t)
+    sharp(
+        c,
+        old,
+        h,
+        pos,
+        normals,
+        face_normals,
+        refs,
+        entries,
+        values,
+        t,
+    )
 }
 
 // The call, whose lists of floats are the parts of xs and whose lists of signed numbers are the parts of `is`. At s[at..]
