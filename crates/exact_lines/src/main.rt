@@ -1,41 +1,105 @@
-// Document 01's exact lines that are runs: the counts, a start of -1, the smoothness of an entry, and `wrap` at pi. Each line
-// of the output is a call and its answer; the file `stdout` has what document 01 and the unchanged Rust say.
+// Document 01's exact lines that are runs, by the public calls: the counts and a start of -1, asked of straightening, the mark
+// check, the crease listing and spreading (`exact_lines_create` asks the makings), and `wrap` at pi. Each line of the output is
+// a call and its answer; the file `stdout` has what document 01 and the unchanged Rust say.
 use libc::STDOUT_FILENO;
-use mesh::Checked;
 
 const PI: u64 = 0x400921fb54442d18;
 
 const MINUS_PI: u64 = 0xc00921fb54442d18;
 
-// What is asked, and the number and place of the answer: 0 0 if it is accepted.
-fn put_checked(asked: &[u8], checked: Checked) {
+// The call, what it is asked about, and the number and place of its answer: 0 0 if it is accepted.
+fn put(call: &[u8], asked: &[u8], number: usize, place: usize) {
+    io::write_all(STDOUT_FILENO, call);
     io::write_all(STDOUT_FILENO, asked);
-    io::print_decimal(STDOUT_FILENO, mesh::number_of(checked) as u64);
+    io::print_decimal(STDOUT_FILENO, number as u64);
     io::write_all(STDOUT_FILENO, b" ");
-    io::print_decimal(STDOUT_FILENO, mesh::place_of(checked) as u64);
+    io::print_decimal(STDOUT_FILENO, place as u64);
     io::write_all(STDOUT_FILENO, b"\n");
 }
 
-// A mesh of so many halfedges whose lists are too short: what gets through question 1 is refused 2.
+fn straighten(asked: &[u8], n: usize, p: usize, h: &[i32], pos: &[f64], t: &mut [f64]) {
+    let checked = linearize::linearize_flat_tangents(n, p, h, pos, t);
+    put(
+        b"straightening, ",
+        asked,
+        mesh::number_of(checked),
+        mesh::place_of(checked),
+    );
+}
+
+fn check(asked: &[u8], n: usize, p: usize, h: &[i32], pos: &[f64], t: &[f64]) {
+    let validity = validate::valid_tangents(n, p, h, pos, t);
+    put(
+        b"mark check, ",
+        asked,
+        validate::number_of(validity),
+        validate::place_of(validity),
+    );
+}
+
+fn crease(
+    asked: &[u8],
+    n: usize,
+    p: usize,
+    h: &[i32],
+    normals: &[f64],
+    halfedges: &mut [usize],
+    smoothness: &mut [f64],
+) {
+    let listing = sharpen::sharpen_edges(n, p, h, normals, 60.0, 0.0, halfedges, smoothness);
+    put(
+        b"crease listing, ",
+        asked,
+        sharpen::number_of(listing),
+        sharpen::place_of(listing),
+    );
+}
+
+fn spread(
+    asked: &[u8],
+    n: usize,
+    p: usize,
+    h: &[i32],
+    pos: &[f64],
+    fixed: &[u8],
+    t: &mut [f64],
+    current: &mut [f64],
+    desired: &mut [f64],
+) {
+    let spreading = distribute::distribute_tangents(n, p, h, pos, pos, fixed, t, current, desired);
+    put(
+        b"spreading, ",
+        asked,
+        distribute::number_of(spreading),
+        distribute::place_of(spreading),
+    );
+}
+
+// So many halfedges, with the whole lists of 65,535 that are all 0: start, end and pair are 0, and there is one point. What
+// gets through question 1 gets as far as question 5, at 1, whose pair 0 does not name it back.
 fn count(asked: &[u8], n: usize) {
-    let h: [i32; 0] = [];
-    put_checked(asked, mesh::check_mesh(&h, n, 3, false));
+    let h = [0; 196605];
+    let pos = [0.0; 3];
+    let mut t = [0.0; 262140];
+    let mut x = [0.0; 65535];
+    let mut y = [0.0; 65535];
+    straighten(asked, n, 1, &h, &pos, &mut t);
+    check(asked, n, 1, &h, &pos, &t);
+    crease(asked, n, 1, &h, &x, &mut [0usize; 65535], &mut y);
+    spread(asked, n, 1, &h, &pos, &[0u8; 65535], &mut t, &mut x, &mut y);
 }
 
 // The pillow, with this start for halfedge 2.
 fn start(asked: &[u8], vert: i32) {
     let h = [0, 1, 5, 1, 2, 4, vert, 0, 3, 0, 2, 2, 2, 1, 1, 1, 0, 0];
-    put_checked(asked, mesh::check_mesh(&h, 6, 3, true));
-}
-
-// One entry of this smoothness, for the pillow's halfedge 4.
-fn entry(asked: &[u8], smoothness: f64) {
-    let halfedges: [usize; 1] = [4];
-    let smooth = [smoothness];
-    put_checked(
-        asked,
-        mesh::check_entries(Checked::Accepted, &halfedges, &smooth, 6),
-    );
+    let pos = [0.0, 0.0, 0.0, 3.0, 0.0, 0.0, 0.0, 6.0, 0.0];
+    let mut t = [0.0; 24];
+    let mut x = [0.0; 6];
+    let mut y = [0.0; 6];
+    straighten(asked, 6, 3, &h, &pos, &mut t);
+    check(asked, 6, 3, &h, &pos, &t);
+    crease(asked, 6, 3, &h, &x, &mut [0usize; 6], &mut y);
+    spread(asked, 6, 3, &h, &pos, &[0u8; 6], &mut t, &mut x, &mut y);
 }
 
 fn wrap(bits: u64) {
@@ -56,8 +120,6 @@ fn main() {
     count(b"4 halfedges: ", 4);
     start(b"a start of 2: ", 2);
     start(b"a start of -1: ", -1);
-    entry(b"smoothness 1: ", 1.0);
-    entry(b"smoothness -0: ", -0.0);
     wrap(PI);
     wrap(PI + 1);
     wrap(0x4023bd3cc9be45de);
