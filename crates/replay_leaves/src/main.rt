@@ -1,9 +1,10 @@
-// Replays the oracle's answers to leaf calls, read from standard input, and writes how many were compared and how many
+// Replays the Rust's answers to leaf calls, read from standard input, and writes how many were compared and how many
 // differ. README.md beside src/ says what a record holds and how the file was made.
 ghost use Prim.Native.Nat.{_+_, _≤_};
 ghost use lib.ListN.{length};
 use linalg::Quat;
 use linalg::Vec3;
+use linalg::Vec4;
 use replay::Tally;
 
 // The four result words of a call; those that it does not use are 0.
@@ -46,6 +47,23 @@ fn four(q: Quat) -> Results {
     }
 }
 
+fn tangent(v: Vec4) -> Results {
+    Results {
+        a: float::bits(v.x),
+        b: float::bits(v.y),
+        c: float::bits(v.z),
+        d: float::bits(v.w),
+    }
+}
+
+// The float of 1 for yes, of 0 for no.
+fn flag(yes: bool) -> Results {
+    if yes {
+        return one(1.0);
+    }
+    one(0.0)
+}
+
 // Argument k of the record at s[at..].
 fn argument(s: &[u8], at: usize, k: usize) -> f64
     requires { ⌜ at + 96 ≤ length (now s) ⌝ }
@@ -76,13 +94,27 @@ fn quaternion(s: &[u8], at: usize) -> Quat
     }
 }
 
+// The bits of the float of a whole number.
+fn whole(n: i32) -> u64 {
+    float::bits(std::num::nearest_i64_to_f64(n as i64))
+}
+
 fn rem(x: f64) -> Results {
     let r = math::rem_pio2(x);
     let n = r.n;
     Results {
-        a: float::bits(std::num::nearest_i64_to_f64(n as i64)),
+        a: whole(n),
         b: float::bits(r.y0),
         c: float::bits(r.y1),
+        d: 0,
+    }
+}
+
+fn cast(x: f64) -> Results {
+    Results {
+        a: whole(float::to_i32(x)),
+        b: 0,
+        c: 0,
         d: 0,
     }
 }
@@ -114,6 +146,35 @@ fn of_vectors(call: u64, s: &[u8], at: usize) -> Results
     }
 }
 
+// The calls of `smoothing`, and `radians`.
+fn of_smoothing(call: u64, s: &[u8], at: usize) -> Results
+    requires { ⌜ at + 96 ≤ length (now s) ⌝ }
+{
+    let x = argument(s, at, 0);
+    let v = vector(s, at, 0);
+    match call {
+        13 => three(smoothing::safe_normalize(v)),
+        14 => one(smoothing::wrap(x)),
+        15 => one(smoothing::angle_between(v, vector(s, at, 3))),
+        16 => flag(smoothing::equal_normals(v, vector(s, at, 3))),
+        17 => tangent(smoothing::circular_tangent(v, vector(s, at, 3))),
+        _ => one(mesh::radians(x)),
+    }
+}
+
+// The methods and the cast of f64.
+fn of_methods(call: u64, s: &[u8], at: usize) -> Results
+    requires { ⌜ at + 96 ≤ length (now s) ⌝ }
+{
+    let v = vector(s, at, 0);
+    match call {
+        19 => one(float::clamp(v.x, v.y, v.z)),
+        20 => one(float::max(v.x, v.y)),
+        21 => one(float::min(v.x, v.y)),
+        _ => cast(v.x),
+    }
+}
+
 fn answer(s: &[u8], at: usize) -> Results
     requires { ⌜ at + 96 ≤ length (now s) ⌝ }
 {
@@ -121,7 +182,13 @@ fn answer(s: &[u8], at: usize) -> Results
     if call <= 6 {
         return of_float(call, argument(s, at, 0));
     }
-    of_vectors(call, s, at)
+    if call <= 12 {
+        return of_vectors(call, s, at);
+    }
+    if call <= 18 {
+        return of_smoothing(call, s, at);
+    }
+    of_methods(call, s, at)
 }
 
 // Are the results those of the record at s[at..]?
