@@ -1,3 +1,4 @@
 -- The proofs of `cases`.
 pub mod Hold
 pub mod Listing
+pub mod Traps

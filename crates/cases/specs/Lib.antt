@@ -1,3 +1,4 @@
 -- The specs of `cases`.
 pub mod Pillow
 pub mod Lines
+pub mod Traps

@@ -1,12 +1,11 @@
--- The lines of document 01 that are marked (P): in each, what the definitions compute and what document 01 states.
+-- The lines of document 01 that are marked (P): in each, what the definitions compute and what document 01 states. The stated side has literals only: numbers, bit patterns of floats, and fractions where document 01 writes them so.
 use Prim.Native.Nat.{ℕ, zero, suc}
 use mathlib.Core.Bool.{true, false}
 use mathlib.Core.List.{List, [], _∷_, _++_}
 use lib.IntN.{pos, negsuc}
 use lib.Ieee.{Float, nan, fin, neg}
-use Rattle.float.specs.Ops.{zero as 0f, one, two, three, four}
+use Rattle.float.specs.Ops.{lit, zero as 0f, one, two, three, four}
 use Rattle.sqrt.specs.Sqrt.{sqrtOf}
-use Rattle.math.specs.Consts.{pio2-hi}
 use Rattle.math.specs.Trig.{sinOf, cosOf}
 use Rattle.math.specs.Acos.{acosOf}
 use Rattle.linalg.specs.declared.Vec3.{Vec3}
@@ -22,7 +21,7 @@ use Rattle.validate.specs.Validate.{validAnswer}
 use Rattle.distribute.specs.declared.Spreading.{Spreading}
 use Rattle.distribute.specs.declared.Spreading.the-variants.{Spread}
 use Rattle.distribute.specs.Distribute.{distributeTangents}
-use Rattle.cases.specs.Pillow.{points, halfedges, positions, meshWith, mesh, noTangents, straightened, weighted, zeroNormals, zeroAngles}
+use Rattle.cases.specs.Pillow.{bits, points, halfedges, positions, meshWith, mesh, noTangents, straightened, weighted, zeroNormals, zeroAngles}
 
 -- the kinds of value that a line speaks of
 pub data Value : Type 0 where
@@ -65,32 +64,28 @@ nextAndPrevious =
 -- Square roots: 4 gives 2, 2.25 gives 1.5, -0 gives -0, -1 gives not-a-number.
 abbrev pub squareRoots : List Line
 squareRoots =
-    (float (sqrtOf four) is float two)
-    ∷ (float (sqrtOf (fraction 9 2)) is float (fraction 3 1))
-    ∷ (float (sqrtOf (neg 0f)) is float (neg 0f))
+    (float (sqrtOf four) is float (lit 0x4000_0000_0000_0000))
+    ∷ (float (sqrtOf (fraction 9 2)) is float (lit 0x3ff8_0000_0000_0000))
+    ∷ (float (sqrtOf (neg 0f)) is float (lit 0x8000_0000_0000_0000))
     ∷ (float (sqrtOf (neg one)) is float nan)
     ∷ []
 
 -- Sine of 2^-27 is 2^-27 and cosine of it is 1.
 abbrev pub sineAndCosine : List Line
-sineAndCosine = (float (sinOf (fraction 1 27)) is float (fraction 1 27)) ∷ (float (cosOf (fraction 1 27)) is float one) ∷ []
+sineAndCosine = (float (sinOf (fraction 1 27)) is float (fraction 1 27)) ∷ (float (cosOf (fraction 1 27)) is float (lit 0x3ff0_0000_0000_0000)) ∷ []
 
 -- `acos` of 1 is 0; of 0 it is `PIO2_HI`.
 abbrev pub arccosine : List Line
-arccosine = (float (acosOf one) is float 0f) ∷ (float (acosOf 0f) is float pio2-hi) ∷ []
-
--- the clamped weight
-abbrev pub leastWeight : Float
-leastWeight = fraction 3002399751580331 52
+arccosine = (float (acosOf one) is float (lit 0x0000_0000_0000_0000)) ∷ (float (acosOf 0f) is float (lit 0x3ff9_21fb_5444_2d18)) ∷ []
 
 -- `circular_tangent` of (1,0,0) and edge (3,0,0) is (1,0,0,1).
 -- Of (0,1,0) and edge (2,0,0): y is (2^53 - 1)/2^53 and the weight 3002399751580331/2^52. (x and z are 0.)
 -- Of (0,0,0) and edge (2,0,0): the same weight, direction all 0.
 abbrev pub circularTangents : List Line
 circularTangents =
-    (tangent (circularTangent (vec one 0f 0f) (vec three 0f 0f)) is tangentOf one 0f 0f one)
-    ∷ (tangent (circularTangent (vec 0f one 0f) (vec two 0f 0f)) is tangentOf 0f (fraction 9007199254740991 53) 0f leastWeight)
-    ∷ (tangent (circularTangent (vec 0f 0f 0f) (vec two 0f 0f)) is tangentOf 0f 0f 0f leastWeight)
+    (tangent (circularTangent (vec one 0f 0f) (vec three 0f 0f)) is tangentOf (lit 0x3ff0_0000_0000_0000) (lit 0x0000_0000_0000_0000) (lit 0x0000_0000_0000_0000) (lit 0x3ff0_0000_0000_0000))
+    ∷ (tangent (circularTangent (vec 0f one 0f) (vec two 0f 0f)) is tangentOf (lit 0x0000_0000_0000_0000) (fraction 9007199254740991 53) (lit 0x0000_0000_0000_0000) (fraction 3002399751580331 52))
+    ∷ (tangent (circularTangent (vec 0f 0f 0f) (vec two 0f 0f)) is tangentOf (lit 0x0000_0000_0000_0000) (lit 0x0000_0000_0000_0000) (lit 0x0000_0000_0000_0000) (fraction 3002399751580331 52))
     ∷ []
 
 -- the mark check of the pillow with these weights
@@ -127,7 +122,18 @@ pillowSpread =
 
 -- The whole listing: the pillow straightened, all tangents 0.
 abbrev pub pillowStraightened : List Line
-pillowStraightened = (tangents (tangentsAfter mesh positions noTangents halfedges points) is tangents straightened) ∷ []
+pillowStraightened =
+    (tangents (tangentsAfter mesh positions noTangents halfedges points)
+    is tangents
+    (bits
+    (0x3ff0000000000000 ∷ 0x0000000000000000 ∷ 0x0000000000000000 ∷ 0x3ff0000000000000
+    ∷ 0xbff0000000000000 ∷ 0x4000000000000000 ∷ 0x0000000000000000 ∷ 0x3ff0000000000000
+    ∷ 0x8000000000000000 ∷ 0xc000000000000000 ∷ 0x8000000000000000 ∷ 0x3ff0000000000000
+    ∷ 0x0000000000000000 ∷ 0x4000000000000000 ∷ 0x0000000000000000 ∷ 0x3ff0000000000000
+    ∷ 0x3ff0000000000000 ∷ 0xc000000000000000 ∷ 0x8000000000000000 ∷ 0x3ff0000000000000
+    ∷ 0xbff0000000000000 ∷ 0x8000000000000000 ∷ 0x8000000000000000 ∷ 0x3ff0000000000000
+    ∷ [])))
+    ∷ []
 
 -- all of them
 abbrev pub lines : List Line
