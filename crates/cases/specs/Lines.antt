@@ -4,6 +4,7 @@ use mathlib.Core.Bool.{true, false}
 use mathlib.Core.List.{List, [], _∷_, _++_}
 use lib.IntN.{pos, negsuc}
 use lib.Ieee.{Float, nan, fin, neg}
+use Rattle.common.specs.Pillow.{points, halfedges, pillowWith, pillow, positions, straightened, floatsOf}
 use Rattle.float.specs.Ops.{lit, zero as 0f, one, two, three, four}
 use Rattle.sqrt.specs.Sqrt.{sqrtOf}
 use Rattle.math.specs.Trig.{sinOf, cosOf}
@@ -21,7 +22,7 @@ use Rattle.validate.specs.Validate.{validAnswer}
 use Rattle.distribute.specs.declared.Spreading.{Spreading}
 use Rattle.distribute.specs.declared.Spreading.the-variants.{Spread}
 use Rattle.distribute.specs.Distribute.{distributeTangents}
-use Rattle.cases.specs.Pillow.{bits, points, halfedges, positions, meshWith, mesh, noTangents, straightened, weighted, zeroNormals, zeroAngles}
+use Rattle.cases.specs.Pillow.{noTangents, weighted, zeroNormals, zeroAngles}
 
 -- the kinds of value that a line speaks of
 pub data Value : Type 0 where
@@ -90,7 +91,7 @@ circularTangents =
 
 -- the mark check of the pillow with these weights
 abbrev pub marks : List Float → Value
-marks ws = validity (validAnswer mesh positions (weighted ws) halfedges points)
+marks ws = validity (validAnswer pillow positions (weighted ws) halfedges points)
 
 abbrev pub minus : Float
 minus = neg one
@@ -106,11 +107,11 @@ pillowMarks =
 
 -- Pillow with the pair of 0 set to 0: refused 5, place 5.
 abbrev pub pillowRefused : List Line
-pillowRefused = (checked (linearizeAnswer (meshWith 0) positions noTangents halfedges points) is checked (Refused 5 5)) ∷ []
+pillowRefused = (checked (linearizeAnswer (pillowWith 0) positions noTangents halfedges points) is checked (Refused 5 5)) ∷ []
 
 -- the answer to spreading the straightened pillow, point normals all 0, with these flags
 abbrev pub spreading : List ℕ → Value
-spreading flags = counts (distributeTangents mesh positions zeroNormals flags straightened zeroAngles zeroAngles halfedges points)
+spreading flags = counts (distributeTangents pillow positions zeroNormals flags straightened zeroAngles zeroAngles halfedges points)
 
 -- Pillow, straightened tangents of the listing below, point normals all 0, flag on 0 only: looked 2, turned 0. All flags: looked 6, turned 0. No flags: looked 0, turned 0.
 abbrev pub pillowSpread : List Line
@@ -123,9 +124,9 @@ pillowSpread =
 -- The whole listing: the pillow straightened, all tangents 0.
 abbrev pub pillowStraightened : List Line
 pillowStraightened =
-    (tangents (tangentsAfter mesh positions noTangents halfedges points)
+    (tangents (tangentsAfter pillow positions noTangents halfedges points)
     is tangents
-    (bits
+    (floatsOf
     (0x3ff0000000000000 ∷ 0x0000000000000000 ∷ 0x0000000000000000 ∷ 0x3ff0000000000000
     ∷ 0xbff0000000000000 ∷ 0x4000000000000000 ∷ 0x0000000000000000 ∷ 0x3ff0000000000000
     ∷ 0x8000000000000000 ∷ 0xc000000000000000 ∷ 0x8000000000000000 ∷ 0x3ff0000000000000

@@ -4,10 +4,10 @@ use mathlib.Core.List.{List, [], _∷_, _++_, map}
 use lib.ListN.{replicate}
 use lib.IntN.{ℤ, pos}
 use lib.Ieee.{Float, neg}
+use Rattle.common.specs.Pillow.{floatsOf}
 use Rattle.float.specs.Ops.{zero, one}
 use Rattle.distribute.specs.declared.Spreading.the-variants.{Spread}
 use Rattle.distribute.specs.Distribute.{distributeTangents, tangentsAfter}
-use Rattle.cases.specs.Pillow.{bits}
 use Rattle.cases.specs.Lines.{Value, Line, counts, tangents, _is_}
 
 -- Two squares back to back: points (0,0,0), (1,0,0), (1,1,0), (0,1,0), each square with its diagonal from point 0. Start, end and pair of the halfedges 0 to 11; the round of point 0 is 0, 6, 9, 3.
@@ -69,7 +69,7 @@ marked-in-an-arc =
     (spreading (flags 0 1) (lent one minus) is counts (Spread 4 1))
     ∷ (spreadTangents (flags 0 1) (lent one minus)
     is tangents
-    (bits
+    (floatsOf
     (0x3ff0000000000000 ∷ 0x0000000000000000 ∷ 0x0000000000000000 ∷ 0x3ff0000000000000
     ∷ 0x0000000000000000 ∷ 0x0000000000000000 ∷ 0x0000000000000000 ∷ 0x3ff0000000000000
     ∷ 0x0000000000000000 ∷ 0x0000000000000000 ∷ 0x0000000000000000 ∷ 0x3ff0000000000000

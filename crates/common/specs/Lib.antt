@@ -1,2 +1,3 @@
 -- The specs of `common`.
 pub mod Fold
+pub mod Pillow

@@ -6,6 +6,7 @@ use lib.ListN.{replicate}
 use lib.IntN.{ℤ, pos}
 use lib.Ieee.{Float, neg, ofBits}
 use Rattle.float.specs.Ops.{zero, one, half}
+use Rattle.common.specs.Pillow.{pillow, refs}
 use Rattle.mesh.specs.Mesh.{nextHalfedge, numberAt, indexOf, field}
 use Rattle.mesh.specs.Lowest.{lowest, lowestFrom}
 use Rattle.mesh.specs.Questions.{signClear}
@@ -14,18 +15,11 @@ use Rattle.mesh.specs.declared.Checked.{Checked}
 use Rattle.mesh.specs.declared.Checked.the-variants.{Accepted, Refused}
 use Rattle.create.specs.Create.{checkCreate, checkLists}
 
--- start, end and pair of the halfedges 0 to 5
-abbrev pillow : List ℤ
-pillow = map pos (0 ∷ 1 ∷ 5 ∷ 1 ∷ 2 ∷ 4 ∷ 2 ∷ 0 ∷ 3 ∷ 0 ∷ 2 ∷ 2 ∷ 2 ∷ 1 ∷ 1 ∷ 1 ∷ 0 ∷ 0 ∷ [])
-
 -- the answer, with so many places in the last scratch list, face references and sharp entries
-abbrev answer : ℕ → List ℕ → List ℕ → List Float → Checked
-answer k refs entries values =
-    checkLists pillow (replicate 9 one) (replicate 9 one) (replicate 6 one) (map pos refs) entries values (replicate 24 one)
+abbrev answer : ℕ → List ℤ → List ℕ → List Float → Checked
+answer k R entries values =
+    checkLists pillow (replicate 9 one) (replicate 9 one) (replicate 6 one) R entries values (replicate 24 one)
     (replicate 6 0) (replicate 6 0) (replicate 6 one) (replicate 6 one) (replicate 3 0) (replicate k 0) 6 3
-
-abbrev refs : List ℕ
-refs = 1 ∷ 0 ∷ 0 ∷ 1 ∷ 1 ∷ 1 ∷ []
 
 unfoldable all : Unit {0}
 unfolding checkCreate checkEntries checkRefs checkMesh lowest lowestFrom nextHalfedge numberAt indexOf field signClear neg ofBits
@@ -46,7 +40,7 @@ unfolding all
 unequal = refl
 
 -- triangle 1 has the mesh number 0
-no-mesh : answer 6 (1 ∷ 0 ∷ 0 ∷ 0 ∷ 1 ∷ 1 ∷ []) (6 ∷ []) (half ∷ []) ≡ Refused 8 1
+no-mesh : answer 6 (map pos (1 ∷ 0 ∷ 0 ∷ 0 ∷ 1 ∷ 1 ∷ [])) (6 ∷ []) (half ∷ []) ≡ Refused 8 1
 unfolding all
 no-mesh = refl
 

@@ -1,15 +1,15 @@
 -- Worked examples on document 01's pillow. Assumes nothing.
 use mathlib.Core.Path.{_≡_, refl}
-use mathlib.Core.List.{List, [], _∷_, _++_, map}
+use mathlib.Core.List.{List, [], _∷_, _++_}
 use mathlib.Core.Bool.{true}
 use lib.ListN.{replicate}
-use lib.IntN.{ℤ, pos}
 use lib.Ieee.{Float, lt, le, eq, ne, neg, mul, ofBits}
 use Rattle.float.specs.Ops.{zero, half, one}
 use Rattle.float.specs.F64.{minOf}
 use Rattle.mesh.specs.Mesh.{nextHalfedge, numberAt, indexOf, field, eqZ, sameFace}
 use Rattle.mesh.specs.Lowest.{lowest, lowestFrom}
 use Rattle.common.specs.Fold.{foldTo}
+use Rattle.common.specs.Pillow.{pillow, refs}
 use Rattle.smoothing.specs.Lists.{tangentAt, putTangent, weightAt}
 use Rattle.smoothing.specs.Edges.{isInsideQuad}
 use Rattle.cycles.specs.Walk.{cycleFrom}
@@ -23,14 +23,6 @@ use Rattle.create_sharpen.specs.Sharpen.{sharpened, sharpenTangent, meetingSmoo
 use Rattle.create_shared.specs.Makings.{Tangents, tangentsOf}
 use Rattle.create_sharpen.specs.Shapes.{fixHalfedge, shapeCrease, shapeVert, shapeVerts}
 use Rattle.create_core.specs.Shape.{shapedTangents}
-
--- start, end and pair of the halfedges 0 to 5
-abbrev pillow : List ℤ
-pillow = map pos (0 ∷ 1 ∷ 5 ∷ 1 ∷ 2 ∷ 4 ∷ 2 ∷ 0 ∷ 3 ∷ 0 ∷ 2 ∷ 2 ∷ 2 ∷ 1 ∷ 1 ∷ 1 ∷ 0 ∷ 0 ∷ [])
-
--- two faces
-abbrev refs : List ℤ
-refs = map pos (1 ∷ 0 ∷ 0 ∷ 1 ∷ 1 ∷ 1 ∷ [])
 
 abbrev mark : List Float
 mark = zero ∷ zero ∷ zero ∷ neg one ∷ []

@@ -1,20 +1,16 @@
 -- Worked examples on document 01's pillow: the order of the pairs at a point, and what they are to it. Assumes nothing.
 use mathlib.Core.Path.{_≡_, refl}
-use mathlib.Core.List.{List, [], _∷_, map}
-use lib.IntN.{ℤ, pos}
+use mathlib.Core.List.{List, [], _∷_}
 use lib.Ieee.{Float, lt, le, eq, ne, add, div, ofBits}
 use Rattle.float.specs.Ops.{zero, half, one, lit}
 use Rattle.float.specs.F64.{minOf}
 use Rattle.mesh.specs.Mesh.{numberAt, indexOf, field}
 use Rattle.common.specs.Fold.{foldTo}
+use Rattle.common.specs.Pillow.{pillow}
 use Rattle.create_smoothness.specs.declared.Smoothness.{Smoothness}
 use Rattle.create_edges.specs.Edges.{sideOf, pairOf, andModify, orInsert, modify, keyOf, insert, edgesOf}
 use Rattle.create_creases.specs.declared.Crease.the-variants.{NoCrease, OneEnd, Through, Meeting}
 use Rattle.create_creases.specs.Creases.{pushAt, pushEdge, vertTangents, throughOf, addSides, sumsOf, meanOf, creaseOf}
-
--- start, end and pair of the halfedges 0 to 5
-abbrev pillow : List ℤ
-pillow = map pos (0 ∷ 1 ∷ 5 ∷ 1 ∷ 2 ∷ 4 ∷ 2 ∷ 0 ∷ 3 ∷ 0 ∷ 2 ∷ 2 ∷ 2 ∷ 1 ∷ 1 ∷ 1 ∷ 0 ∷ 0 ∷ [])
 
 -- 1/4, 5/8 and 3/4
 abbrev quarter : Float

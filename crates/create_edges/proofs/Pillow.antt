@@ -1,25 +1,17 @@
 -- Worked examples on document 01's pillow: entries that are ignored or name a halfedge twice, and flat faces. Assumes nothing.
 use Prim.Native.Nat.{ℕ}
 use mathlib.Core.Path.{_≡_, refl}
-use mathlib.Core.List.{List, [], _∷_, map}
+use mathlib.Core.List.{List, [], _∷_}
 use mathlib.Core.Bool.{Bool, false}
-use lib.IntN.{ℤ, pos}
 use lib.Dec.{eqb}
 use lib.Ieee.{Float, lt, le, eq, ne, ofBits}
 use Rattle.float.specs.Ops.{zero, half, one, two, lit}
 use Rattle.float.specs.F64.{minOf}
 use Rattle.mesh.specs.Mesh.{numberAt, indexOf, field, isForward}
 use Rattle.common.specs.Fold.{foldTo}
+use Rattle.common.specs.Pillow.{pillow, refs}
 use Rattle.create_smoothness.specs.declared.Smoothness.{Smoothness}
 use Rattle.create_edges.specs.Edges.{sideOf, pushBoundary, pushBoundaries, sharpenedEdges, pairOf, absent, present, andModify, orInsert, modify, keyOf, insert, edgesOf}
-
--- start, end and pair of the halfedges 0 to 5
-abbrev pillow : List ℤ
-pillow = map pos (0 ∷ 1 ∷ 5 ∷ 1 ∷ 2 ∷ 4 ∷ 2 ∷ 0 ∷ 3 ∷ 0 ∷ 2 ∷ 2 ∷ 2 ∷ 1 ∷ 1 ∷ 1 ∷ 0 ∷ 0 ∷ [])
-
--- its two triangles are two faces
-abbrev refs : List ℤ
-refs = map pos (1 ∷ 0 ∷ 0 ∷ 1 ∷ 1 ∷ 1 ∷ [])
 
 -- 1/4
 abbrev quarter : Float

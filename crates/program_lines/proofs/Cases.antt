@@ -1,8 +1,9 @@
 -- Document 01's listing, and the other lines, as cases of the definition. Assumes nothing.
 use mathlib.Core.Path.{_≡_, refl}
 use mathlib.Core.Bool.{true, false}
-use mathlib.Core.List.{List, [], _∷_}
-use lib.Ieee.{Float, nan, toBits, ofBits}
+use mathlib.Core.List.{[], _∷_}
+use lib.Ieee.{nan, toBits, ofBits}
+use Rattle.common.specs.Pillow.{straightened}
 use Rattle.float.specs.Ops.{lit}
 use Rattle.program_lines.specs.Text.{ascii, decimalUpTo, decimal, hexDigit, hexUpTo, hex}
 use Rattle.program_lines.specs.Lines.{numberLine, numbersLine, bitsField, tangentLine, tangentLines, tangentsLines, linesOf}
@@ -12,40 +13,11 @@ unfoldable all : Unit {0}
 unfolding toBits ofBits ascii decimalUpTo decimal hexDigit hexUpTo hex numberLine numbersLine bitsField tangentLine tangentLines tangentsLines linesOf
 all = tt
 
-abbrev +1 : Float
-+1 = lit 0x3ff0_0000_0000_0000
-
-abbrev -1 : Float
--1 = lit 0xbff0_0000_0000_0000
-
-abbrev +2 : Float
-+2 = lit 0x4000_0000_0000_0000
-
-abbrev -2 : Float
--2 = lit 0xc000_0000_0000_0000
-
-abbrev +0 : Float
-+0 = lit 0x0000_0000_0000_0000
-
-abbrev -0 : Float
--0 = lit 0x8000_0000_0000_0000
-
--- the pillow's straightened tangents
-abbrev straightened : List Float
-straightened =
-    +1 ∷ +0 ∷ +0 ∷ +1
-    ∷ -1 ∷ +2 ∷ +0 ∷ +1
-    ∷ -0 ∷ -2 ∷ -0 ∷ +1
-    ∷ +0 ∷ +2 ∷ +0 ∷ +1
-    ∷ +1 ∷ -2 ∷ -0 ∷ +1
-    ∷ -1 ∷ -0 ∷ -0 ∷ +1
-    ∷ []
-
 listing : linesOf (Tangents 6) straightened ≡ ascii "tangents 6\n0 3ff0000000000000 0000000000000000 0000000000000000 3ff0000000000000\n1 bff0000000000000 4000000000000000 0000000000000000 3ff0000000000000\n2 8000000000000000 c000000000000000 8000000000000000 3ff0000000000000\n3 0000000000000000 4000000000000000 0000000000000000 3ff0000000000000\n4 3ff0000000000000 c000000000000000 8000000000000000 3ff0000000000000\n5 bff0000000000000 8000000000000000 8000000000000000 3ff0000000000000\n"
 unfolding all
 listing = refl
 
-spread : linesOf (Spread 1 2 0) (nan ∷ +0 ∷ +0 ∷ -0 ∷ []) ≡ ascii "tangents 1\n0 7ff8000000000000 0000000000000000 0000000000000000 8000000000000000\nlooked 2 turned 0\n"
+spread : linesOf (Spread 1 2 0) (nan ∷ lit 0 ∷ lit 0 ∷ lit 0x8000_0000_0000_0000 ∷ []) ≡ ascii "tangents 1\n0 7ff8000000000000 0000000000000000 0000000000000000 8000000000000000\nlooked 2 turned 0\n"
 unfolding all
 spread = refl
 

@@ -1,58 +1,40 @@
 -- Inputs of document 01's program as cases of the definitions: the pillow, and each refusal. Assumes nothing.
-use Prim.Native.Nat.{ℕ, zero, suc, _/_, _%_}
+use Prim.Native.Nat.{ℕ}
 use mathlib.Core.Path.{_≡_, refl}
-use mathlib.Core.List.{List, [], _∷_, _++_, map}
-use lib.ListN.{length, take, replicate}
-use lib.IntN.{pos, negsuc}
+use mathlib.Core.List.{List, [], _∷_, _++_}
+use lib.ListN.{take, replicate}
+use lib.IntN.{negsuc}
 use lib.Ieee.{nan, ofBits}
+use Rattle.common.specs.Pillow.{pillow, positionBits, positions}
 use Rattle.float.specs.Ops.{lit}
 use Rattle.little_endian.specs.Numbers.{littleEndian, i32Of, f64Item, i32Item, byteItem}
 use Rattle.records.specs.Records.{recordFits, recordRefusal, bodyBytes, recordsLength, bodyAt, lastKind, operationRefusal, refusalFrom, recordsRefusal, inputRefusal, parseInput}
 use Rattle.little_endian.specs.Filled.{items}
 use Rattle.records.specs.declared.Parsed.the-variants.{Input, Refused}
+use Rattle.records.proofs.Bytes.{number, numbers, recordOf, pillowRecords}
 
 unfoldable all : Unit {0}
 unfolding ofBits littleEndian i32Of f64Item i32Item byteItem recordFits recordRefusal bodyBytes recordsLength lastKind operationRefusal refusalFrom recordsRefusal inputRefusal parseInput items
 all = tt
 
--- the k bytes of a number, the lowest first
-abbrev number : ℕ → ℕ → List ℕ
-number zero n = []
-number (suc k) n = n % 256 ∷ number k (n / 256)
-
-abbrev numbers : ℕ → List ℕ → List ℕ
-numbers k [] = []
-numbers k (n ∷ ns) = number k n ++ numbers k ns
-
-abbrev recordOf : ℕ → List ℕ → List ℕ
-recordOf kind body = number 4 (length body) ++ number 2 kind ++ body
-
--- the pillow's positions and halfedges
-abbrev positions : List ℕ
-positions = numbers 8 (0 ∷ 0 ∷ 0 ∷ 0x4008_0000_0000_0000 ∷ 0 ∷ 0 ∷ 0 ∷ 0x4018_0000_0000_0000 ∷ 0 ∷ [])
-
-abbrev halfedges : List ℕ
-halfedges = numbers 4 (0 ∷ 1 ∷ 5 ∷ 1 ∷ 2 ∷ 4 ∷ 2 ∷ 0 ∷ 3 ∷ 0 ∷ 2 ∷ 2 ∷ 2 ∷ 1 ∷ 1 ∷ 1 ∷ 0 ∷ 0 ∷ [])
-
 -- an operation over the pillow with so many bytes of tangents
-abbrev pillow : ℕ → ℕ → List ℕ
-pillow operation bytes =
-    recordOf 1 (operation ∷ []) ++ recordOf 2 (number 2 3 ++ number 2 6) ++ recordOf 3 positions ++ recordOf 4 halfedges ++ recordOf 5 (replicate bytes 0)
+abbrev input : ℕ → ℕ → List ℕ
+input operation bytes = pillowRecords operation (replicate bytes 0)
 
-straighten : parseInput (pillow 1 192) ≡ Input 1 3 6
+straighten : parseInput (input 1 192) ≡ Input 1 3 6
 unfolding all
 straighten = refl
 
-check : parseInput (pillow 3 192) ≡ Input 3 3 6
+check : parseInput (input 3 192) ≡ Input 3 3 6
 unfolding all
 check = refl
 
-spread : parseInput (pillow 2 192 ++ recordOf 6 (replicate 72 0) ++ recordOf 7 (replicate 6 1)) ≡ Input 2 3 6
+spread : parseInput (input 2 192 ++ recordOf 6 (replicate 72 0) ++ recordOf 7 (replicate 6 1)) ≡ Input 2 3 6
 unfolding all
 spread = refl
 
 -- spreading without its normals: the record that is due there does not fit
-no-normals : parseInput (pillow 2 192) ≡ Refused 20 371
+no-normals : parseInput (input 2 192) ≡ Refused 20 371
 unfolding all
 no-normals = refl
 
@@ -60,11 +42,11 @@ empty : parseInput [] ≡ Refused 20 0
 unfolding all
 empty = refl
 
-cut-off : parseInput (take 370 (pillow 1 192)) ≡ Refused 20 173
+cut-off : parseInput (take 370 (input 1 192)) ≡ Refused 20 173
 unfolding all
 cut-off = refl
 
-cut-header : parseInput (take 100 (pillow 1 192)) ≡ Refused 20 95
+cut-header : parseInput (take 100 (input 1 192)) ≡ Refused 20 95
 unfolding all
 cut-header = refl
 
@@ -77,11 +59,11 @@ other-kind : parseInput (recordOf 2 (number 2 3 ++ number 2 6)) ≡ Refused 21 0
 unfolding all
 other-kind = refl
 
-kind-first : parseInput (recordOf 1 (1 ∷ []) ++ recordOf 3 positions) ≡ Refused 21 7
+kind-first : parseInput (recordOf 1 (1 ∷ []) ++ recordOf 3 (numbers 8 positionBits)) ≡ Refused 21 7
 unfolding all
 kind-first = refl
 
-other-length : parseInput (pillow 1 191) ≡ Refused 22 173
+other-length : parseInput (input 1 191) ≡ Refused 22 173
 unfolding all
 other-length = refl
 
@@ -89,28 +71,28 @@ length-first : parseInput (recordOf 1 (4 ∷ 4 ∷ [])) ≡ Refused 22 0
 unfolding all
 length-first = refl
 
-unknown : parseInput (pillow 4 192) ≡ Refused 23 0
+unknown : parseInput (input 4 192) ≡ Refused 23 0
 unfolding all
 unknown = refl
 
-left-over : parseInput (pillow 1 192 ++ (0 ∷ [])) ≡ Refused 24 371
+left-over : parseInput (input 1 192 ++ (0 ∷ [])) ≡ Refused 24 371
 unfolding all
 left-over = refl
 
 -- one byte past the limit is too long
-longest : parseInput (pillow 1 192 ++ replicate 65165 0) ≡ Refused 24 371
+longest : parseInput (input 1 192 ++ replicate 65165 0) ≡ Refused 24 371
 unfolding all
 longest = refl
 
-too-long : parseInput (pillow 1 192 ++ replicate 65166 0) ≡ Refused 20 0
+too-long : parseInput (input 1 192 ++ replicate 65166 0) ≡ Refused 20 0
 unfolding all
 too-long = refl
 
-positions-read : items (f64Item (pillow 1 192) (bodyAt 3 6 3)) 9 ≡ lit 0 ∷ lit 0 ∷ lit 0 ∷ lit 0x4008_0000_0000_0000 ∷ lit 0 ∷ lit 0 ∷ lit 0 ∷ lit 0x4018_0000_0000_0000 ∷ lit 0 ∷ []
+positions-read : items (f64Item (input 1 192) (bodyAt 3 6 3)) 9 ≡ positions
 unfolding all
 positions-read = refl
 
-halfedges-read : items (i32Item (pillow 1 192) (bodyAt 3 6 4)) 18 ≡ map pos (0 ∷ 1 ∷ 5 ∷ 1 ∷ 2 ∷ 4 ∷ 2 ∷ 0 ∷ 3 ∷ 0 ∷ 2 ∷ 2 ∷ 2 ∷ 1 ∷ 1 ∷ 1 ∷ 0 ∷ 0 ∷ [])
+halfedges-read : items (i32Item (input 1 192) (bodyAt 3 6 4)) 18 ≡ pillow
 unfolding all
 halfedges-read = refl
 

@@ -2,7 +2,6 @@
 use Prim.Native.Nat.{ℕ}
 use mathlib.Core.Path.{_≡_, refl}
 use mathlib.Core.List.{List, [], _∷_}
-use lib.IntN.{ℤ, pos}
 use lib.Ieee as Ieee
 use lib.Ieee.{Float, nan}
 use Rattle.float.specs.Ops.{lit, zero, half, one}
@@ -13,6 +12,7 @@ use Rattle.linalg.specs.Vec.{dotOf}
 use Rattle.mesh.specs.Mesh.{numberAt, indexOf, field, nextHalfedge}
 use Rattle.mesh.specs.Lowest.{lowest}
 use Rattle.common.specs.Fold.{foldTo}
+use Rattle.common.specs.Pillow.{pillow}
 use Rattle.mesh.specs.Scalar.{radiansOf}
 use Rattle.mesh.specs.Check.{checkMesh}
 use Rattle.smoothing.specs.Lists.{pointAt}
@@ -20,11 +20,6 @@ use Rattle.sharpen.specs.Crease.{minRadians, dihedralOf, isCrease}
 use Rattle.sharpen.specs.Entries.{entriesIn, pushEntry, pushEdge, listEdge, countBelow}
 use Rattle.sharpen.specs.Sharpen.{sharpenEdges, entriesAfter}
 use Rattle.sharpen.specs.declared.Listing.the-variants.{Listed, Refused}
-
-abbrev pillow : List ℤ
-pillow =
-    pos 0 ∷ pos 1 ∷ pos 5 ∷ pos 1 ∷ pos 2 ∷ pos 4 ∷ pos 2 ∷ pos 0 ∷ pos 3 ∷
-    pos 0 ∷ pos 2 ∷ pos 2 ∷ pos 2 ∷ pos 1 ∷ pos 1 ∷ pos 1 ∷ pos 0 ∷ pos 0 ∷ []
 
 abbrev opposite : List Float
 opposite = zero ∷ zero ∷ one ∷ zero ∷ zero ∷ Ieee.neg one ∷ []
