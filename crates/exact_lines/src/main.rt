@@ -75,31 +75,56 @@ fn spread(
     );
 }
 
+// The four calls. `x` and `y` serve as the normals and the smoothness of the listing, and as the scratch of spreading.
+fn ask(
+    asked: &[u8],
+    n: usize,
+    p: usize,
+    h: &[i32],
+    pos: &[f64],
+    fixed: &[u8],
+    t: &mut [f64],
+    x: &mut [f64],
+    y: &mut [f64],
+    halfedges: &mut [usize],
+) {
+    straighten(asked, n, p, h, pos, t);
+    check(asked, n, p, h, pos, t);
+    crease(asked, n, p, h, x, halfedges, y);
+    spread(asked, n, p, h, pos, fixed, t, x, y);
+}
+
 // So many halfedges, with the whole lists of 65,535 that are all 0: start, end and pair are 0, and there is one point. What
 // gets through question 1 gets as far as question 5, at 1, whose pair 0 does not name it back.
 fn count(asked: &[u8], n: usize) {
-    let h = [0; 196605];
-    let pos = [0.0; 3];
-    let mut t = [0.0; 262140];
-    let mut x = [0.0; 65535];
-    let mut y = [0.0; 65535];
-    straighten(asked, n, 1, &h, &pos, &mut t);
-    check(asked, n, 1, &h, &pos, &t);
-    crease(asked, n, 1, &h, &x, &mut [0usize; 65535], &mut y);
-    spread(asked, n, 1, &h, &pos, &[0u8; 65535], &mut t, &mut x, &mut y);
+    ask(
+        asked,
+        n,
+        1,
+        &[0; 196605],
+        &[0.0; 3],
+        &[0u8; 65535],
+        &mut [0.0; 262140],
+        &mut [0.0; 65535],
+        &mut [0.0; 65535],
+        &mut [0usize; 65535],
+    );
 }
 
 // The pillow, with this start for halfedge 2.
 fn start(asked: &[u8], vert: i32) {
-    let h = [0, 1, 5, 1, 2, 4, vert, 0, 3, 0, 2, 2, 2, 1, 1, 1, 0, 0];
-    let pos = [0.0, 0.0, 0.0, 3.0, 0.0, 0.0, 0.0, 6.0, 0.0];
-    let mut t = [0.0; 24];
-    let mut x = [0.0; 6];
-    let mut y = [0.0; 6];
-    straighten(asked, 6, 3, &h, &pos, &mut t);
-    check(asked, 6, 3, &h, &pos, &t);
-    crease(asked, 6, 3, &h, &x, &mut [0usize; 6], &mut y);
-    spread(asked, 6, 3, &h, &pos, &[0u8; 6], &mut t, &mut x, &mut y);
+    ask(
+        asked,
+        6,
+        3,
+        &[0, 1, 5, 1, 2, 4, vert, 0, 3, 0, 2, 2, 2, 1, 1, 1, 0, 0],
+        &[0.0, 0.0, 0.0, 3.0, 0.0, 0.0, 0.0, 6.0, 0.0],
+        &[0u8; 6],
+        &mut [0.0; 24],
+        &mut [0.0; 6],
+        &mut [0.0; 6],
+        &mut [0usize; 6],
+    );
 }
 
 fn wrap(bits: u64) {
