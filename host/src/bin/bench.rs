@@ -22,21 +22,22 @@ fn unit(c: &Block, repeats: usize) -> f64 {
     let (refs, entries, values) = (c.signed("ref"), c.numbers("sh"), c.floats("ss"));
     let own = c.floats("nrm");
     let (mut scratch, mut scratch2) = (CreateScratch::new(n, p, 0), NormalsScratch::new(n, p, 0));
+    let (op, old) = (c.op(), c.has("tan"));
     let mut least = f64::MAX;
     for _ in 0..repeats {
         let mut t = lent.clone();
         t.resize(4 * n, 0.0);
         let start = Instant::now();
-        match c.op() {
+        match op {
             "straighten" => linearize_flat_tangents(n, p, &h, &pos, &mut t).expect("accepted"),
             "check" => drop(std::hint::black_box(valid_tangents(n, p, &h, &pos, &t).expect("accepted"))),
             "crease" => drop(sharpen_edges(n, p, &h, &fnm, 60.0, 0.0, &mut list, &mut smooth).expect("accepted")),
             "spread" => drop(distribute_tangents(n, p, &h, &pos, &vn, &flags, &mut t, &mut current, &mut desired).expect("accepted")),
             "sharp" => {
-                create_tangents(n, p, &h, &pos, &vn, &fnm, &refs, &entries, &values, c.has("tan"), &mut t, &mut scratch).expect("accepted")
+                create_tangents(n, p, &h, &pos, &vn, &fnm, &refs, &entries, &values, old, &mut t, &mut scratch).expect("accepted")
             }
             "normals" => {
-                create_tangents_from_normals(n, p, &h, &pos, &vn, &fnm, &refs, &own, c.has("tan"), &mut t, &mut scratch2).expect("accepted")
+                create_tangents_from_normals(n, p, &h, &pos, &vn, &fnm, &refs, &own, old, &mut t, &mut scratch2).expect("accepted")
             }
             op => panic!("no timing of {op}"),
         }
