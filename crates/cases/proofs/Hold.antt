@@ -7,7 +7,7 @@ use Rattle.math.specs.Kernels.{absHighWord, signBit}
 use Rattle.math.specs.Trig.{sinOf, cosOf}
 use Rattle.math.specs.Acos.{acosOf, acosBeyond, acosSmall}
 use Rattle.linalg.specs.Vec.{add3, sub3, neg3, div3, dotOf, length2Of, lengthOf}
-use Rattle.mesh.specs.Mesh.{numberAt, indexOf, field, nextHalfedge, prevHalfedge}
+use Rattle.mesh.specs.Mesh.{numberAt, indexOf, field, asHalfedges, nextHalfedge, prevHalfedge}
 use Rattle.mesh.specs.Lowest.{lowestFrom, lowest}
 use Rattle.common.specs.Fold.{foldTo}
 use Rattle.mesh.specs.Check.{checkMesh}
@@ -30,7 +30,7 @@ unfolding add sub mul div neg lt le eq ne round ofBits toBits maxOf isFinite squ
 floats = tt
 
 unfoldable pub meshes : Unit {0}
-unfolding numberAt indexOf field nextHalfedge prevHalfedge lowestFrom lowest foldTo checkMesh
+unfolding numberAt indexOf field asHalfedges nextHalfedge prevHalfedge lowestFrom lowest foldTo checkMesh
 meshes = tt
 
 unfoldable pub calls : Unit {0}

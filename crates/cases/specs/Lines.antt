@@ -11,7 +11,7 @@ use Rattle.math.specs.Trig.{sinOf, cosOf}
 use Rattle.math.specs.Acos.{acosOf}
 use Rattle.linalg.specs.declared.Vec3.{Vec3}
 use Rattle.linalg.specs.declared.Vec4.{Vec4}
-use Rattle.mesh.specs.Mesh.{nextHalfedge, prevHalfedge}
+use Rattle.mesh.specs.Mesh.{asHalfedges, nextHalfedge, prevHalfedge}
 use Rattle.mesh.specs.declared.Checked.{Checked}
 use Rattle.mesh.specs.declared.Checked.the-variants.{Refused}
 use Rattle.smoothing.specs.Directions.{circularTangent}
@@ -91,7 +91,7 @@ circularTangents =
 
 -- the mark check of the pillow with these weights
 abbrev pub marks : List Float → Value
-marks ws = validity (validAnswer pillow positions (weighted ws) halfedges points)
+marks ws = validity (validAnswer (asHalfedges pillow) positions (weighted ws) halfedges points)
 
 abbrev pub minus : Float
 minus = neg one
@@ -107,11 +107,11 @@ pillowMarks =
 
 -- Pillow with the pair of 0 set to 0: refused 5, place 5.
 abbrev pub pillowRefused : List Line
-pillowRefused = (checked (linearizeAnswer (pillowWith 0) positions noTangents halfedges points) is checked (Refused 5 5)) ∷ []
+pillowRefused = (checked (linearizeAnswer (asHalfedges (pillowWith 0)) positions noTangents halfedges points) is checked (Refused 5 5)) ∷ []
 
 -- the answer to spreading the straightened pillow, point normals all 0, with these flags
 abbrev pub spreading : List ℕ → Value
-spreading flags = counts (distributeTangents pillow positions zeroNormals flags straightened zeroAngles zeroAngles halfedges points)
+spreading flags = counts (distributeTangents (asHalfedges pillow) positions zeroNormals flags straightened zeroAngles zeroAngles halfedges points)
 
 -- Pillow, straightened tangents of the listing below, point normals all 0, flag on 0 only: looked 2, turned 0. All flags: looked 6, turned 0. No flags: looked 0, turned 0.
 abbrev pub pillowSpread : List Line
@@ -124,7 +124,7 @@ pillowSpread =
 -- The whole listing: the pillow straightened, all tangents 0.
 abbrev pub pillowStraightened : List Line
 pillowStraightened =
-    (tangents (tangentsAfter pillow positions noTangents halfedges points)
+    (tangents (tangentsAfter (asHalfedges pillow) positions noTangents halfedges points)
     is tangents
     (floatsOf
     (0x3ff0000000000000 ∷ 0x0000000000000000 ∷ 0x0000000000000000 ∷ 0x3ff0000000000000

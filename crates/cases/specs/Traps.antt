@@ -6,6 +6,7 @@ use lib.IntN.{ℤ, pos}
 use lib.Ieee.{Float, neg}
 use Rattle.common.specs.Pillow.{floatsOf}
 use Rattle.float.specs.Ops.{zero, one}
+use Rattle.mesh.specs.Mesh.{asHalfedges}
 use Rattle.distribute.specs.declared.Spreading.the-variants.{Spread}
 use Rattle.distribute.specs.Distribute.{distributeTangents, tangentsAfter}
 use Rattle.cases.specs.Lines.{Value, Line, counts, tangents, _is_}
@@ -58,10 +59,10 @@ abbrev pub angles : List Float
 angles = replicate 12 zero
 
 abbrev pub spreading : List ℕ → List Float → Value
-spreading X T = counts (distributeTangents square corners upwards X T angles angles 12 4)
+spreading X T = counts (distributeTangents (asHalfedges square) corners upwards X T angles angles 12 4)
 
 abbrev pub spreadTangents : List ℕ → List Float → Value
-spreadTangents X T = tangents (tangentsAfter square corners upwards X T angles angles 12 4)
+spreadTangents X T = tangents (tangentsAfter (asHalfedges square) corners upwards X T angles angles 12 4)
 
 -- 9 is fixed and marked. The first walk from 0 reads its mark, and goes past it to 3 and 0: looked 4. The second turns 6 and ends at 9: turned 1. One that read the mark first would go on and turn 3 and 0.
 abbrev pub marked-in-an-arc : List Line

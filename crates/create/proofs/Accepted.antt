@@ -6,6 +6,7 @@ use mathlib.Core.List.{List}
 use lib.ListN.{length, getD}
 use lib.IntN.{ℤ}
 use lib.Ieee.{Float, nan}
+use Rattle.mesh.specs.Mesh.{Halfedges}
 use Rattle.mesh.specs.Sound.{Sound}
 use Rattle.mesh.specs.Questions.{hasLength, signClear}
 use Rattle.mesh.specs.Check.{checkMesh, checkRefs}
@@ -64,7 +65,7 @@ scratch-fits x f s d c l n p e =
     }
 
 -- all of it; the scratch list S may hold other numbers by then
-pub record AcceptedLists (H : List ℤ) (P N A : List Float) (I : List ℕ) (Q T : List Float) (X F : List ℕ) (S D : List Float) (C L : List ℕ) (n p : ℕ) : Type 0 where
+pub record AcceptedLists (H : Halfedges) (P N A : List Float) (I : List ℕ) (Q T : List Float) (X F : List ℕ) (S D : List Float) (C L : List ℕ) (n p : ℕ) : Type 0 where
   pub sound : Sound H n p
   pub values : length Q ≡ length I
   pub named : (k : ℕ) → k < length I → getD I k 0 < n
@@ -72,11 +73,11 @@ pub record AcceptedLists (H : List ℤ) (P N A : List Float) (I : List ℕ) (Q T
   pub smooth : length S ≡ n
   pub lists : {S′ : List Float} → length S′ ≡ length S → Lists H P N A T X F S′ D C L n p
 
-pub accepted-lists : (H : List ℤ) (P N A : List Float) (R : List ℤ) (I : List ℕ) (Q T : List Float) (X F : List ℕ) (S D : List Float) (C L : List ℕ) (n p : ℕ)
+pub accepted-lists : (H : Halfedges) (P N A : List Float) (R : List ℤ) (I : List ℕ) (Q T : List Float) (X F : List ℕ) (S D : List Float) (C L : List ℕ) (n p : ℕ)
     → checkLists H P N A R I Q T X F S D C L n p ≡ Accepted → AcceptedLists H P N A I Q T X F S D C L n p
 unfolding checkCreate
 accepted-lists H P N A R I Q T X F S D C L n p e =
-    let lengths = listsFit (length H) (length P) (length N) (length A) (length R) (length I) (length Q) (length T) n p && scratchFits (length X) (length F) (length S) (length D) (length C) (length L) n p in
+    let lengths = listsFit (H .numbers) (length P) (length N) (length A) (length R) (length I) (length Q) (length T) n p && scratchFits (length X) (length F) (length S) (length D) (length C) (length L) n p in
     let a = entries-accepted (checkRefs (checkMesh H n p lengths) R n) n I Q e in
     let b = accepted H n p lengths (refs-accepted (checkMesh H n p lengths) n R (a .0) .0) in
     let q = and-true _ _ (b .0) in
@@ -96,6 +97,6 @@ accepted-lists H P N A R I Q T X F S D C L n p e =
     }
 
 -- the tangents U, made with the smoothness S that the entries E give
-pub made : (H : List ℤ) (P N A : List Float) (R : List ℤ) (E : List Smoothness) (T : List Float) (old : Bool) (n p : ℕ) → Sound H n p → EntriesIn E n
+pub made : (H : Halfedges) (P N A : List Float) (R : List ℤ) (E : List Smoothness) (T : List Float) (old : Bool) (n p : ℕ) → Sound H n p → EntriesIn E n
     → {S U : List Float} {m : ℕ} → m ≡ n → S ≡ entrySmoothness E m → U ≡ createFilled H P N A R S T old n p → U ≡ createTangents H P N A R E T old n p
 made H P N A R E T old n p s i q e u = u ∙ ap (λ (Z : List Float). createFilled H P N A R Z T old n p) (e ∙ ap (entrySmoothness E) q) ∙ filled-same H P N A R E T old n p s i

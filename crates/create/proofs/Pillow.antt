@@ -7,7 +7,7 @@ use lib.IntN.{ℤ, pos}
 use lib.Ieee.{Float, neg, ofBits}
 use Rattle.float.specs.Ops.{zero, one, half}
 use Rattle.common.specs.Pillow.{pillow, refs}
-use Rattle.mesh.specs.Mesh.{nextHalfedge, numberAt, indexOf, field}
+use Rattle.mesh.specs.Mesh.{nextHalfedge, numberAt, indexOf, field, asHalfedges}
 use Rattle.mesh.specs.Lowest.{lowest, lowestFrom}
 use Rattle.mesh.specs.Questions.{signClear}
 use Rattle.mesh.specs.Check.{checkMesh, checkRefs, checkEntries}
@@ -18,11 +18,11 @@ use Rattle.create.specs.Create.{checkCreate, checkLists}
 -- the answer, with so many places in the last scratch list, face references and sharp entries
 abbrev answer : ℕ → List ℤ → List ℕ → List Float → Checked
 answer k R entries values =
-    checkLists pillow (replicate 9 one) (replicate 9 one) (replicate 6 one) R entries values (replicate 24 one)
+    checkLists (asHalfedges pillow) (replicate 9 one) (replicate 9 one) (replicate 6 one) R entries values (replicate 24 one)
     (replicate 6 0) (replicate 6 0) (replicate 6 one) (replicate 6 one) (replicate 3 0) (replicate k 0) 6 3
 
 unfoldable all : Unit {0}
-unfolding checkCreate checkEntries checkRefs checkMesh lowest lowestFrom nextHalfedge numberAt indexOf field signClear neg ofBits
+unfolding checkCreate checkEntries checkRefs checkMesh lowest lowestFrom nextHalfedge numberAt indexOf field asHalfedges signClear neg ofBits
 all = tt
 
 accepted : answer 6 refs (0 ∷ 5 ∷ 0 ∷ []) (half ∷ one ∷ zero ∷ []) ≡ Accepted

@@ -5,6 +5,7 @@ use mathlib.Core.Bool.{Bool, _&&_}
 use lib.ListN.{length}
 use lib.IntN.{ℤ}
 use lib.Ieee.{Float}
+use Rattle.mesh.specs.Mesh.{Halfedges}
 use Rattle.mesh.specs.Questions.{hasLength}
 use Rattle.mesh.specs.Check.{checkMesh, checkRefs, checkEntries, whenAccepted}
 use Rattle.mesh.specs.declared.Checked.{Checked}
@@ -25,18 +26,18 @@ scratchFits fixed flat smooth desired at link n p =
     hasLength fixed n 1 && hasLength flat n 1 && hasLength smooth n 1 && hasLength desired n 1 && hasLength at p 1 && hasLength link n 1
 
 -- questions 1 to 10; `lengths` is the answer to question 2
-unfoldable pub checkCreate : List ℤ → List ℤ → List ℕ → List Float → ℕ → ℕ → Bool → Checked
+unfoldable pub checkCreate : Halfedges → List ℤ → List ℕ → List Float → ℕ → ℕ → Bool → Checked
 checkCreate H R I Q n p lengths = checkEntries (checkRefs (checkMesh H n p lengths) R n) I Q n
 
 -- the answer, for every input
-abbrev pub checkLists : List ℤ → List Float → List Float → List Float → List ℤ → List ℕ → List Float → List Float → List ℕ → List ℕ → List Float → List Float → List ℕ → List ℕ → ℕ → ℕ → Checked
+abbrev pub checkLists : Halfedges → List Float → List Float → List Float → List ℤ → List ℕ → List Float → List Float → List ℕ → List ℕ → List Float → List Float → List ℕ → List ℕ → ℕ → ℕ → Checked
 checkLists H P N A R I Q T X F M D W L n p =
-    let lists = listsFit (length H) (length P) (length N) (length A) (length R) (length I) (length Q) (length T) n p in
+    let lists = listsFit (H .numbers) (length P) (length N) (length A) (length R) (length I) (length Q) (length T) n p in
     let scratch = scratchFits (length X) (length F) (length M) (length D) (length W) (length L) n p in
     checkCreate H R I Q n p (lists && scratch)
 
 -- ---- the call
 
 -- the tangents after a call with this answer and the sharp entries E
-abbrev pub tangentsAfter : Checked → List ℤ → List Float → List Float → List Float → List ℤ → List Smoothness → List Float → Bool → ℕ → ℕ → List Float
+abbrev pub tangentsAfter : Checked → Halfedges → List Float → List Float → List Float → List ℤ → List Smoothness → List Float → Bool → ℕ → ℕ → List Float
 tangentsAfter answer H P N A R E T old n p = whenAccepted answer (createTangents H P N A R E T old n p) T

@@ -3,6 +3,7 @@
 ghost use mathlib.Core.Path.{_≡_};
 ghost use lib.ListN.{length, replicate};
 ghost use Rattle.float.specs.Ops.{zero};
+ghost use Rattle.mesh.specs.Mesh.{asHalfedges};
 ghost use Rattle.mesh.specs.Check.{whenAccepted, Values};
 ghost use Rattle.create_smoothness.specs.Entries.{entriesOf};
 ghost use Rattle.create.specs.Create.{listsFit, scratchFits, checkCreate, checkLists, tangentsAfter};
@@ -97,7 +98,7 @@ fn check_create(
     values: &[f64],
     lengths: bool,
 ) -> Checked
-    ensures { λ r. ⌜ r ≡ checkCreate (now (h .entry)) (now (refs .entry)) (now (entries .entry)) (now (values .entry)) n p lengths ⌝ }
+    ensures { λ r. ⌜ r ≡ checkCreate (asHalfedges (now (h .entry))) (now (refs .entry)) (now (entries .entry)) (now (values .entry)) n p lengths ⌝ }
 {
     let checked = mesh::check_mesh(h, n, p, lengths);
     mesh::check_entries(mesh::check_refs(checked, refs, n), entries, values, n)
@@ -126,15 +127,15 @@ pub fn create_tangents(
     at: &mut [usize],
     link: &mut [usize],
 ) -> Checked
-    ensures answer { λ r. ⌜ r ≡ checkLists (now (h .entry)) (now (pos .entry)) (now (normals .entry)) (now («face_normals» .entry)) (now (refs .entry)) (now (entries .entry)) (now (values .entry)) (now (t .entry)) (now (fixed .entry)) (now (flat .entry)) (now (smooth .entry)) (now (desired .entry)) (now (at .entry)) (now (link .entry)) n p ⌝ }
-    ensures tangents { λ r. ⌜ now (t .exit) ≡ tangentsAfter r (now (h .entry)) (now (pos .entry)) (now (normals .entry)) (now («face_normals» .entry)) (now (refs .entry)) (entriesOf (now (entries .entry)) (now (values .entry))) (now (t .entry)) old n p ⌝ }
+    ensures answer { λ r. ⌜ r ≡ checkLists (asHalfedges (now (h .entry))) (now (pos .entry)) (now (normals .entry)) (now («face_normals» .entry)) (now (refs .entry)) (now (entries .entry)) (now (values .entry)) (now (t .entry)) (now (fixed .entry)) (now (flat .entry)) (now (smooth .entry)) (now (desired .entry)) (now (at .entry)) (now (link .entry)) n p ⌝ }
+    ensures tangents { λ r. ⌜ now (t .exit) ≡ tangentsAfter r (asHalfedges (now (h .entry))) (now (pos .entry)) (now (normals .entry)) (now («face_normals» .entry)) (now (refs .entry)) (entriesOf (now (entries .entry)) (now (values .entry))) (now (t .entry)) old n p ⌝ }
     ensures fixed { λ r. ⌜ now (fixed .exit) ≡ whenAccepted r (replicate n 0) (now (fixed .entry)) ⌝ }
     ensures flat { λ r. ⌜ now (flat .exit) ≡ whenAccepted r (replicate n 0) (now (flat .entry)) ⌝ }
     ensures smooth { λ r. ⌜ now (smooth .exit) ≡ whenAccepted r (replicate n zero) (now (smooth .entry)) ⌝ }
     ensures desired { λ r. ⌜ now (desired .exit) ≡ whenAccepted r (replicate n zero) (now (desired .entry)) ⌝ }
     ensures at { λ r. ⌜ now (at .exit) ≡ whenAccepted r (replicate p 0) (now (at .entry)) ⌝ }
     ensures link { λ r. ⌜ now (link .exit) ≡ whenAccepted r (replicate n 0) (now (link .entry)) ⌝ }
-    ensures values { λ r. ⌜ Values (checkLists (now (h .entry)) (now (pos .entry)) (now (normals .entry)) (now («face_normals» .entry)) (now (refs .entry)) (now (entries .entry)) (now (values .entry)) (now (t .entry)) (now (fixed .entry)) (now (flat .entry)) (now (smooth .entry)) (now (desired .entry)) (now (at .entry)) (now (link .entry)) n p) r ⌝ }
+    ensures values { λ r. ⌜ Values (checkLists (asHalfedges (now (h .entry))) (now (pos .entry)) (now (normals .entry)) (now («face_normals» .entry)) (now (refs .entry)) (now (entries .entry)) (now (values .entry)) (now (t .entry)) (now (fixed .entry)) (now (flat .entry)) (now (smooth .entry)) (now (desired .entry)) (now (at .entry)) (now (link .entry)) n p) r ⌝ }
 {
     let lists = lists_fit(
         n,

@@ -5,6 +5,7 @@ use mathlib.Core.List.{List}
 use mathlib.Core.Bool.{Bool}
 use lib.IntN.{ℤ}
 use lib.Ieee.{Float}
+use Rattle.mesh.specs.Mesh.{Halfedges}
 use Rattle.smoothing.specs.Edges.{isInsideQuad}
 use Rattle.create_shared.specs.Makings.{Tangents, tangentsOf}
 use Rattle.create_core.specs.Shape.{shapedTangents}
@@ -15,7 +16,7 @@ use Rattle.create_core.specs.Core.{createWith}
 use Rattle.create_core.specs.Filled.{createFilled}
 
 -- the tangents U, where T and X are the tangents and the fixed flags before straightening, and O and S the tangents and the smoothness as lent
-pub created : (H : List ℤ) (P N A : List Float) (R : List ℤ) (S O : List Float) (old : Bool) (n p : ℕ) (T : List Float) (X : List ℕ) (U : List Float) (k : ℕ)
+pub created : (H : Halfedges) (P N A : List Float) (R : List ℤ) (S O : List Float) (old : Bool) (n p : ℕ) (T : List Float) (X : List ℕ) (U : List Float) (k : ℕ)
     → tangentsOf T X ≡ shapedTangents H P N A R (isInsideQuad H R O old) (pairsOf H R S n) n k → k ≡ p → U ≡ spreadTangents H P N X (linearizeFlatTangents H P T n) n .tangents
     → U ≡ createFilled H P N A R S O old n p
 unfolding createFilled createWith

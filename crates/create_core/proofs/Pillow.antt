@@ -6,7 +6,7 @@ use lib.ListN.{replicate}
 use lib.Ieee.{Float, lt, le, eq, ne, neg, mul, ofBits}
 use Rattle.float.specs.Ops.{zero, half, one}
 use Rattle.float.specs.F64.{minOf}
-use Rattle.mesh.specs.Mesh.{nextHalfedge, numberAt, indexOf, field, eqZ, sameFace}
+use Rattle.mesh.specs.Mesh.{nextHalfedge, numberAt, indexOf, field, asHalfedges, eqZ, sameFace}
 use Rattle.mesh.specs.Lowest.{lowest, lowestFrom}
 use Rattle.common.specs.Fold.{foldTo}
 use Rattle.common.specs.Pillow.{pillow, refs}
@@ -31,15 +31,15 @@ abbrev marks : List Float
 marks = mark ++ mark ++ mark ++ mark ++ mark ++ mark
 
 unfoldable all : Unit {0}
-unfolding shapedTangents shapeVerts shapeVert shapeCrease fixHalfedge firstTangents putFirstTangent firstTangent foldTo putTangent weightAt isInsideQuad flatFaces markFlat markNeighbor faceNeighbors isFaceNeighbor sameFace eqZ numberAt indexOf field sharpenedEdges pushBoundaries pushBoundary edgesOf insert modify orInsert andModify keyOf minOf vertTangents pushEdge pushAt creaseOf vertHalfedge lowest lowestFrom lt le eq ne neg ofBits
+unfolding shapedTangents shapeVerts shapeVert shapeCrease fixHalfedge firstTangents putFirstTangent firstTangent foldTo putTangent weightAt isInsideQuad flatFaces markFlat markNeighbor faceNeighbors isFaceNeighbor sameFace eqZ numberAt indexOf field asHalfedges sharpenedEdges pushBoundaries pushBoundary edgesOf insert modify orInsert andModify keyOf minOf vertTangents pushEdge pushAt creaseOf vertHalfedge lowest lowestFrom lt le eq ne neg ofBits
 all = tt
 
 -- ---- all old tangents are marks: they stay, and the creases decide which halfedges are fixed
 
 abbrev shaped : List Smoothness → Tangents
 shaped entries =
-    shapedTangents pillow (replicate 9 one) (replicate 9 one) (replicate 6 one) refs (isInsideQuad pillow refs marks true)
-    (vertTangents pillow (edgesOf pillow (sharpenedEdges pillow refs (isFlat (flatFaces pillow refs 6)) entries 6)) 6) 6 3
+    shapedTangents (asHalfedges pillow) (replicate 9 one) (replicate 9 one) (replicate 6 one) refs (isInsideQuad (asHalfedges pillow) refs marks true)
+    (vertTangents (asHalfedges pillow) (edgesOf (asHalfedges pillow) (sharpenedEdges (asHalfedges pillow) refs (isFlat (flatFaces (asHalfedges pillow) refs 6)) entries 6)) 6) 6 3
 
 -- no crease: each point's lowest halfedge
 without-creases : shaped [] ≡ tangentsOf marks (1 ∷ 1 ∷ 1 ∷ 0 ∷ 0 ∷ 0 ∷ [])
@@ -62,14 +62,14 @@ with-first t = ones ++ t ++ ones ++ ones ++ ones ++ mark
 
 -- the mean is a half
 unfoldable walk : Unit {0}
-unfolding sharpenMeeting sharpenMeetingAt meetingSmoothness sharpenTangent sharpened tangentAt putTangent weightAt cycleFrom nextAround nextHalfedge numberAt indexOf field eq neg mul ofBits
+unfolding sharpenMeeting sharpenMeetingAt meetingSmoothness sharpenTangent sharpened tangentAt putTangent weightAt cycleFrom nextAround nextHalfedge numberAt indexOf field asHalfedges eq neg mul ofBits
 walk = tt
 
-by-the-mean : sharpenMeeting pillow (isFlat (0 ∷ 0 ∷ [])) 6 (with-first ones) 1 half ≡ with-first (half ∷ half ∷ half ∷ one ∷ [])
+by-the-mean : sharpenMeeting (asHalfedges pillow) (isFlat (0 ∷ 0 ∷ [])) 6 (with-first ones) 1 half ≡ with-first (half ∷ half ∷ half ∷ one ∷ [])
 unfolding walk
 by-the-mean = refl
 
 -- triangle 1, across halfedge 1, is flat
-by-zero : sharpenMeeting pillow (isFlat (0 ∷ 1 ∷ [])) 6 (with-first ones) 1 half ≡ with-first (zero ∷ zero ∷ zero ∷ zero ∷ [])
+by-zero : sharpenMeeting (asHalfedges pillow) (isFlat (0 ∷ 1 ∷ [])) 6 (with-first ones) 1 half ≡ with-first (zero ∷ zero ∷ zero ∷ zero ∷ [])
 unfolding walk
 by-zero = refl

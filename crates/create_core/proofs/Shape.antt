@@ -6,6 +6,7 @@ use mathlib.Core.Bool.{Bool}
 use lib.ListN.{replicate}
 use lib.IntN.{ℤ}
 use lib.Ieee.{Float}
+use Rattle.mesh.specs.Mesh.{Halfedges}
 use Rattle.create_shared.specs.Faces.{flatFaces, isFlat}
 use Rattle.create_edges.specs.Smoothness.{smoothness}
 use Rattle.create_creases.specs.Linked.{pairsAt}
@@ -16,7 +17,7 @@ use Rattle.create_core.specs.Shape.{shapedTangents}
 use Rattle.create_core.specs.Lent.{pairsOf}
 
 -- the flags `flat`, S, T and X as the calls leave them, where S₀ held the smoothness of the caller's entries
-pub shaped-is : (H R : List ℤ) (P N A : List Float) (inside : ℕ → Bool) (S₀ : List Float) (n p : ℕ) (flat : ℕ → Bool) (S T : List Float) (X : List ℕ) (m k : ℕ)
+pub shaped-is : (H : Halfedges) (R : List ℤ) (P N A : List Float) (inside : ℕ → Bool) (S₀ : List Float) (n p : ℕ) (flat : ℕ → Bool) (S T : List Float) (X : List ℕ) (m k : ℕ)
     → flat ≡ isFlat (flatFaces H R n) → S ≡ smoothness H R flat S₀ n → T ≡ firstTangents H P N A R inside n → X ≡ replicate m 0 → m ≡ n → k ≡ p
     → shapeVerts H P flat n (pairsAt H S n) k (tangentsOf T X) ≡ shapedTangents H P N A R inside (pairsOf H R S₀ n) n p
 unfolding shapedTangents

@@ -3,6 +3,7 @@
 ghost use mathlib.Core.Path.{_≡_};
 ghost use lib.ListN.{length, replicate};
 ghost use Rattle.float.specs.Ops.{zero};
+ghost use Rattle.mesh.specs.Mesh.{asHalfedges};
 ghost use Rattle.smoothing.specs.Edges.{isInsideQuad};
 ghost use Rattle.create_shared.specs.Makings.{tangentsOf};
 ghost use Rattle.linearize.specs.Linearize.{linearizeFlatTangents};
@@ -29,8 +30,8 @@ fn shape_tangents(
     at: &mut [usize],
     link: &mut [usize],
 )
-    requires { ⌜ CreateLists (now h) (now pos) (now normals) (now «face_normals») (now t) (now fixed) (now flat) (now smooth) (now at) (now link) n ⌝ }
-    ensures { λ _. ⌜ tangentsOf (now (t .exit)) (now (fixed .exit)) ≡ shapedTangents (now (h .entry)) (now (pos .entry)) (now (normals .entry)) (now («face_normals» .entry)) (now (refs .entry)) (isInsideQuad (now (h .entry)) (now (refs .entry)) (now (t .entry)) old) (pairsOf (now (h .entry)) (now (refs .entry)) (now (smooth .entry)) n) n (length (now (at .entry))) ⌝ }
+    requires { ⌜ CreateLists (asHalfedges (now h)) (now pos) (now normals) (now «face_normals») (now t) (now fixed) (now flat) (now smooth) (now at) (now link) n ⌝ }
+    ensures { λ _. ⌜ tangentsOf (now (t .exit)) (now (fixed .exit)) ≡ shapedTangents (asHalfedges (now (h .entry))) (now (pos .entry)) (now (normals .entry)) (now («face_normals» .entry)) (now (refs .entry)) (isInsideQuad (asHalfedges (now (h .entry))) (now (refs .entry)) (now (t .entry)) old) (pairsOf (asHalfedges (now (h .entry))) (now (refs .entry)) (now (smooth .entry)) n) n (length (now (at .entry))) ⌝ }
 {
     create_initial::first_tangents(n, h, refs, pos, normals, face_normals, old, t, flat, at);
     create_creases::find_creases(n, h, refs, flat, smooth, at, link);
@@ -51,8 +52,8 @@ fn finish_tangents(
     smooth: &mut [f64],
     desired: &mut [f64],
 )
-    requires { ⌜ SpreadLists (now h) (now pos) (now normals) (now fixed) (now t) (now smooth) (now desired) n p ⌝ }
-    ensures tangents { λ _. ⌜ now (t .exit) ≡ spreadTangents (now (h .entry)) (now (pos .entry)) (now (normals .entry)) (now (fixed .entry)) (linearizeFlatTangents (now (h .entry)) (now (pos .entry)) (now (t .entry)) n) n .tangents ⌝ }
+    requires { ⌜ SpreadLists (asHalfedges (now h)) (now pos) (now normals) (now fixed) (now t) (now smooth) (now desired) n p ⌝ }
+    ensures tangents { λ _. ⌜ now (t .exit) ≡ spreadTangents (asHalfedges (now (h .entry))) (now (pos .entry)) (now (normals .entry)) (now (fixed .entry)) (linearizeFlatTangents (asHalfedges (now (h .entry))) (now (pos .entry)) (now (t .entry)) n) n .tangents ⌝ }
     ensures smooth { λ _. ⌜ now (smooth .exit) ≡ replicate n zero ⌝ }
     ensures desired { λ _. ⌜ now (desired .exit) ≡ replicate n zero ⌝ }
 {
@@ -91,8 +92,8 @@ pub fn make_tangents(
     at: &mut [usize],
     link: &mut [usize],
 )
-    requires { ⌜ Lists (now h) (now pos) (now normals) (now «face_normals») (now t) (now fixed) (now flat) (now smooth) (now desired) (now at) (now link) n p ⌝ }
-    ensures tangents { λ _. ⌜ now (t .exit) ≡ createFilled (now (h .entry)) (now (pos .entry)) (now (normals .entry)) (now («face_normals» .entry)) (now (refs .entry)) (now (smooth .entry)) (now (t .entry)) old n p ⌝ }
+    requires { ⌜ Lists (asHalfedges (now h)) (now pos) (now normals) (now «face_normals») (now t) (now fixed) (now flat) (now smooth) (now desired) (now at) (now link) n p ⌝ }
+    ensures tangents { λ _. ⌜ now (t .exit) ≡ createFilled (asHalfedges (now (h .entry))) (now (pos .entry)) (now (normals .entry)) (now («face_normals» .entry)) (now (refs .entry)) (now (smooth .entry)) (now (t .entry)) old n p ⌝ }
     ensures fixed { λ _. ⌜ now (fixed .exit) ≡ replicate n 0 ⌝ }
     ensures flat { λ _. ⌜ now (flat .exit) ≡ replicate n 0 ⌝ }
     ensures smooth { λ _. ⌜ now (smooth .exit) ≡ replicate n zero ⌝ }

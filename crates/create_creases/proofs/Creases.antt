@@ -7,11 +7,10 @@ use mathlib.Core.Logic.{_≢_}
 use mathlib.Core.List.{List, [], _∷_}
 use mathlib.Core.Bool.{Bool, true, false, cond, not}
 use lib.ListN.{length, drop}
-use lib.IntN.{ℤ}
 use lib.Dec.{eqb}
 use lib.Ieee.{Float}
 use borrow.Author.Tests.{eqb-true}
-use Rattle.mesh.specs.Mesh.{startVert, pairedHalfedge, isForward}
+use Rattle.mesh.specs.Mesh.{startVert, pairedHalfedge, isForward, Halfedges}
 use Rattle.mesh.specs.Sound.{Sound}
 use Rattle.common.proofs.Tests.{and-true, not-both}
 use Rattle.mesh.proofs.Pairs.{one-forward, paired-injective, paired-other}
@@ -32,13 +31,13 @@ pub all-tail : (P : ℕ → Type 0) (l : List ℕ) → All P l → All P (drop 1
 all-tail P [] a = tt
 all-tail P (e ∷ l) a = a .1
 
-pub crease-forward : (H : List ℤ) (S : List Float) (f : ℕ) → isCrease H S f ≡ true → isForward H f ≡ true
+pub crease-forward : (H : Halfedges) (S : List Float) (f : ℕ) → isCrease H S f ≡ true → isForward H f ≡ true
 unfolding isCrease
 crease-forward H S f e = and-true (isForward H f) _ e .0
 
 -- ---- of each crease at the point v
 
-module _ (H : List ℤ) (S : List Float) (v : ℕ) where
+module _ (H : Halfedges) (S : List Float) (v : ℕ) where
   module _ (P : ℕ → Type 0) where
     pub all-halfedge : (e : ℕ) (l : List ℕ) → (startVert H e ≡ v → P e) → All P l → All P (addHalfedge H v e l)
     unfolding addHalfedge
@@ -78,7 +77,7 @@ module _ (H : List ℤ) (S : List Float) (v : ℕ) where
 
 -- ---- on a sound mesh
 
-module _ {H : List ℤ} {n p : ℕ} (s : Sound H n p) (S : List Float) (v : ℕ) where
+module _ {H : Halfedges} {n p : ℕ} (s : Sound H n p) (S : List Float) (v : ℕ) where
   -- they are halfedges that start at v
   pub creases-in : All (λ e. (e < n) × (startVert H e ≡ v)) (creasesAt H S n v)
   unfolding creasesAt
@@ -119,7 +118,7 @@ module _ {H : List ℤ} {n p : ℕ} (s : Sound H n p) (S : List Float) (v : ℕ)
 
 -- ---- a halfedge is on one edge only
 
-module _ {H : List ℤ} {n p : ℕ} (s : Sound H n p) (S : List Float) (f : ℕ) (h : f < n) (c : isCrease H S f ≡ true) where
+module _ {H : Halfedges} {n p : ℕ} (s : Sound H n p) (S : List Float) (f : ℕ) (h : f < n) (c : isCrease H S f ≡ true) where
   -- the pair of a forward halfedge is not forward
   backward : (g : ℕ) → g < n → isCrease H S g ≡ true → isForward H (pairedHalfedge H g) ≡ false
   backward g l d = one-forward s g l ∙ ap not (crease-forward H S g d)

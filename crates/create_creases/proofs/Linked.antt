@@ -8,11 +8,10 @@ use mathlib.Core.List.{List, [], _∷_, foldl, map}
 use mathlib.Core.Bool.{true, false, cond}
 use lib.ListN.{length, getD, set, drop, length-set}
 use lib.Seq.{getD-set-same, getD-set-other}
-use lib.IntN.{ℤ}
 use lib.Dec.{eqb, leb}
 use lib.Ieee.{Float}
 use borrow.Author.Tests.{eq-eqb, ne-eqb, le-leb, lt-leb}
-use Rattle.mesh.specs.Mesh.{startVert, pairedHalfedge}
+use Rattle.mesh.specs.Mesh.{startVert, pairedHalfedge, Halfedges}
 use Rattle.mesh.specs.Sound.{Sound}
 use Rattle.create_creases.specs.declared.Crease.the-variants.{NoCrease, OneEnd, Meeting}
 use Rattle.create_edges.specs.Smoothness.{isCrease, pairAt}
@@ -38,7 +37,7 @@ abbrev EachLinked : ℕ → List ℕ → List ℕ → (ℕ → ℕ) → (ℕ →
 EachLinked n L A ends lists p = (v : ℕ) → v < p → Linked n L (ends v) (getD A v 0) (lists v)
 
 -- a write to each of the two lists, as `link_halfedge` does
-push-keeps : (H : List ℤ) (n p e : ℕ) (L A : List ℕ) (ends : ℕ → ℕ) (lists : ℕ → List ℕ)
+push-keeps : (H : Halfedges) (n p e : ℕ) (L A : List ℕ) (ends : ℕ → ℕ) (lists : ℕ → List ℕ)
     → e < length L → length A ≡ p → startVert H e < p → ((v : ℕ) → All (λ g. g ≢ e) (lists v)) → EachLinked n L A ends lists p
     → EachLinked n (set L e (getD A (startVert H e) 0)) (set A (startVert H e) (suc n + e)) ends (λ v. addHalfedge H v e (lists v)) p
 unfolding addHalfedge
@@ -55,7 +54,7 @@ push-keeps H n p e L A ends lists l a s apart d v q = go (ℕ-discrete (startVer
     go (no x) =
         rw (ne-eqb w v x, getD-set-other A w v (suc n + e) 0 (λ z. x (sym z))) (linked-other n L (ends v) e (getD A w 0) (lists v) (getD A v 0) (apart v) (d v q))
 
-module _ {H : List ℤ} {n p : ℕ} (s : Sound H n p) (S : List Float) (f : ℕ) (h : f < n) (ends : ℕ → ℕ) where
+module _ {H : Halfedges} {n p : ℕ} (s : Sound H n p) (S : List Float) (f : ℕ) (h : f < n) (ends : ℕ → ℕ) where
   abbrev fromHere : ℕ → List ℕ
   fromHere v = creasesFrom H S v (n - f) f
 
@@ -110,11 +109,11 @@ module _ (L : List ℕ) {n end : ℕ} (low : end ≤ n) where
   linked-first c (e ∷ l) d = let q : c - suc n ≡ e = omega (arith, d .0) in rw (lt-leb c n (omega (arith, d .0)), q)
 
   -- what the creases are to a point, by how many numbers above n there are
-  pub crease-none : (H : List ℤ) (S : List Float) (c : ℕ) (l : List ℕ) → Linked n L end c l → c ≤ n → NoCrease ≡ creaseOf (map (pairAt H S) l)
+  pub crease-none : (H : Halfedges) (S : List Float) (c : ℕ) (l : List ℕ) → Linked n L end c l → c ≤ n → NoCrease ≡ creaseOf (map (pairAt H S) l)
   unfolding creaseOf
   crease-none H S c l d h = rw (linked-none c l d h)
 
-  module _ (H : List ℤ) (S : List Float) (c : ℕ) (l : List ℕ) (d : Linked n L end c l) (h : n < c) where
+  module _ (H : Halfedges) (S : List Float) (c : ℕ) (l : List ℕ) (d : Linked n L end c l) (h : n < c) where
     abbrev first : ℕ
     first = c - (n + 1)
 

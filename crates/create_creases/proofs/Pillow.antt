@@ -4,7 +4,7 @@ use mathlib.Core.List.{List, [], _∷_}
 use lib.Ieee.{Float, lt, le, eq, ne, add, div, ofBits}
 use Rattle.float.specs.Ops.{zero, half, one, lit}
 use Rattle.float.specs.F64.{minOf}
-use Rattle.mesh.specs.Mesh.{numberAt, indexOf, field}
+use Rattle.mesh.specs.Mesh.{numberAt, indexOf, field, asHalfedges}
 use Rattle.common.specs.Fold.{foldTo}
 use Rattle.common.specs.Pillow.{pillow}
 use Rattle.create_smoothness.specs.declared.Smoothness.{Smoothness}
@@ -27,23 +27,23 @@ abbrev entries : List Smoothness
 entries = sideOf 3 half ∷ sideOf 1 quarter ∷ []
 
 unfoldable all : Unit {0}
-unfolding vertTangents pushEdge pushAt foldTo edgesOf insert modify orInsert andModify keyOf minOf creaseOf throughOf meanOf sumsOf addSides field numberAt indexOf lt le eq ne add div ofBits
+unfolding vertTangents pushEdge pushAt foldTo edgesOf insert modify orInsert andModify keyOf minOf creaseOf throughOf meanOf sumsOf addSides field asHalfedges numberAt indexOf lt le eq ne add div ofBits
 all = tt
 
 -- at point 2 they are the halfedges 4 and 2: their forward halfedges 1 and 3 ascend, they themselves do not
-ascending : vertTangents pillow (edgesOf pillow entries) 6 2 ≡ pairOf (sideOf 4 one) (sideOf 1 quarter) ∷ pairOf (sideOf 2 one) (sideOf 3 half) ∷ []
+ascending : vertTangents (asHalfedges pillow) (edgesOf (asHalfedges pillow) entries) 6 2 ≡ pairOf (sideOf 4 one) (sideOf 1 quarter) ∷ pairOf (sideOf 2 one) (sideOf 3 half) ∷ []
 unfolding all
 ascending = refl
 
-goes-through : creaseOf (vertTangents pillow (edgesOf pillow entries) 6 2) ≡ Through 4 2 five-eighths three-quarters
+goes-through : creaseOf (vertTangents (asHalfedges pillow) (edgesOf (asHalfedges pillow) entries) 6 2) ≡ Through 4 2 five-eighths three-quarters
 unfolding all
 goes-through = refl
 
-ends : creaseOf (vertTangents pillow (edgesOf pillow entries) 6 0) ≡ OneEnd
+ends : creaseOf (vertTangents (asHalfedges pillow) (edgesOf (asHalfedges pillow) entries) 6 0) ≡ OneEnd
 unfolding all
 ends = refl
 
-no-creases : creaseOf (vertTangents pillow (edgesOf pillow []) 6 0) ≡ NoCrease
+no-creases : creaseOf (vertTangents (asHalfedges pillow) (edgesOf (asHalfedges pillow) []) 6 0) ≡ NoCrease
 unfolding all
 no-creases = refl
 

@@ -4,9 +4,8 @@ use native.Mathlib.Omega.{arith}
 use mathlib.Core.Path.{_≡_, refl, ap, subst}
 use mathlib.Core.List.{List, [], _∷_, map}
 use lib.ListN.{length, getD, drop}
-use lib.IntN.{ℤ}
 use lib.Ieee.{Float}
-use Rattle.mesh.specs.Mesh.{startVert}
+use Rattle.mesh.specs.Mesh.{startVert, Halfedges}
 use Rattle.mesh.specs.Sound.{Sound}
 use Rattle.create_shared.specs.Faces.{vertHalfedge}
 use Rattle.create_shared.proofs.Verts.{vert-halfedge-within}
@@ -20,7 +19,7 @@ use Rattle.create_creases.proofs.Linked.{linked-some, linked-in, linked
 
 -- ---- the two functions
 
-module _ {H : List ℤ} {S : List Float} {A L : List ℕ} {n : ℕ} (w : CreaseLists H S A L n) (v : ℕ) (h : v < length A) where
+module _ {H : Halfedges} {S : List Float} {A L : List ℕ} {n : ℕ} (w : CreaseLists H S A L n) (v : ℕ) (h : v < length A) where
   abbrev code : ℕ
   code = getD A v 0
 
@@ -59,7 +58,7 @@ module _ {H : List ℤ} {S : List Float} {A L : List ℕ} {n : ℕ} (w : CreaseL
 
 -- ---- which creases a point has, by what they are to it
 
-module _ (H : List ℤ) (S : List Float) where
+module _ (H : Halfedges) (S : List Float) where
   none-is : (l : List ℕ) → creaseOf (map (pairAt H S) l) ≡ NoCrease → l ≡ []
   unfolding creaseOf throughOf
   none-is [] e = refl
@@ -83,7 +82,7 @@ first-of : (P : ℕ → Type 0) (l : List ℕ) (d : ℕ) → All P l → 0 < len
 first-of P [] d a h = absurd (omega arith)
 first-of P (e ∷ l) d a h = a .0
 
-module _ {H : List ℤ} {n p : ℕ} (s : Sound H n p) (S : List Float) (v : ℕ) where
+module _ {H : Halfedges} {n p : ℕ} (s : Sound H n p) (S : List Float) (v : ℕ) where
   -- with no crease, its lowest halfedge
   pub none-first : creaseOf (pairsAt H S n v) ≡ NoCrease → firstCrease H S n v ≡ vertHalfedge H n v
   none-first e = ap (λ (l : List ℕ). getD l 0 (vertHalfedge H n v)) (none-is H S (creasesAt H S n v) e)

@@ -5,10 +5,9 @@ use native.Mathlib.Omega.{arith}
 use mathlib.Core.Path.{_≡_, refl, sym, ap, _∙_}
 use mathlib.Core.List.{List, [], _∷_, _++_, map, append-nil, append-assoc, map-append}
 use mathlib.Core.Bool.{Bool, true, false, cond}
-use lib.IntN.{ℤ}
 use lib.Dec.{eqb}
 use lib.Ieee.{Float}
-use Rattle.mesh.specs.Mesh.{startVert, pairedHalfedge}
+use Rattle.mesh.specs.Mesh.{startVert, pairedHalfedge, Halfedges}
 use Rattle.common.specs.Fold.{foldTo}
 use Rattle.mesh.specs.Sound.{Sound}
 use Rattle.create_edges.specs.Edges.{push, Pair, pairOf, Entry, absent, present}
@@ -18,7 +17,7 @@ use Rattle.create_creases.specs.Linked.{addHalfedge, addCrease, creasesF
 
 -- ---- one edge more, at the end
 
-module _ (H : List ℤ) (S : List Float) (v : ℕ) where
+module _ (H : Halfedges) (S : List Float) (v : ℕ) where
   halfedge-end : (e : ℕ) (l m : List ℕ) → addHalfedge H v e (l ++ m) ≡ addHalfedge H v e l ++ m
   unfolding addHalfedge
   halfedge-end e l m = go (eqb (startVert H e) v)
@@ -48,7 +47,7 @@ module _ (H : List ℤ) (S : List Float) (v : ℕ) where
 
 -- ---- the map
 
-module _ {H : List ℤ} {n p : ℕ} (s : Sound H n p) (S : List Float) (M : ℕ → Entry) (same : SameMap H M S n) (v : ℕ) where
+module _ {H : Halfedges} {n p : ℕ} (s : Sound H n p) (S : List Float) (M : ℕ → Entry) (same : SameMap H M S n) (v : ℕ) where
   abbrev pairs : List ℕ → List Pair
   pairs l = map (pairAt H S) l
 

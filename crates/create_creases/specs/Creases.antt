@@ -2,11 +2,10 @@
 use Prim.Native.Nat.{ℕ}
 use mathlib.Core.List.{List, [], _∷_, foldl}
 use mathlib.Core.Bool.{cond}
-use lib.IntN.{ℤ}
 use lib.Dec.{eqb}
 use lib.Ieee.{Float, lt, eq}
 use Rattle.float.specs.Ops.{_⊕_, _⊘_, zero as 0f, one, two}
-use Rattle.mesh.specs.Mesh.{startVert}
+use Rattle.mesh.specs.Mesh.{startVert, Halfedges}
 use Rattle.common.specs.Fold.{foldTo}
 use Rattle.create_edges.specs.Edges.{push, Pair, pairOf, Entry, absent, present}
 use Rattle.create_creases.specs.declared.Crease.{Crease}
@@ -20,13 +19,13 @@ unfoldable pub pushAt : (ℕ → List Pair) → ℕ → Pair → ℕ → List Pa
 pushAt vert w q v = cond (eqb w v) (push (vert v) q) (vert v)
 
 -- the body of the loop over the values of `edges`: the pair at the point where its own side starts, then with its sides exchanged at the point where the other one does
-unfoldable pub pushEdge : List ℤ → (ℕ → List Pair) → Entry → ℕ → List Pair
+unfoldable pub pushEdge : Halfedges → (ℕ → List Pair) → Entry → ℕ → List Pair
 pushEdge H vert absent = vert
 pushEdge H vert (present q) =
     pushAt (pushAt vert (startVert H (q .own .halfedge)) q) (startVert H (q .other .halfedge)) (pairOf (q .other) (q .own))
 
 -- in ascending order of the key, which is a halfedge
-unfoldable pub vertTangents : List ℤ → (ℕ → Entry) → ℕ → ℕ → List Pair
+unfoldable pub vertTangents : Halfedges → (ℕ → Entry) → ℕ → ℕ → List Pair
 vertTangents H edges n = foldTo (λ vert f. pushEdge H vert (edges f)) (λ v. []) n
 
 -- ---- two pairs: a crease through the point

@@ -3,7 +3,7 @@
 ghost use mathlib.Core.Path.{_≡_};
 ghost use Prim.Native.Nat.{ℕ, suc, _+_, _<_, _^_};
 ghost use lib.ListN.{length, getD, set};
-ghost use Rattle.mesh.specs.Mesh.{startVert};
+ghost use Rattle.mesh.specs.Mesh.{startVert, asHalfedges};
 ghost use Rattle.mesh.specs.Inside.{Inside};
 ghost use Rattle.create_shared.specs.Faces.{isFlat, vertHalfedge};
 ghost use Rattle.create_edges.specs.Smoothness.{smoothness, pairAt};
@@ -37,8 +37,8 @@ pub struct Sums {
 
 // Puts e in front of the list of the point where it starts.
 fn link_halfedge(n: usize, h: &[i32], at: &mut [usize], link: &mut [usize], e: usize)
-    requires { ⌜ (e < length (now link)) × (startVert (now h) e < length (now at)) × (n + 1 + e < 2 ^ 64) × Inside (now h) e ⌝ }
-    ensures { λ _. ⌜ (now (link .exit) ≡ set (now (link .entry)) e (getD (now (at .entry)) (startVert (now (h .entry)) e) 0)) × (now (at .exit) ≡ set (now (at .entry)) (startVert (now (h .entry)) e) (suc n + e)) ⌝ }
+    requires { ⌜ (e < length (now link)) × (startVert (asHalfedges (now h)) e < length (now at)) × (n + 1 + e < 2 ^ 64) × Inside (asHalfedges (now h)) e ⌝ }
+    ensures { λ _. ⌜ (now (link .exit) ≡ set (now (link .entry)) e (getD (now (at .entry)) (startVert (asHalfedges (now (h .entry))) e) 0)) × (now (at .exit) ≡ set (now (at .entry)) (startVert (asHalfedges (now (h .entry))) e) (suc n + e)) ⌝ }
 {
     let v = mesh::start_vert(h, e);
     link[e] = at[v];
@@ -47,8 +47,8 @@ fn link_halfedge(n: usize, h: &[i32], at: &mut [usize], link: &mut [usize], e: u
 
 // Puts the edge of f, if it is a crease, in front of the lists of its two points.
 fn link_edge(n: usize, h: &[i32], smooth: &[f64], at: &mut [usize], link: &mut [usize], f: usize)
-    requires { ⌜ (f < n) × Lists (now h) (now smooth) (now at) (now link) n × LinkedFrom (now h) (now smooth) (now at) (now link) n (f + 1) ⌝ }
-    ensures { λ _. ⌜ LinkedFrom (now (h .entry)) (now (smooth .entry)) (now (at .exit)) (now (link .exit)) n f ⌝ }
+    requires { ⌜ (f < n) × Lists (asHalfedges (now h)) (now smooth) (now at) (now link) n × LinkedFrom (asHalfedges (now h)) (now smooth) (now at) (now link) n (f + 1) ⌝ }
+    ensures { λ _. ⌜ LinkedFrom (asHalfedges (now (h .entry))) (now (smooth .entry)) (now (at .exit)) (now (link .exit)) n f ⌝ }
 {
     if !create_edges::is_crease(h, smooth, f) {
         return;
@@ -61,8 +61,8 @@ fn link_edge(n: usize, h: &[i32], smooth: &[f64], at: &mut [usize], link: &mut [
 // The creases of each point, from the last edge to the first, so that each list ascends by the forward halfedge. `at` holds
 // each point's lowest halfedge, the result of `vert_halfedge`.
 pub fn link_creases(n: usize, h: &[i32], smooth: &[f64], at: &mut [usize], link: &mut [usize])
-    requires { ⌜ Lists (now h) (now smooth) (now at) (now link) n × ((v : ℕ) → v < length (now at) → getD (now at) v 0 ≡ vertHalfedge (now h) n v) ⌝ }
-    ensures { λ _. ⌜ LinkedAll (now (h .entry)) (now (smooth .entry)) (now (at .exit)) (now (link .exit)) n ⌝ }
+    requires { ⌜ Lists (asHalfedges (now h)) (now smooth) (now at) (now link) n × ((v : ℕ) → v < length (now at) → getD (now at) v 0 ≡ vertHalfedge (asHalfedges (now h)) n v) ⌝ }
+    ensures { λ _. ⌜ LinkedAll (asHalfedges (now (h .entry))) (now (smooth .entry)) (now (at .exit)) (now (link .exit)) n ⌝ }
 {
     let mut f = n;
     while 0 < f {
@@ -82,8 +82,8 @@ pub fn find_creases(
     at: &mut [usize],
     link: &mut [usize],
 )
-    requires { ⌜ (length (now flat) ≡ n) × Lists (now h) (now smooth) (now at) (now link) n ⌝ }
-    ensures { λ _. ⌜ (now (smooth .exit) ≡ smoothness (now (h .entry)) (now (refs .entry)) (isFlat (now (flat .entry))) (now (smooth .entry)) n) × LinkedAll (now (h .entry)) (now (smooth .exit)) (now (at .exit)) (now (link .exit)) n ⌝ }
+    requires { ⌜ (length (now flat) ≡ n) × Lists (asHalfedges (now h)) (now smooth) (now at) (now link) n ⌝ }
+    ensures { λ _. ⌜ (now (smooth .exit) ≡ smoothness (asHalfedges (now (h .entry))) (now (refs .entry)) (isFlat (now (flat .entry))) (now (smooth .entry)) n) × LinkedAll (asHalfedges (now (h .entry))) (now (smooth .exit)) (now (at .exit)) (now (link .exit)) n ⌝ }
 {
     create_edges::add_flat_boundaries(h, refs, flat, smooth);
     create_shared::vert_halfedge(h, at, n);
@@ -113,8 +113,8 @@ fn count(s: f64) -> f64
 
 // The sums with both sides of crease e.
 fn add_sides(h: &[i32], smooth: &[f64], sums: Sums, e: usize) -> Sums
-    requires { ⌜ SidesIn (now h) (now smooth) e ⌝ }
-    ensures { λ r. ⌜ r ≡ addSides sums (pairAt (now (h .entry)) (now (smooth .entry)) e) ⌝ }
+    requires { ⌜ SidesIn (asHalfedges (now h)) (now smooth) e ⌝ }
+    ensures { λ r. ⌜ r ≡ addSides sums (pairAt (asHalfedges (now (h .entry))) (now (smooth .entry)) e) ⌝ }
 {
     let a = smooth[e];
     let b = create_edges::pair_smoothness(h, smooth, e);
@@ -126,8 +126,8 @@ fn add_sides(h: &[i32], smooth: &[f64], sums: Sums, e: usize) -> Sums
 
 // The sums over all creases of point v.
 fn crease_sums(n: usize, h: &[i32], smooth: &[f64], at: &[usize], link: &[usize], v: usize) -> Sums
-    requires { ⌜ (v < length (now at)) × CreaseLists (now h) (now smooth) (now at) (now link) n ⌝ }
-    ensures { λ r. ⌜ r ≡ sumsOf (pairsAt (now (h .entry)) (now (smooth .entry)) n v) ⌝ }
+    requires { ⌜ (v < length (now at)) × CreaseLists (asHalfedges (now h)) (now smooth) (now at) (now link) n ⌝ }
+    ensures { λ r. ⌜ r ≡ sumsOf (pairsAt (asHalfedges (now (h .entry))) (now (smooth .entry)) n v) ⌝ }
 {
     let mut sums = Sums {
         smoothness: 0.0,
@@ -155,8 +155,8 @@ fn mean(sums: Sums) -> f64
 
 // A crease through a point, of the halfedges `first` and `second`.
 fn through(h: &[i32], smooth: &[f64], first: usize, second: usize) -> Crease
-    requires { ⌜ SidesIn (now h) (now smooth) first × SidesIn (now h) (now smooth) second ⌝ }
-    ensures { λ r. ⌜ r ≡ throughOf (pairAt (now (h .entry)) (now (smooth .entry)) first) (pairAt (now (h .entry)) (now (smooth .entry)) second) ⌝ }
+    requires { ⌜ SidesIn (asHalfedges (now h)) (now smooth) first × SidesIn (asHalfedges (now h)) (now smooth) second ⌝ }
+    ensures { λ r. ⌜ r ≡ throughOf (pairAt (asHalfedges (now (h .entry))) (now (smooth .entry)) first) (pairAt (asHalfedges (now (h .entry))) (now (smooth .entry)) second) ⌝ }
 {
     Crease::Through {
         first: first,
@@ -175,8 +175,8 @@ pub fn crease_at(
     link: &[usize],
     v: usize,
 ) -> Crease
-    requires { ⌜ (v < length (now at)) × CreaseLists (now h) (now smooth) (now at) (now link) n ⌝ }
-    ensures { λ r. ⌜ r ≡ creaseOf (pairsAt (now (h .entry)) (now (smooth .entry)) n v) ⌝ }
+    requires { ⌜ (v < length (now at)) × CreaseLists (asHalfedges (now h)) (now smooth) (now at) (now link) n ⌝ }
+    ensures { λ r. ⌜ r ≡ creaseOf (pairsAt (asHalfedges (now (h .entry))) (now (smooth .entry)) n v) ⌝ }
 {
     let code = at[v];
     if code <= n {

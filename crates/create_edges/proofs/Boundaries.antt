@@ -2,13 +2,12 @@
 use Prim.Native.Nat.{ℕ, zero, suc, _+_, _*_, _/_, _%_, _≤_, _<_}
 use native.Mathlib.Omega.{arith}
 use mathlib.Core.Path.{_≡_, refl, sym, ap, _∙_}
-use mathlib.Core.List.{List, [], _∷_, _++_, foldl}
-use mathlib.Core.Bool.{Bool, true, false, cond, not, _&&_, _||_}
-use lib.ListN.{length, getD}
+use mathlib.Core.List.{List, [], _∷_, foldl}
+use mathlib.Core.Bool.{Bool, true, false, cond, not, _||_}
 use lib.IntN.{ℤ}
-use lib.Ieee.{Float, nan, ofBits}
+use lib.Ieee.{Float, ofBits}
 use Rattle.float.specs.Ops.{zero as 0f}
-use Rattle.mesh.specs.Mesh.{pairedHalfedge, sameFace}
+use Rattle.mesh.specs.Mesh.{pairedHalfedge, sameFace, Halfedges}
 use Rattle.common.specs.Fold.{foldTo}
 use Rattle.mesh.specs.Questions.{signClear}
 use Rattle.create_smoothness.specs.declared.Smoothness.{Smoothness}
@@ -39,7 +38,7 @@ each-in (x ∷ E) n a = (
 
 -- ---- the loops
 
-module _ (H R : List ℤ) (flat : ℕ → Bool) where
+module _ (H : Halfedges) (R : List ℤ) (flat : ℕ → Bool) where
   module _ (n : ℕ) where
     each-boundary : (t : ℕ) (l : List Smoothness) (j : ℕ) → t * 3 + j < n → Each (Fits n) l → Each (Fits n) (pushBoundary H R flat t l j)
     unfolding pushBoundary signClear ofBits

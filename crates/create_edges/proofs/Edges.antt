@@ -1,29 +1,27 @@
 -- The list `smoothness` says what the Rust's map `edges` says: `same-map`. Assumes nothing.
-use Prim.Native.Nat.{ℕ, zero, suc, _*_, _≤_, _<_}
-use native.Mathlib.Nat.{le-refl}
+use Prim.Native.Nat.{ℕ, _*_, _<_}
 use native.Mathlib.Decide.{ℕ-discrete}
 use native.Mathlib.Omega.{arith}
 use mathlib.Core.Path.{_≡_, refl, sym, ap, _∙_, subst}
 use mathlib.Core.Logic.{_≢_}
 use mathlib.Core.List.{List, [], _∷_, foldl}
 use mathlib.Core.Bool.{Bool, true, false, cond, not, _&&_, _||_, Bool·beq}
-use lib.ListN.{length, getD, set, replicate, length-set, length-replicate, getD-replicate}
+use lib.ListN.{length, set, replicate, length-set, length-replicate, getD-replicate}
 use lib.Seq.{getD-set-same, getD-set-other}
 use lib.IntN.{ℤ, pos}
 use lib.Dec.{eqb, ltb}
 use lib.Ieee.{Float, nan, inf, fin, up, down, lt, le, eq, ne, ofBits}
 use borrow.Author.Tests.{eq-eqb, ne-eqb, eqb-true, eqb-false, lt-ltb, ltb-false}
-use Rattle.float.specs.Ops.{zero as 0f, one}
+use Rattle.float.specs.Ops.{one}
 use Rattle.float.specs.F64.{minOf}
-use Rattle.mesh.specs.Mesh.{pairedHalfedge, isForward}
-use Rattle.common.specs.Fold.{foldTo}
+use Rattle.mesh.specs.Mesh.{pairedHalfedge, isForward, Halfedges}
 use Rattle.common.proofs.Tests.{not-both}
 use Rattle.mesh.specs.Questions.{signClear}
 use Rattle.mesh.specs.Sound.{Sound}
 use Rattle.mesh.proofs.Pairs.{one-forward}
 use Rattle.create_smoothness.specs.declared.Smoothness.{Smoothness}
 use Rattle.create_smoothness.specs.EntrySmoothness.{EntriesIn, smoothnessAt, addEntry, addSmoothness, entrySmoothness}
-use Rattle.create_edges.specs.Edges.{sideOf, Pair, pairOf, Entry, absent, present, andModify, orInsert, modify, keyOf, insert, sharpenedEdges, edgesOf}
+use Rattle.create_edges.specs.Edges.{sideOf, pairOf, Entry, absent, present, andModify, orInsert, modify, keyOf, insert, sharpenedEdges, edgesOf}
 use Rattle.create_edges.specs.Smoothness.{smoothness, pairSmoothness, isCrease, pairAt, SameMap}
 use Rattle.create_edges.proofs.Boundaries.{Each, Fits, each-sharpened, take-sharpened}
 
@@ -96,7 +94,7 @@ module _ (f g : ℕ) where
 
 -- ---- one entry, of all edges
 
-module _ {H : List ℤ} {n p : ℕ} (sound : Sound H n p) where
+module _ {H : Halfedges} {n p : ℕ} (sound : Sound H n p) where
   -- the map M and the list S
   record Agree (M : ℕ → Entry) (S : List Float) : Type 0 where
     places : length S ≡ n
@@ -216,7 +214,7 @@ same-entry f g absent x y d = rw (d .0, d .1) refl
 same-entry f g (present q) x y d = rw (d .0, d .1) refl
 
 -- On a sound mesh, where each entry names a halfedge (question 9) and is a number with a clear sign bit (question 10).
-pub same-map : {H : List ℤ} {n p : ℕ} → Sound H n p → (R : List ℤ) (flat : ℕ → Bool) (E : List Smoothness) → EntriesIn E n → SameMap H (edgesOf H (sharpenedEdges H R flat E n)) (smoothness H R flat (entrySmoothness E n) n) n
+pub same-map : {H : Halfedges} {n p : ℕ} → Sound H n p → (R : List ℤ) (flat : ℕ → Bool) (E : List Smoothness) → EntriesIn E n → SameMap H (edgesOf H (sharpenedEdges H R flat E n)) (smoothness H R flat (entrySmoothness E n) n) n
 unfolding isCrease edgesOf entrySmoothness
 same-map {H} {n} sound R flat E fits f l = go (isForward H f) refl
   where

@@ -7,7 +7,7 @@ use lib.Dec.{eqb}
 use lib.Ieee.{Float, le}
 use Rattle.float.specs.Ops.{zero, one}
 use Rattle.float.specs.F64.{minOf}
-use Rattle.mesh.specs.Mesh.{pairedHalfedge, isForward, sameFace}
+use Rattle.mesh.specs.Mesh.{pairedHalfedge, isForward, sameFace, Halfedges}
 use Rattle.common.specs.Fold.{foldTo}
 use Rattle.create_smoothness.specs.declared.Smoothness.{Smoothness}
 
@@ -22,16 +22,16 @@ push l x = l ++ (x ∷ [])
 -- ---- `sharpened_edges`: the caller's entries, and behind them one of smoothness 0 for each halfedge at which a flat face ends
 
 -- the body of the inner loop, at edge j of triangle `tri`
-unfoldable pub pushBoundary : List ℤ → List ℤ → (ℕ → Bool) → ℕ → List Smoothness → ℕ → List Smoothness
+unfoldable pub pushBoundary : Halfedges → List ℤ → (ℕ → Bool) → ℕ → List Smoothness → ℕ → List Smoothness
 pushBoundary H R flat tri l j =
     let tri2 = pairedHalfedge H (tri * 3 + j) / 3 in
     cond (not (flat tri2) || not (sameFace R tri tri2)) (push l (sideOf (tri * 3 + j) zero)) l
 
 -- the body of the outer one
-unfoldable pub pushBoundaries : List ℤ → List ℤ → (ℕ → Bool) → List Smoothness → ℕ → List Smoothness
+unfoldable pub pushBoundaries : Halfedges → List ℤ → (ℕ → Bool) → List Smoothness → ℕ → List Smoothness
 pushBoundaries H R flat l tri = cond (flat tri) (foldTo (pushBoundary H R flat tri) l 3) l
 
-unfoldable pub sharpenedEdges : List ℤ → List ℤ → (ℕ → Bool) → List Smoothness → ℕ → List Smoothness
+unfoldable pub sharpenedEdges : Halfedges → List ℤ → (ℕ → Bool) → List Smoothness → ℕ → List Smoothness
 sharpenedEdges H R flat E n = foldTo (pushBoundaries H R flat) E (n / 3)
 
 -- ---- `edges`: for the forward halfedge of an edge the smoothness of its two sides
@@ -68,15 +68,15 @@ modify forward x pair absent = present (orInsert forward x pair)
 modify forward x pair (present q) = present (andModify forward (x .smoothness) q)
 
 -- `idx`: the forward one of e and its pair
-unfoldable pub keyOf : List ℤ → ℕ → ℕ
+unfoldable pub keyOf : Halfedges → ℕ → ℕ
 keyOf H e = cond (isForward H e) e (pairedHalfedge H e)
 
 -- the body of the loop, at the entry x: the map `edges` after it. At 1 or above it is passed over.
-unfoldable pub insert : List ℤ → (ℕ → Entry) → Smoothness → ℕ → Entry
+unfoldable pub insert : Halfedges → (ℕ → Entry) → Smoothness → ℕ → Entry
 insert H edges x f =
     let e = x .halfedge in
     cond (le one (x .smoothness)) (edges f) (cond (eqb f (keyOf H e)) (modify (isForward H e) x (pairedHalfedge H e) (edges f)) (edges f))
 
 -- all entries of a list, from the empty map
-unfoldable pub edgesOf : List ℤ → List Smoothness → ℕ → Entry
+unfoldable pub edgesOf : Halfedges → List Smoothness → ℕ → Entry
 edgesOf H l = foldl (insert H) (λ f. absent) l

@@ -2,13 +2,12 @@
 use Prim.Native.Nat.{ℕ, _<_}
 use mathlib.Core.List.{List}
 use lib.ListN.{length}
-use lib.IntN.{ℤ}
 use lib.Ieee.{Float}
-use Rattle.mesh.specs.Mesh.{pairedHalfedge}
+use Rattle.mesh.specs.Mesh.{pairedHalfedge, Halfedges}
 use Rattle.mesh.specs.Inside.{Inside}
 
 -- the edge of halfedge e
-pub record SidesIn (H : List ℤ) (M : List Float) (e : ℕ) : Type 0 where
+pub record SidesIn (H : Halfedges) (M : List Float) (e : ℕ) : Type 0 where
   pub own : e < length M
   pub other : pairedHalfedge H e < length M
   pub inside : Inside H e

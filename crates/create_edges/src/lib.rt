@@ -3,6 +3,7 @@
 ghost use mathlib.Core.Path.{_≡_};
 ghost use Prim.Native.Nat.{_<_};
 ghost use lib.ListN.{length};
+ghost use Rattle.mesh.specs.Mesh.{asHalfedges};
 ghost use Rattle.create_shared.specs.Faces.{isFlat};
 ghost use Rattle.create_shared.specs.Lent.{FlatIn};
 ghost use Rattle.create_edges.specs.Lent.{SidesIn};
@@ -10,8 +11,8 @@ ghost use Rattle.create_edges.specs.Smoothness.{isFlatBoundary, addFlatB
 
 // Does halfedge e lie in a flat face, and across it another face?
 fn is_flat_boundary(h: &[i32], refs: &[i32], flat: &[u8], e: usize) -> bool
-    requires { ⌜ (e < length (now flat)) × FlatIn (now h) (length (now flat)) ⌝ }
-    ensures { λ r. ⌜ r ≡ isFlatBoundary (now (h .entry)) (now (refs .entry)) (isFlat (now (flat .entry))) e ⌝ }
+    requires { ⌜ (e < length (now flat)) × FlatIn (asHalfedges (now h)) (length (now flat)) ⌝ }
+    ensures { λ r. ⌜ r ≡ isFlatBoundary (asHalfedges (now (h .entry))) (now (refs .entry)) (isFlat (now (flat .entry))) e ⌝ }
 {
     let t = e / 3;
     if flat[t] != 1 {
@@ -26,8 +27,8 @@ fn is_flat_boundary(h: &[i32], refs: &[i32], flat: &[u8], e: usize) -> bool
 
 // The entry of a flat face for halfedge e, if it ends there.
 fn add_flat_boundary(h: &[i32], refs: &[i32], flat: &[u8], smooth: &mut [f64], e: usize)
-    requires { ⌜ (e < length (now flat)) × FlatIn (now h) (length (now flat)) × (length (now smooth) ≡ length (now flat)) ⌝ }
-    ensures { λ _. ⌜ now (smooth .exit) ≡ addFlatBoundary (now (h .entry)) (now (refs .entry)) (isFlat (now (flat .entry))) (now (smooth .entry)) e ⌝ }
+    requires { ⌜ (e < length (now flat)) × FlatIn (asHalfedges (now h)) (length (now flat)) × (length (now smooth) ≡ length (now flat)) ⌝ }
+    ensures { λ _. ⌜ now (smooth .exit) ≡ addFlatBoundary (asHalfedges (now (h .entry))) (now (refs .entry)) (isFlat (now (flat .entry))) (now (smooth .entry)) e ⌝ }
 {
     if !is_flat_boundary(h, refs, flat, e) {
         return;
@@ -37,8 +38,8 @@ fn add_flat_boundary(h: &[i32], refs: &[i32], flat: &[u8], smooth: &mut [f64], e
 
 // The entries of the flat faces, after the caller's, which `smooth` holds: 0 for each halfedge where one ends.
 pub fn add_flat_boundaries(h: &[i32], refs: &[i32], flat: &[u8], smooth: &mut [f64])
-    requires { ⌜ FlatIn (now h) (length (now flat)) × (length (now smooth) ≡ length (now flat)) ⌝ }
-    ensures { λ _. ⌜ now (smooth .exit) ≡ smoothness (now (h .entry)) (now (refs .entry)) (isFlat (now (flat .entry))) (now (smooth .entry)) (length (now (flat .entry))) ⌝ }
+    requires { ⌜ FlatIn (asHalfedges (now h)) (length (now flat)) × (length (now smooth) ≡ length (now flat)) ⌝ }
+    ensures { λ _. ⌜ now (smooth .exit) ≡ smoothness (asHalfedges (now (h .entry))) (now (refs .entry)) (isFlat (now (flat .entry))) (now (smooth .entry)) (length (now (flat .entry))) ⌝ }
 {
     let mut e = 0;
     while e < flat.len() {
@@ -49,8 +50,8 @@ pub fn add_flat_boundaries(h: &[i32], refs: &[i32], flat: &[u8], smooth: &mut [f
 
 // The smoothness of the other side of e's edge.
 pub fn pair_smoothness(h: &[i32], smooth: &[f64], e: usize) -> f64
-    requires { ⌜ SidesIn (now h) (now smooth) e ⌝ }
-    ensures { λ r. ⌜ r ≡ pairSmoothness (now (h .entry)) (now (smooth .entry)) e ⌝ }
+    requires { ⌜ SidesIn (asHalfedges (now h)) (now smooth) e ⌝ }
+    ensures { λ r. ⌜ r ≡ pairSmoothness (asHalfedges (now (h .entry))) (now (smooth .entry)) e ⌝ }
 {
     let k = mesh::paired_halfedge(h, e);
     smooth[k]
@@ -58,8 +59,8 @@ pub fn pair_smoothness(h: &[i32], smooth: &[f64], e: usize) -> f64
 
 // Is f the forward halfedge of a crease?
 pub fn is_crease(h: &[i32], smooth: &[f64], f: usize) -> bool
-    requires { ⌜ SidesIn (now h) (now smooth) f ⌝ }
-    ensures { λ r. ⌜ r ≡ isCrease (now (h .entry)) (now (smooth .entry)) f ⌝ }
+    requires { ⌜ SidesIn (asHalfedges (now h)) (now smooth) f ⌝ }
+    ensures { λ r. ⌜ r ≡ isCrease (asHalfedges (now (h .entry))) (now (smooth .entry)) f ⌝ }
 {
     if !mesh::is_forward(h, f) {
         return false;

@@ -6,6 +6,7 @@ use mathlib.Core.List.{List}
 use lib.ListN.{length, length-map}
 use lib.IntN.{ℤ}
 use lib.Ieee.{Float}
+use Rattle.mesh.specs.Mesh.{Halfedges}
 use Rattle.mesh.specs.Check.{checkMesh, checkRefs}
 use Rattle.mesh.specs.declared.Checked.{Checked}
 use Rattle.mesh.specs.declared.Checked.the-variants.{Accepted}
@@ -21,9 +22,9 @@ use Rattle.create.proofs.Accepted.{AcceptedLists, accepted-lists}
 use Rattle.create_entries.specs.CreateEntries.{checkLists}
 
 -- the lists as lent, and the counts
-module _ (H : List ℤ) (P N A : List Float) (R : List ℤ) (E : List Smoothness) (T : List Float) (X F : List ℕ) (S D : List Float) (C L : List ℕ) (n p : ℕ) where
+module _ (H : Halfedges) (P N A : List Float) (R : List ℤ) (E : List Smoothness) (T : List Float) (X F : List ℕ) (S D : List Float) (C L : List ℕ) (n p : ℕ) where
   abbrev lengths : ℕ → ℕ → Bool
-  lengths i q = listsFit (length H) (length P) (length N) (length A) (length R) i q (length T) n p && scratchFits (length X) (length F) (length S) (length D) (length C) (length L) n p
+  lengths i q = listsFit (H .numbers) (length P) (length N) (length A) (length R) i q (length T) n p && scratchFits (length X) (length F) (length S) (length D) (length C) (length L) n p
 
   abbrev pub answer : Checked
   answer = checkLists H P N A R E T X F S D C L n p

@@ -4,6 +4,7 @@ ghost use mathlib.Core.Path.{_≡_};
 ghost use mathlib.Core.Bool.{_&&_};
 ghost use lib.ListN.{length, replicate};
 ghost use Rattle.float.specs.Ops.{zero};
+ghost use Rattle.mesh.specs.Mesh.{asHalfedges};
 ghost use Rattle.mesh.specs.Check.{checkMesh, checkRefs, whenAccepted, Values};
 ghost use Rattle.create_smoothness.specs.Questions.{checkPassed};
 ghost use Rattle.create.specs.Create.{listsFit, scratchFits, tangentsAfter};
@@ -32,7 +33,7 @@ fn check_lists(
     at: usize,
     link: usize,
 ) -> Checked
-    ensures { λ r. ⌜ r ≡ checkPassed (checkRefs (checkMesh (now (h .entry)) n p (listsFit (length (now (h .entry))) (length (now (pos .entry))) (length (now (normals .entry))) (length (now («face_normals» .entry))) (length (now (refs .entry))) sharp sharp t n p && scratchFits fixed flat smooth desired at link n p)) (now (refs .entry)) n) passed sharp ⌝ }
+    ensures { λ r. ⌜ r ≡ checkPassed (checkRefs (checkMesh (asHalfedges (now (h .entry))) n p (listsFit (asHalfedges (now (h .entry)) .numbers) (length (now (pos .entry))) (length (now (normals .entry))) (length (now («face_normals» .entry))) (length (now (refs .entry))) sharp sharp t n p && scratchFits fixed flat smooth desired at link n p)) (now (refs .entry)) n) passed sharp ⌝ }
 {
     let lists = create::lists_fit(
         n,
@@ -70,15 +71,15 @@ pub fn create_entries(
     at: &mut [usize],
     link: &mut [usize],
 ) -> Checked
-    ensures answer { λ r. ⌜ r ≡ checkLists (now (h .entry)) (now (pos .entry)) (now (normals .entry)) (now («face_normals» .entry)) (now (refs .entry)) (now (sharp .entry)) (now (t .entry)) (now (fixed .entry)) (now (flat .entry)) (now (smooth .entry)) (now (desired .entry)) (now (at .entry)) (now (link .entry)) n p ⌝ }
-    ensures tangents { λ r. ⌜ now (t .exit) ≡ tangentsAfter r (now (h .entry)) (now (pos .entry)) (now (normals .entry)) (now («face_normals» .entry)) (now (refs .entry)) (now (sharp .entry)) (now (t .entry)) old n p ⌝ }
+    ensures answer { λ r. ⌜ r ≡ checkLists (asHalfedges (now (h .entry))) (now (pos .entry)) (now (normals .entry)) (now («face_normals» .entry)) (now (refs .entry)) (now (sharp .entry)) (now (t .entry)) (now (fixed .entry)) (now (flat .entry)) (now (smooth .entry)) (now (desired .entry)) (now (at .entry)) (now (link .entry)) n p ⌝ }
+    ensures tangents { λ r. ⌜ now (t .exit) ≡ tangentsAfter r (asHalfedges (now (h .entry))) (now (pos .entry)) (now (normals .entry)) (now («face_normals» .entry)) (now (refs .entry)) (now (sharp .entry)) (now (t .entry)) old n p ⌝ }
     ensures fixed { λ r. ⌜ now (fixed .exit) ≡ whenAccepted r (replicate n 0) (now (fixed .entry)) ⌝ }
     ensures flat { λ r. ⌜ now (flat .exit) ≡ whenAccepted r (replicate n 0) (now (flat .entry)) ⌝ }
     ensures smooth { λ r. ⌜ now (smooth .exit) ≡ whenAccepted r (replicate n zero) (now (smooth .entry)) ⌝ }
     ensures desired { λ r. ⌜ now (desired .exit) ≡ whenAccepted r (replicate n zero) (now (desired .entry)) ⌝ }
     ensures at { λ r. ⌜ now (at .exit) ≡ whenAccepted r (replicate p 0) (now (at .entry)) ⌝ }
     ensures link { λ r. ⌜ now (link .exit) ≡ whenAccepted r (replicate n 0) (now (link .entry)) ⌝ }
-    ensures values { λ r. ⌜ Values (checkLists (now (h .entry)) (now (pos .entry)) (now (normals .entry)) (now («face_normals» .entry)) (now (refs .entry)) (now (sharp .entry)) (now (t .entry)) (now (fixed .entry)) (now (flat .entry)) (now (smooth .entry)) (now (desired .entry)) (now (at .entry)) (now (link .entry)) n p) r ⌝ }
+    ensures values { λ r. ⌜ Values (checkLists (asHalfedges (now (h .entry))) (now (pos .entry)) (now (normals .entry)) (now («face_normals» .entry)) (now (refs .entry)) (now (sharp .entry)) (now (t .entry)) (now (fixed .entry)) (now (flat .entry)) (now (smooth .entry)) (now (desired .entry)) (now (at .entry)) (now (link .entry)) n p) r ⌝ }
 {
     let checked = check_lists(
         n,

@@ -7,6 +7,7 @@ use mathlib.Core.List.{List}
 use lib.ListN.{length}
 use lib.IntN.{ℤ}
 use lib.Ieee.{Float}
+use Rattle.mesh.specs.Mesh.{Halfedges}
 use Rattle.mesh.specs.Questions.{hasLength}
 use Rattle.mesh.specs.Check.{checkMesh}
 use Rattle.mesh.specs.Sound.{Sound}
@@ -57,11 +58,11 @@ scratch-fits x q c d f n p e =
     }
 
 -- the lists of an accepted call
-pub lists-of : (H : List ℤ) (P N A : List Float) (R : List ℤ) (G T : List Float) (X Q : List ℕ) (C D : List Float) (F : List ℕ) (n p : ℕ)
+pub lists-of : (H : Halfedges) (P N A : List Float) (R : List ℤ) (G T : List Float) (X Q : List ℕ) (C D : List Float) (F : List ℕ) (n p : ℕ)
     → checkLists H P N A R G T X Q C D F n p ≡ Accepted → Lists H P N A G T X Q C D F n p
 unfolding checkNormals
 lists-of H P N A R G T X Q C D F n p e =
-    let lengths = listsFit (length H) (length P) (length N) (length A) (length R) (length G) (length T) n p && scratchFits (length X) (length Q) (length C) (length D) (length F) n p in
+    let lengths = listsFit (H .numbers) (length P) (length N) (length A) (length R) (length G) (length T) n p && scratchFits (length X) (length Q) (length C) (length D) (length F) n p in
     let b = accepted H n p lengths (refs-accepted (checkMesh H n p lengths) n R e .0) in
     let q = and-true _ _ (b .0) in
     let l = lists-fit _ _ _ _ _ _ _ n p (q .0) in

@@ -5,6 +5,7 @@ use mathlib.Core.Bool.{Bool, _&&_}
 use lib.ListN.{length}
 use lib.IntN.{ℤ}
 use lib.Ieee.{Float}
+use Rattle.mesh.specs.Mesh.{Halfedges}
 use Rattle.mesh.specs.Questions.{hasLength}
 use Rattle.mesh.specs.Check.{checkMesh, checkRefs, whenAccepted}
 use Rattle.mesh.specs.declared.Checked.{Checked}
@@ -24,18 +25,18 @@ scratchFits fixed inside current desired first n p =
     hasLength fixed n 1 && hasLength inside n 1 && hasLength current n 1 && hasLength desired n 1 && hasLength first p 1
 
 -- questions 1 to 8; `lengths` is the answer to question 2
-unfoldable pub checkNormals : List ℤ → List ℤ → ℕ → ℕ → Bool → Checked
+unfoldable pub checkNormals : Halfedges → List ℤ → ℕ → ℕ → Bool → Checked
 checkNormals H R n p lengths = checkRefs (checkMesh H n p lengths) R n
 
 -- the answer, for every input
-abbrev pub checkLists : List ℤ → List Float → List Float → List Float → List ℤ → List Float → List Float → List ℕ → List ℕ → List Float → List Float → List ℕ → ℕ → ℕ → Checked
+abbrev pub checkLists : Halfedges → List Float → List Float → List Float → List ℤ → List Float → List Float → List ℕ → List ℕ → List Float → List Float → List ℕ → ℕ → ℕ → Checked
 checkLists H P N A R G T X B C D W n p =
-    let lists = listsFit (length H) (length P) (length N) (length A) (length R) (length G) (length T) n p in
+    let lists = listsFit (H .numbers) (length P) (length N) (length A) (length R) (length G) (length T) n p in
     let scratch = scratchFits (length X) (length B) (length C) (length D) (length W) n p in
     checkNormals H R n p (lists && scratch)
 
 -- ---- the call
 
 -- the tangents after a call with this answer
-abbrev pub tangentsAfter : Checked → List ℤ → List Float → List Float → List Float → List ℤ → List Float → List Float → Bool → ℕ → ℕ → List Float
+abbrev pub tangentsAfter : Checked → Halfedges → List Float → List Float → List Float → List ℤ → List Float → List Float → Bool → ℕ → ℕ → List Float
 tangentsAfter answer H P N A R G T old n p = whenAccepted answer (createTangentsFromNormals H P N A R G T old n p) T

@@ -3,6 +3,7 @@
 ghost use mathlib.Core.Path.{_≡_};
 ghost use lib.ListN.{length, replicate};
 ghost use Rattle.float.specs.Ops.{zero};
+ghost use Rattle.mesh.specs.Mesh.{asHalfedges};
 ghost use Rattle.mesh.specs.Check.{whenAccepted, Values};
 ghost use Rattle.create_from_normals.specs.FromNormals.{listsFit, scratchFits, checkNormals, checkLists, tangentsAfter};
 use mesh::Checked;
@@ -61,7 +62,7 @@ fn scratch_fits(
 
 // The questions 1 to 8; `lengths` is the answer to question 2.
 fn check_normals(n: usize, p: usize, h: &[i32], refs: &[i32], lengths: bool) -> Checked
-    ensures { λ r. ⌜ r ≡ checkNormals (now (h .entry)) (now (refs .entry)) n p lengths ⌝ }
+    ensures { λ r. ⌜ r ≡ checkNormals (asHalfedges (now (h .entry))) (now (refs .entry)) n p lengths ⌝ }
 {
     mesh::check_refs(mesh::check_mesh(h, n, p, lengths), refs, n)
 }
@@ -87,14 +88,14 @@ pub fn create_tangents_from_normals(
     desired: &mut [f64],
     first: &mut [usize],
 ) -> Checked
-    ensures answer { λ r. ⌜ r ≡ checkLists (now (h .entry)) (now (pos .entry)) (now (normals .entry)) (now («face_normals» .entry)) (now (refs .entry)) (now («halfedge_normals» .entry)) (now (t .entry)) (now (fixed .entry)) (now (inside .entry)) (now (current .entry)) (now (desired .entry)) (now (first .entry)) n p ⌝ }
-    ensures tangents { λ r. ⌜ now (t .exit) ≡ tangentsAfter r (now (h .entry)) (now (pos .entry)) (now (normals .entry)) (now («face_normals» .entry)) (now (refs .entry)) (now («halfedge_normals» .entry)) (now (t .entry)) old n p ⌝ }
+    ensures answer { λ r. ⌜ r ≡ checkLists (asHalfedges (now (h .entry))) (now (pos .entry)) (now (normals .entry)) (now («face_normals» .entry)) (now (refs .entry)) (now («halfedge_normals» .entry)) (now (t .entry)) (now (fixed .entry)) (now (inside .entry)) (now (current .entry)) (now (desired .entry)) (now (first .entry)) n p ⌝ }
+    ensures tangents { λ r. ⌜ now (t .exit) ≡ tangentsAfter r (asHalfedges (now (h .entry))) (now (pos .entry)) (now (normals .entry)) (now («face_normals» .entry)) (now (refs .entry)) (now («halfedge_normals» .entry)) (now (t .entry)) old n p ⌝ }
     ensures fixed { λ r. ⌜ now (fixed .exit) ≡ whenAccepted r (replicate n 0) (now (fixed .entry)) ⌝ }
     ensures inside { λ r. ⌜ now (inside .exit) ≡ whenAccepted r (replicate n 0) (now (inside .entry)) ⌝ }
     ensures current { λ r. ⌜ now (current .exit) ≡ whenAccepted r (replicate n zero) (now (current .entry)) ⌝ }
     ensures desired { λ r. ⌜ now (desired .exit) ≡ whenAccepted r (replicate n zero) (now (desired .entry)) ⌝ }
     ensures first { λ r. ⌜ now (first .exit) ≡ whenAccepted r (replicate p 0) (now (first .entry)) ⌝ }
-    ensures values { λ r. ⌜ Values (checkLists (now (h .entry)) (now (pos .entry)) (now (normals .entry)) (now («face_normals» .entry)) (now (refs .entry)) (now («halfedge_normals» .entry)) (now (t .entry)) (now (fixed .entry)) (now (inside .entry)) (now (current .entry)) (now (desired .entry)) (now (first .entry)) n p) r ⌝ }
+    ensures values { λ r. ⌜ Values (checkLists (asHalfedges (now (h .entry))) (now (pos .entry)) (now (normals .entry)) (now («face_normals» .entry)) (now (refs .entry)) (now («halfedge_normals» .entry)) (now (t .entry)) (now (fixed .entry)) (now (inside .entry)) (now (current .entry)) (now (desired .entry)) (now (first .entry)) n p) r ⌝ }
 {
     let lists = lists_fit(
         n,

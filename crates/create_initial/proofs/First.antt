@@ -8,7 +8,7 @@ use lib.ListN.{length, replicate, length-replicate}
 use lib.IntN.{ℤ}
 use lib.Ieee.{Float}
 use Rattle.float.specs.Ops as Ops
-use Rattle.mesh.specs.Mesh.{startVert, pairedHalfedge}
+use Rattle.mesh.specs.Mesh.{startVert, pairedHalfedge, Halfedges}
 use Rattle.common.specs.Fold.{foldTo}
 use Rattle.mesh.specs.Sound.{Sound}
 use Rattle.create_shared.specs.declared.FlatFace.{FlatFace}
@@ -27,7 +27,7 @@ use Rattle.create_initial.specs.Lent.{FaceIn, FirstLists, faceAt, FirstI
 
 -- ---- one turn
 
-module _ (H : List ℤ) (P N A : List Float) where
+module _ (H : Halfedges) (P N A : List Float) where
   -- the turn at e asks of e, and of its start point
   first-same : (inside inside′ : ℕ → Bool) (faces faces′ : ℕ → FlatFace) (T : List Float) (e : ℕ) → inside e ≡ inside′ e → faces (startVert H e) ≡ faces′ (startVert H e) → putFirstTangent H P N A inside faces T e ≡ putFirstTangent H P N A inside′ faces′ T e
   unfolding putFirstTangent firstTangent
@@ -44,11 +44,11 @@ module _ (H : List ℤ) (P N A : List Float) where
   first-from inside faces S T n = each-same (tangent-places n) (λ e. firstTangent H P N A inside (faces (startVert H e)) e) S T
 
 -- of the old tangents only e's own weight is read
-inside-same : (H R : List ℤ) (old : Bool) (O T : List Float) (e : ℕ) → weightAt T e ≡ weightAt O e → isInsideQuad H R T old e ≡ isInsideQuad H R O old e
+inside-same : (H : Halfedges) (R : List ℤ) (old : Bool) (O T : List Float) (e : ℕ) → weightAt T e ≡ weightAt O e → isInsideQuad H R T old e ≡ isInsideQuad H R O old e
 unfolding isInsideQuad
 inside-same H R old O T e q = rw q
 
-module _ (H R : List ℤ) (P N A : List Float) (old : Bool) (faces : ℕ → FlatFace) (O T T′ : List Float) where
+module _ (H : Halfedges) (R : List ℤ) (P N A : List Float) (old : Bool) (faces : ℕ → FlatFace) (O T T′ : List Float) where
   -- the loop that reads the old weights in the list O
   abbrev steps : ℕ → List Float
   steps = foldTo (putFirstTangent H P N A (isInsideQuad H R O old) faces) O
@@ -63,7 +63,7 @@ module _ (H R : List ℤ) (P N A : List Float) (old : Bool) (faces : ℕ → Fla
 
 -- ---- edge by edge, where there are no old tangents
 
-module _ {H : List ℤ} {P N A : List Float} {C : List ℕ} {T : List Float} {n : ℕ} (w : FirstIn H P N A C T n) (R : List ℤ) where
+module _ {H : Halfedges} {P N A : List Float} {C : List ℕ} {T : List Float} {n : ℕ} (w : FirstIn H P N A C T n) (R : List ℤ) where
   inside-there : (e : ℕ) → e < n → isInsideQuad H R T false (pairedHalfedge H e) ≡ isInsideQuad H R T false e
   inside-there = inside-pair H R n (length C) T (w .lists .sound)
 
@@ -81,7 +81,7 @@ module _ {H : List ℤ} {P N A : List Float} {C : List ℕ} {T : List Float} {n 
   edges-are = edges-same (tangent-places n) (firstAt H P N A R C T false) (w .lists .sound) T T (w .lists .tangents) (w .lists .tangents)
 
 -- one turn of it: without old tangents the list is not read
-pub edge-turn : (H R : List ℤ) (P N A : List Float) (C : List ℕ) (O T T′ : List Float) (e : ℕ) → T ≡ foldTo (putEdge putTangent H (firstAt H P N A R C O false)) O e → T′ ≡ putEdge putTangent H (firstAt H P N A R C T false) T e → T′ ≡ foldTo (putEdge putTangent H (firstAt H P N A R C O false)) O (e + 1)
+pub edge-turn : (H : Halfedges) (R : List ℤ) (P N A : List Float) (C : List ℕ) (O T T′ : List Float) (e : ℕ) → T ≡ foldTo (putEdge putTangent H (firstAt H P N A R C O false)) O e → T′ ≡ putEdge putTangent H (firstAt H P N A R C T false) T e → T′ ≡ foldTo (putEdge putTangent H (firstAt H P N A R C O false)) O (e + 1)
 unfolding isInsideQuad
 edge-turn H R P N A C O T T′ e p q = fold-turn (putEdge putTangent H (firstAt H P N A R C O false)) O T T′ e p q
 
@@ -92,7 +92,7 @@ face-in n NoFace h = tt
 face-in n (OneFace t) h = h t refl
 face-in n (MoreFaces t) h = tt
 
-module _ {H : List ℤ} {P N A : List Float} {C : List ℕ} {T : List Float} {n : ℕ} (w : FirstLists H P N A C T n) (R : List ℤ) (F C′ : List ℕ) (q : length F ≡ n)
+module _ {H : Halfedges} {P N A : List Float} {C : List ℕ} {T : List Float} {n : ℕ} (w : FirstLists H P N A C T n) (R : List ℤ) (F C′ : List ℕ) (q : length F ≡ n)
     (filled : (v : ℕ) → v < length C → faceAt C′ v ≡ vertFlatFace H R (isFlat F) (length F) v) where
   filled-is : (v : ℕ) → v < length C → faceAt C′ v ≡ vertFlatFace H R (isFlat F) n v
   filled-is v h = filled v h ∙ ap (λ (m : ℕ). vertFlatFace H R (isFlat F) m v) q

@@ -4,16 +4,15 @@ use native.Mathlib.Omega.{arith}
 use mathlib.Core.Path.{_≡_, sym, _∙_, subst}
 use mathlib.Core.List.{List}
 use lib.ListN.{length}
-use lib.IntN.{ℤ}
 use lib.Ieee.{Float}
-use Rattle.mesh.specs.Mesh.{halfedgeStride, startVert}
+use Rattle.mesh.specs.Mesh.{halfedgeStride, startVert, Halfedges}
 use Rattle.mesh.specs.Sound.{Sound}
 use Rattle.mesh.proofs.Accepted.{inside}
 use Rattle.create_shared.specs.Lent.{FlatIn, VertsIn}
 use Rattle.create_shared.proofs.Lent.{flat-in, verts-in}
 use Rattle.create_initial.specs.Lent.{FirstLists, FaceIn, faceAt, FirstIn, NormalIn}
 
-module _ {H : List ℤ} {n p : ℕ} (s : Sound H n p) (whole : length H ≡ n * halfedgeStride) where
+module _ {H : Halfedges} {n p : ℕ} (s : Sound H n p) (whole : H .numbers ≡ n * halfedgeStride) where
   pub first-lists-in : {P N A : List Float} {C : List ℕ} {T : List Float} → length C ≡ p → length P ≡ p * 3 → length N ≡ p * 3 → length A ≡ n → length T ≡ n * 4 → FirstLists H P N A C T n
   first-lists-in c l m a t = record {
     sound = subst (Sound H n) (sym c) s;
@@ -32,13 +31,13 @@ module _ {H : List ℤ} {n p : ℕ} (s : Sound H n p) (whole : length H ≡ n * 
   verts-lent F q = subst (λ (m : ℕ). VertsIn H m p) (sym q) (verts-in H n p s whole)
 
 -- a list that keeps its length
-pub first-still : {H : List ℤ} {P N A : List Float} {C : List ℕ} {T T′ : List Float} {n : ℕ} → length T′ ≡ length T → FirstIn H P N A C T n → FirstIn H P N A C T′ n
+pub first-still : {H : Halfedges} {P N A : List Float} {C : List ℕ} {T T′ : List Float} {n : ℕ} → length T′ ≡ length T → FirstIn H P N A C T n → FirstIn H P N A C T′ n
 first-still q w = record {
   lists = record { sound = w .lists .sound; whole = w .lists .whole; positions = w .lists .positions; normals = w .lists .normals; face-normals = w .lists .face-normals; tangents = q ∙ w .lists .tangents };
   faces = w .faces;
 }
 
-pub normal-in : {H : List ℤ} {P N A : List Float} {C : List ℕ} {T : List Float} {n : ℕ} → FirstIn H P N A C T n → (e : ℕ) → e < n → NormalIn H N A C e
+pub normal-in : {H : Halfedges} {P N A : List Float} {C : List ℕ} {T : List Float} {n : ℕ} → FirstIn H P N A C T n → (e : ℕ) → e < n → NormalIn H N A C e
 normal-in {H} {C} w e h = record {
   inside = inside (w .lists .sound) (w .lists .whole) e h;
   start-in = w .lists .sound .start-below e h;

@@ -8,7 +8,7 @@ use lib.Ieee.{Float, neg}
 use Rattle.float.specs.Ops.{zero, one}
 use Rattle.linalg.specs.declared.Vec3.{Vec3}
 use Rattle.linalg.specs.declared.Vec4.{Vec4}
-use Rattle.mesh.specs.Mesh.{startVert}
+use Rattle.mesh.specs.Mesh.{startVert, Halfedges}
 use Rattle.common.specs.Fold.{foldTo}
 use Rattle.smoothing.specs.Lists.{pointAt, putTangent}
 use Rattle.smoothing.specs.Edges.{tangentFromNormal}
@@ -29,17 +29,17 @@ abbrev pub insideQuadTangent : Vec4
 insideQuadTangent = record { x = zero; y = zero; z = zero; w = neg one }
 
 -- the first tangent of halfedge e, where f are the flat faces at its start point
-unfoldable pub firstTangent : List ℤ → List Float → List Float → List Float → (ℕ → Bool) → FlatFace → ℕ → Vec4
+unfoldable pub firstTangent : Halfedges → List Float → List Float → List Float → (ℕ → Bool) → FlatFace → ℕ → Vec4
 firstTangent H P N A inside f e =
     cond (inside e) insideQuadTangent (tangentFromNormal H P A (vertNormal N A (startVert H e) f) e)
 
 -- ---- all of them
 
 -- the body of the loop, at halfedge e, where `faces v` are the flat faces at point v
-unfoldable pub putFirstTangent : List ℤ → List Float → List Float → List Float → (ℕ → Bool) → (ℕ → FlatFace) → List Float → ℕ → List Float
+unfoldable pub putFirstTangent : Halfedges → List Float → List Float → List Float → (ℕ → Bool) → (ℕ → FlatFace) → List Float → ℕ → List Float
 putFirstTangent H P N A inside faces T e = putTangent T e (firstTangent H P N A inside (faces (startVert H e)) e)
 
 -- `tangent`, from the Rust's list of zeros
-unfoldable pub firstTangents : List ℤ → List Float → List Float → List Float → List ℤ → (ℕ → Bool) → ℕ → List Float
+unfoldable pub firstTangents : Halfedges → List Float → List Float → List Float → List ℤ → (ℕ → Bool) → ℕ → List Float
 firstTangents H P N A R inside n =
     foldTo (putFirstTangent H P N A inside (vertFlatFace H R (isFlat (flatFaces H R n)) n)) (replicate (n * 4) zero) n

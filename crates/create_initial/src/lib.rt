@@ -4,6 +4,7 @@ ghost use mathlib.Core.Bool.{true, false};
 ghost use Prim.Native.Nat.{_+_, _*_, _≤_, _<_};
 ghost use lib.ListN.{length};
 ghost use Rattle.common.specs.Fold.{foldTo};
+ghost use Rattle.mesh.specs.Mesh.{asHalfedges};
 ghost use Rattle.smoothing.specs.Edges.{isInsideQuad};
 ghost use Rattle.create_shared.specs.Lent.{flatFlags};
 ghost use Rattle.smoothing.specs.Lists.{putTangent};
@@ -29,8 +30,8 @@ fn vert_normal(normals: &[f64], face_normals: &[f64], v: usize, face: FlatFace) 
 
 // The normal of the start point of halfedge e, where `at` is the result of `vert_flat_face`.
 fn normal_at(h: &[i32], normals: &[f64], face_normals: &[f64], at: &[usize], e: usize) -> Vec3
-    requires { ⌜ NormalIn (now h) (now normals) (now «face_normals») (now at) e ⌝ }
-    ensures { λ r. ⌜ r ≡ normalAt (now (h .entry)) (now (normals .entry)) (now («face_normals» .entry)) (now (at .entry)) e ⌝ }
+    requires { ⌜ NormalIn (asHalfedges (now h)) (now normals) (now «face_normals») (now at) e ⌝ }
+    ensures { λ r. ⌜ r ≡ normalAt (asHalfedges (now (h .entry))) (now (normals .entry)) (now («face_normals» .entry)) (now (at .entry)) e ⌝ }
 {
     let v = mesh::start_vert(h, e);
     vert_normal(normals, face_normals, v, create_shared::flat_face(at, v))
@@ -62,8 +63,8 @@ fn first_tangent(
     t: &[f64],
     e: usize,
 ) -> Vec4
-    requires { ⌜ (e < n) × FirstIn (now h) (now pos) (now normals) (now «face_normals») (now at) (now t) n ⌝ }
-    ensures { λ r. ⌜ r ≡ firstAt (now (h .entry)) (now (pos .entry)) (now (normals .entry)) (now («face_normals» .entry)) (now (refs .entry)) (now (at .entry)) (now (t .entry)) true e ⌝ }
+    requires { ⌜ (e < n) × FirstIn (asHalfedges (now h)) (now pos) (now normals) (now «face_normals») (now at) (now t) n ⌝ }
+    ensures { λ r. ⌜ r ≡ firstAt (asHalfedges (now (h .entry))) (now (pos .entry)) (now (normals .entry)) (now («face_normals» .entry)) (now (refs .entry)) (now (at .entry)) (now (t .entry)) true e ⌝ }
 {
     if smoothing::is_inside_quad(h, refs, t, true, e) {
         return inside_quad_tangent();
@@ -85,8 +86,8 @@ fn put_first_tangent(
     t: &mut [f64],
     e: usize,
 )
-    requires { ⌜ (e < n) × FirstIn (now h) (now pos) (now normals) (now «face_normals») (now at) (now t) n ⌝ }
-    ensures { λ _. ⌜ now (t .exit) ≡ putFirstTangent (now (h .entry)) (now (pos .entry)) (now (normals .entry)) (now («face_normals» .entry)) (isInsideQuad (now (h .entry)) (now (refs .entry)) (now (t .entry)) true) (faceAt (now (at .entry))) (now (t .entry)) e ⌝ }
+    requires { ⌜ (e < n) × FirstIn (asHalfedges (now h)) (now pos) (now normals) (now «face_normals») (now at) (now t) n ⌝ }
+    ensures { λ _. ⌜ now (t .exit) ≡ putFirstTangent (asHalfedges (now (h .entry))) (now (pos .entry)) (now (normals .entry)) (now («face_normals» .entry)) (isInsideQuad (asHalfedges (now (h .entry))) (now (refs .entry)) (now (t .entry)) true) (faceAt (now (at .entry))) (now (t .entry)) e ⌝ }
 {
     let tangent = first_tangent(n, h, refs, pos, normals, face_normals, at, t, e);
     smoothing::put_tangent(t, e, tangent);
@@ -102,8 +103,8 @@ fn put_each(
     at: &[usize],
     t: &mut [f64],
 )
-    requires { ⌜ FirstIn (now h) (now pos) (now normals) (now «face_normals») (now at) (now t) n ⌝ }
-    ensures { λ _. ⌜ now (t .exit) ≡ foldTo (putFirstTangent (now (h .entry)) (now (pos .entry)) (now (normals .entry)) (now («face_normals» .entry)) (isInsideQuad (now (h .entry)) (now (refs .entry)) (now (t .entry)) true) (faceAt (now (at .entry)))) (now (t .entry)) n ⌝ }
+    requires { ⌜ FirstIn (asHalfedges (now h)) (now pos) (now normals) (now «face_normals») (now at) (now t) n ⌝ }
+    ensures { λ _. ⌜ now (t .exit) ≡ foldTo (putFirstTangent (asHalfedges (now (h .entry))) (now (pos .entry)) (now (normals .entry)) (now («face_normals» .entry)) (isInsideQuad (asHalfedges (now (h .entry))) (now (refs .entry)) (now (t .entry)) true) (faceAt (now (at .entry)))) (now (t .entry)) n ⌝ }
 {
     let mut e = 0;
     while e < n {
@@ -126,8 +127,8 @@ fn edge_tangents(
     t: &[f64],
     e: usize,
 ) -> TwoTangents
-    requires { ⌜ (e < n) × FirstIn (now h) (now pos) (now normals) (now «face_normals») (now at) (now t) n ⌝ }
-    ensures { λ r. ⌜ r ≡ edgeTangents (now (h .entry)) (now (pos .entry)) (now (normals .entry)) (now («face_normals» .entry)) (now (refs .entry)) (now (at .entry)) (now (t .entry)) e ⌝ }
+    requires { ⌜ (e < n) × FirstIn (asHalfedges (now h)) (now pos) (now normals) (now «face_normals») (now at) (now t) n ⌝ }
+    ensures { λ r. ⌜ r ≡ edgeTangents (asHalfedges (now (h .entry))) (now (pos .entry)) (now (normals .entry)) (now («face_normals» .entry)) (now (refs .entry)) (now (at .entry)) (now (t .entry)) e ⌝ }
 {
     if smoothing::is_inside_quad(h, refs, t, false, e) {
         let mark = inside_quad_tangent();
@@ -153,8 +154,8 @@ fn put_edge(
     t: &mut [f64],
     e: usize,
 )
-    requires { ⌜ (e < n) × FirstIn (now h) (now pos) (now normals) (now «face_normals») (now at) (now t) n ⌝ }
-    ensures { λ _. ⌜ now (t .exit) ≡ putEdge putTangent (now (h .entry)) (firstAt (now (h .entry)) (now (pos .entry)) (now (normals .entry)) (now («face_normals» .entry)) (now (refs .entry)) (now (at .entry)) (now (t .entry)) false) (now (t .entry)) e ⌝ }
+    requires { ⌜ (e < n) × FirstIn (asHalfedges (now h)) (now pos) (now normals) (now «face_normals») (now at) (now t) n ⌝ }
+    ensures { λ _. ⌜ now (t .exit) ≡ putEdge putTangent (asHalfedges (now (h .entry))) (firstAt (asHalfedges (now (h .entry))) (now (pos .entry)) (now (normals .entry)) (now («face_normals» .entry)) (now (refs .entry)) (now (at .entry)) (now (t .entry)) false) (now (t .entry)) e ⌝ }
 {
     if !mesh::is_forward(h, e) {
         return;
@@ -175,8 +176,8 @@ fn put_edges(
     at: &[usize],
     t: &mut [f64],
 )
-    requires { ⌜ FirstIn (now h) (now pos) (now normals) (now «face_normals») (now at) (now t) n ⌝ }
-    ensures { λ _. ⌜ now (t .exit) ≡ foldTo (putFirstTangent (now (h .entry)) (now (pos .entry)) (now (normals .entry)) (now («face_normals» .entry)) (isInsideQuad (now (h .entry)) (now (refs .entry)) (now (t .entry)) false) (faceAt (now (at .entry)))) (now (t .entry)) n ⌝ }
+    requires { ⌜ FirstIn (asHalfedges (now h)) (now pos) (now normals) (now «face_normals») (now at) (now t) n ⌝ }
+    ensures { λ _. ⌜ now (t .exit) ≡ foldTo (putFirstTangent (asHalfedges (now (h .entry))) (now (pos .entry)) (now (normals .entry)) (now («face_normals» .entry)) (isInsideQuad (asHalfedges (now (h .entry))) (now (refs .entry)) (now (t .entry)) false) (faceAt (now (at .entry)))) (now (t .entry)) n ⌝ }
 {
     let mut e = 0;
     while e < n {
@@ -199,8 +200,8 @@ fn put_first_tangents(
     old: bool,
     t: &mut [f64],
 )
-    requires { ⌜ FirstIn (now h) (now pos) (now normals) (now «face_normals») (now at) (now t) n ⌝ }
-    ensures { λ _. ⌜ now (t .exit) ≡ foldTo (putFirstTangent (now (h .entry)) (now (pos .entry)) (now (normals .entry)) (now («face_normals» .entry)) (isInsideQuad (now (h .entry)) (now (refs .entry)) (now (t .entry)) old) (faceAt (now (at .entry)))) (now (t .entry)) n ⌝ }
+    requires { ⌜ FirstIn (asHalfedges (now h)) (now pos) (now normals) (now «face_normals») (now at) (now t) n ⌝ }
+    ensures { λ _. ⌜ now (t .exit) ≡ foldTo (putFirstTangent (asHalfedges (now (h .entry))) (now (pos .entry)) (now (normals .entry)) (now («face_normals» .entry)) (isInsideQuad (asHalfedges (now (h .entry))) (now (refs .entry)) (now (t .entry)) old) (faceAt (now (at .entry)))) (now (t .entry)) n ⌝ }
 {
     if old {
         put_each(n, h, refs, pos, normals, face_normals, at, t);
@@ -223,8 +224,8 @@ pub fn first_tangents(
     flat: &mut [u8],
     at: &mut [usize],
 )
-    requires { ⌜ FirstLists (now h) (now pos) (now normals) (now «face_normals») (now at) (now t) n × (length (now flat) ≡ n) ⌝ }
-    ensures { λ _. ⌜ (now (flat .exit) ≡ flatFlags (now (h .entry)) (now (refs .entry)) n) × (now (t .exit) ≡ firstTangents (now (h .entry)) (now (pos .entry)) (now (normals .entry)) (now («face_normals» .entry)) (now (refs .entry)) (isInsideQuad (now (h .entry)) (now (refs .entry)) (now (t .entry)) old) n) ⌝ }
+    requires { ⌜ FirstLists (asHalfedges (now h)) (now pos) (now normals) (now «face_normals») (now at) (now t) n × (length (now flat) ≡ n) ⌝ }
+    ensures { λ _. ⌜ (now (flat .exit) ≡ flatFlags (asHalfedges (now (h .entry))) (now (refs .entry)) n) × (now (t .exit) ≡ firstTangents (asHalfedges (now (h .entry))) (now (pos .entry)) (now (normals .entry)) (now («face_normals» .entry)) (now (refs .entry)) (isInsideQuad (asHalfedges (now (h .entry))) (now (refs .entry)) (now (t .entry)) old) n) ⌝ }
 {
     create_shared::flat_faces(h, refs, flat);
     create_shared::vert_flat_face(h, refs, flat, at);

@@ -10,6 +10,7 @@ use lib.IntN.{ℤ}
 use lib.Dec.{eqb, ltb}
 use Rattle.common.specs.Fold.{foldTo}
 use Rattle.common.proofs.Fold.{fold-keeps}
+use Rattle.mesh.specs.Mesh.{Halfedges}
 use Rattle.create_shared.specs.Faces.{neighborTri, isFaceNeighbor, faceNeighbors, markNeighbor, markFlat, flatFaces, isFlat}
 use Rattle.create_shared.specs.Lent.{FlatIn, flatFlags}
 
@@ -19,7 +20,7 @@ length-cond : (b : Bool) (F G : List ℕ) (m : ℕ) → length F ≡ m → lengt
 length-cond true F G m p q = p
 length-cond false F G m p q = q
 
-module _ (H R : List ℤ) (m : ℕ) where
+module _ (H : Halfedges) (R : List ℤ) (m : ℕ) where
   length-neighbor : (t : ℕ) (F : List ℕ) (j : ℕ) → length F ≡ m → length (markNeighbor H R t F j) ≡ m
   unfolding markNeighbor
   length-neighbor t F j p = length-cond (isFaceNeighbor H R t j) (set F (neighborTri H t j) 1) F m (length-set F (neighborTri H t j) 1 ∙ p) p
@@ -31,7 +32,7 @@ module _ (H R : List ℤ) (m : ℕ) where
       (fold-keeps (markNeighbor H R t) (set F t 1) (λ (G : List ℕ). length G ≡ m) 3 (λ G j l q. length-neighbor t G j q) (length-set F t 1 ∙ p) 3 (omega arith))
       p
 
-pub length-flat-faces : (H R : List ℤ) (n : ℕ) → length (flatFaces H R n) ≡ n / 3
+pub length-flat-faces : (H : Halfedges) (R : List ℤ) (n : ℕ) → length (flatFaces H R n) ≡ n / 3
 unfolding flatFaces
 length-flat-faces H R n =
     fold-keeps (markFlat H R) (replicate (n / 3) 0) (λ (G : List ℕ). length G ≡ n / 3) (n / 3) (λ G t l q. length-mark H R (n / 3) G t q) (length-replicate (n / 3) 0) (n / 3) (omega arith)
@@ -64,7 +65,7 @@ fold-padded f Z m n keeps pads F p (suc k) h =
     let l : k ≤ n = omega arith in
     ap (λ (G : List ℕ). f G k) (fold-padded f Z m n keeps pads F p k l) ∙ pads (foldTo f F k) k h (fold-keeps f F (λ (G : List ℕ). length G ≡ m) n keeps p k l)
 
-module _ (H R : List ℤ) (n : ℕ) (w : FlatIn H n) (Z : List ℕ) where
+module _ (H : Halfedges) (R : List ℤ) (n : ℕ) (w : FlatIn H n) (Z : List ℕ) where
   set-padded : (F : List ℕ) (i : ℕ) → i < n / 3 → length F ≡ n / 3 → set (F ++ Z) i 1 ≡ set F i 1 ++ Z
   set-padded F i h p = set-append-left F Z i 1 (omega arith)
 
@@ -84,7 +85,7 @@ module _ (H R : List ℤ) (n : ℕ) (w : FlatIn H n) (Z : List ℕ) where
       refl
 
 -- the loop over a list of n zeros
-pub flat-filled : (H R : List ℤ) (n : ℕ) → FlatIn H n → foldTo (markFlat H R) (replicate n 0) (n / 3) ≡ flatFlags H R n
+pub flat-filled : (H : Halfedges) (R : List ℤ) (n : ℕ) → FlatIn H n → foldTo (markFlat H R) (replicate n 0) (n / 3) ≡ flatFlags H R n
 unfolding flatFaces flatFlags
 flat-filled H R n w =
     let k = n - n / 3 in
@@ -94,6 +95,6 @@ flat-filled H R n w =
     ∙ fold-padded (markFlat H R) (replicate k 0) (n / 3) (n / 3) (λ G t l p. length-mark H R (n / 3) G t p) (mark-padded H R n w (replicate k 0)) (replicate (n / 3) 0) (length-replicate (n / 3) 0) (n / 3) (omega arith)
 
 -- of a triangle it says what `flatFaces` does
-pub flags-same : (H R : List ℤ) (n : ℕ) → isFlat (flatFlags H R n) ≡ isFlat (flatFaces H R n)
+pub flags-same : (H : Halfedges) (R : List ℤ) (n : ℕ) → isFlat (flatFlags H R n) ≡ isFlat (flatFaces H R n)
 unfolding flatFlags
 flags-same H R n = flat-padded (flatFaces H R n) (n - n / 3)

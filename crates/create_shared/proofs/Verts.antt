@@ -7,7 +7,7 @@ use mathlib.Core.Bool.{Bool, true, false, cond, _&&_}
 use lib.IntN.{ℤ}
 use lib.Dec.{eqb}
 use borrow.Author.Tests.{eq-eqb, eqb-true, not-false}
-use Rattle.mesh.specs.Mesh.{startVert, sameFace}
+use Rattle.mesh.specs.Mesh.{startVert, sameFace, Halfedges}
 use Rattle.mesh.proofs.Lowest.{lowest-within, lowest-found, lowest-least}
 use Rattle.common.proofs.Fold.{fold-keeps}
 use Rattle.create_shared.specs.Faces.{addFlatFace, vertFaceAt, vertFlatFace, startsElsewhere, vertHalfedge}
@@ -32,7 +32,7 @@ in-add R n NoFace t l p = λ u e. let q : t ≡ u = cc in omega arith
 in-add R n (OneFace w) t l p = in-cond n (sameFace R w t) (OneFace w) (MoreFaces t) p (more-in n t)
 in-add R n (MoreFaces w) t l p = in-cond n (sameFace R w t) (MoreFaces w) (MoreFaces t) (more-in n w) (more-in n t)
 
-pub vert-face-in : (H R : List ℤ) (flat : ℕ → Bool) (n v t : ℕ) → n % 3 ≡ 0 → vertFlatFace H R flat n v ≡ OneFace t → t * 3 + 3 ≤ n
+pub vert-face-in : (H : Halfedges) (R : List ℤ) (flat : ℕ → Bool) (n v t : ℕ) → n % 3 ≡ 0 → vertFlatFace H R flat n v ≡ OneFace t → t * 3 + 3 ≤ n
 unfolding vertFlatFace vertFaceAt
 vert-face-in H R flat n v t m =
     fold-keeps (vertFaceAt H R flat v) NoFace (In n) n
@@ -44,14 +44,14 @@ vert-face-in H R flat n v t m =
 
 -- ---- the lowest halfedge of a point
 
-pub vert-halfedge-within : (H : List ℤ) (n v : ℕ) → vertHalfedge H n v ≤ n
+pub vert-halfedge-within : (H : Halfedges) (n v : ℕ) → vertHalfedge H n v ≤ n
 unfolding vertHalfedge
 vert-halfedge-within H n v = lowest-within (startsElsewhere H v) n
 
-pub vert-halfedge-starts : (H : List ℤ) (n v : ℕ) → vertHalfedge H n v < n → startVert H (vertHalfedge H n v) ≡ v
+pub vert-halfedge-starts : (H : Halfedges) (n v : ℕ) → vertHalfedge H n v < n → startVert H (vertHalfedge H n v) ≡ v
 unfolding vertHalfedge
 vert-halfedge-starts H n v l = eqb-true _ _ (not-false _ (lowest-found (startsElsewhere H v) n l))
 
-pub vert-halfedge-least : (H : List ℤ) (n v e : ℕ) → startVert H e ≡ v → vertHalfedge H n v ≤ e
+pub vert-halfedge-least : (H : Halfedges) (n v e : ℕ) → startVert H e ≡ v → vertHalfedge H n v ≤ e
 unfolding vertHalfedge
 vert-halfedge-least H n v e q = lowest-least (startsElsewhere H v) n e (let z = eq-eqb (startVert H e) v q in rw z)

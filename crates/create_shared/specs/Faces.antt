@@ -5,7 +5,7 @@ use mathlib.Core.Bool.{Bool, cond, not, _&&_}
 use lib.ListN.{getD, set, replicate}
 use lib.IntN.{ℤ}
 use lib.Dec.{eqb, ltb}
-use Rattle.mesh.specs.Mesh.{startVert, pairedHalfedge, sameFace}
+use Rattle.mesh.specs.Mesh.{startVert, pairedHalfedge, sameFace, Halfedges}
 use Rattle.mesh.specs.Lowest.{lowest}
 use Rattle.common.specs.Fold.{foldTo}
 use Rattle.create_shared.specs.declared.FlatFace.{FlatFace}
@@ -14,27 +14,27 @@ use Rattle.create_shared.specs.declared.FlatFace.the-variants.{NoFace, O
 -- ---- `flat_faces`: a 1 for each triangle with more than one neighbor of its own face, and for these neighbors
 
 -- `neighbor_tri`: the triangle across edge j of triangle t
-abbrev pub neighborTri : List ℤ → ℕ → ℕ → ℕ
+abbrev pub neighborTri : Halfedges → ℕ → ℕ → ℕ
 neighborTri H t j = pairedHalfedge H (t * 3 + j) / 3
 
-unfoldable pub isFaceNeighbor : List ℤ → List ℤ → ℕ → ℕ → Bool
+unfoldable pub isFaceNeighbor : Halfedges → List ℤ → ℕ → ℕ → Bool
 isFaceNeighbor H R t j = sameFace R (neighborTri H t j) t
 
 -- `face_neighbors`
-unfoldable pub faceNeighbors : List ℤ → List ℤ → ℕ → ℕ
+unfoldable pub faceNeighbors : Halfedges → List ℤ → ℕ → ℕ
 faceNeighbors H R t =
     cond (isFaceNeighbor H R t 0) 1 0 + cond (isFaceNeighbor H R t 1) 1 0 + cond (isFaceNeighbor H R t 2) 1 0
 
 -- `tri_is_flat_face[face_tris[j]] = true`
-unfoldable pub markNeighbor : List ℤ → List ℤ → ℕ → List ℕ → ℕ → List ℕ
+unfoldable pub markNeighbor : Halfedges → List ℤ → ℕ → List ℕ → ℕ → List ℕ
 markNeighbor H R t F j = cond (isFaceNeighbor H R t j) (set F (neighborTri H t j) 1) F
 
 -- the body of the loop, at triangle t
-unfoldable pub markFlat : List ℤ → List ℤ → List ℕ → ℕ → List ℕ
+unfoldable pub markFlat : Halfedges → List ℤ → List ℕ → ℕ → List ℕ
 markFlat H R F t = cond (ltb 1 (faceNeighbors H R t)) (foldTo (markNeighbor H R t) (set F t 1) 3) F
 
 -- `tri_is_flat_face`: a flag for each of the n / 3 triangles
-unfoldable pub flatFaces : List ℤ → List ℤ → ℕ → List ℕ
+unfoldable pub flatFaces : Halfedges → List ℤ → ℕ → List ℕ
 flatFaces H R n = foldTo (markFlat H R) (replicate (n / 3) 0) (n / 3)
 
 -- `tri_is_flat_face[t]`
@@ -50,16 +50,16 @@ addFlatFace R (OneFace u) t = cond (sameFace R u t) (OneFace u) (MoreFaces t)
 addFlatFace R (MoreFaces u) t = cond (sameFace R u t) (MoreFaces u) (MoreFaces t)
 
 -- the body of the loop, at halfedge e
-unfoldable pub vertFaceAt : List ℤ → List ℤ → (ℕ → Bool) → ℕ → FlatFace → ℕ → FlatFace
+unfoldable pub vertFaceAt : Halfedges → List ℤ → (ℕ → Bool) → ℕ → FlatFace → ℕ → FlatFace
 vertFaceAt H R flat v f e = cond (flat (e / 3) && eqb (startVert H e) v) (addFlatFace R f (e / 3)) f
 
-unfoldable pub vertFlatFace : List ℤ → List ℤ → (ℕ → Bool) → ℕ → ℕ → FlatFace
+unfoldable pub vertFlatFace : Halfedges → List ℤ → (ℕ → Bool) → ℕ → ℕ → FlatFace
 vertFlatFace H R flat n v = foldTo (vertFaceAt H R flat v) NoFace n
 
 -- ---- `vert_halfedge`: the lowest halfedge that starts at point v, and n where there is none
 
-abbrev pub startsElsewhere : List ℤ → ℕ → ℕ → Bool
+abbrev pub startsElsewhere : Halfedges → ℕ → ℕ → Bool
 startsElsewhere H v e = not (eqb (startVert H e) v)
 
-unfoldable pub vertHalfedge : List ℤ → ℕ → ℕ → ℕ
+unfoldable pub vertHalfedge : Halfedges → ℕ → ℕ → ℕ
 vertHalfedge H n v = lowest (startsElsewhere H v) n

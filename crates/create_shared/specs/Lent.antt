@@ -6,7 +6,7 @@ use mathlib.Core.Bool.{cond}
 use lib.ListN.{replicate}
 use lib.IntN.{ℤ}
 use lib.Dec.{eqb}
-use Rattle.mesh.specs.Mesh.{startVert, pairedHalfedge}
+use Rattle.mesh.specs.Mesh.{startVert, pairedHalfedge, Halfedges}
 use Rattle.mesh.specs.Inside.{Inside}
 use Rattle.create_shared.specs.Faces.{flatFaces}
 use Rattle.create_shared.specs.declared.FlatFace.{FlatFace}
@@ -15,13 +15,13 @@ use Rattle.create_shared.specs.declared.FlatFace.the-variants.{NoFace, O
 -- ---- lengths and numbers: `flat-in` and `verts-in` of `proofs/Lent.antt` give them on an accepted mesh
 
 -- A list of m places has one for each halfedge. Of such a list `flat_faces` uses the first m / 3 places, one for each triangle.
-pub record FlatIn (H : List ℤ) (m : ℕ) : Type 0 where
+pub record FlatIn (H : Halfedges) (m : ℕ) : Type 0 where
   pub triangles : m % 3 ≡ 0
   pub paired-in : (e : ℕ) → e < m → pairedHalfedge H e < m
   pub inside : (e : ℕ) → e < m → Inside H e
 
 -- a list of p places has one for each point of the n halfedges
-pub record VertsIn (H : List ℤ) (n p : ℕ) : Type 0 where
+pub record VertsIn (H : Halfedges) (n p : ℕ) : Type 0 where
   pub start-in : (e : ℕ) → e < n → startVert H e < p
   pub inside : (e : ℕ) → e < n → Inside H e
 
@@ -33,5 +33,5 @@ faceOf (suc c) = cond (eqb (c % 2) 0) (OneFace (c / 2)) (MoreFaces (c / 2))
 
 -- ---- the flags of the triangles in a list with a place for each of n halfedges: in front, and zeros behind
 
-unfoldable pub flatFlags : List ℤ → List ℤ → ℕ → List ℕ
+unfoldable pub flatFlags : Halfedges → List ℤ → ℕ → List ℕ
 flatFlags H R n = flatFaces H R n ++ replicate (n - n / 3) 0

@@ -3,11 +3,10 @@ use Prim.Native.Nat.{ℕ, _*_}
 use mathlib.Core.Path.{_≡_}
 use mathlib.Core.List.{List}
 use lib.ListN.{length, set}
-use lib.IntN.{ℤ}
 use lib.Ieee.{Float}
 use Rattle.linalg.specs.declared.Vec3.{Vec3}
 use Rattle.linalg.specs.Vec.{neg3}
-use Rattle.mesh.specs.Mesh.{halfedgeStride}
+use Rattle.mesh.specs.Mesh.{halfedgeStride, Halfedges}
 use Rattle.mesh.specs.Sound.{Sound}
 use Rattle.smoothing.specs.Directions.{circularTangent}
 use Rattle.smoothing.specs.Lists.{putTangent}
@@ -16,14 +15,14 @@ use Rattle.smoothing.specs.Edges.{edgeVec}
 -- ---- what the lists must be for a call
 
 -- a sound mesh, and a tangent for each of its n halfedges
-pub record TangentsIn (H : List ℤ) (T : List Float) (n : ℕ) : Type 0 where
+pub record TangentsIn (H : Halfedges) (T : List Float) (n : ℕ) : Type 0 where
   pub points : ℕ
   pub sound : Sound H n points
-  pub whole : length H ≡ n * halfedgeStride
+  pub whole : H .numbers ≡ n * halfedgeStride
   pub tangents : length T ≡ n * 4
 
 -- a position for each point, a tangent and a fixed flag for each halfedge
-pub record MakingIn (H : List ℤ) (P T : List Float) (X : List ℕ) (n : ℕ) : Type 0 where
+pub record MakingIn (H : Halfedges) (P T : List Float) (X : List ℕ) (n : ℕ) : Type 0 where
   pub tangents : TangentsIn H T n
   pub positions : length P ≡ tangents .points * 3
   pub fixed : length X ≡ n
@@ -40,11 +39,11 @@ tangentsOf T X = record { tangents = T; fixed = X }
 -- ---- two halfedges of a point along one line
 
 -- `circular_tangent` with the edge of halfedge e, stored at e
-unfoldable pub putCircularTangent : List ℤ → List Float → List Float → ℕ → Vec3 → List Float
+unfoldable pub putCircularTangent : Halfedges → List Float → List Float → ℕ → Vec3 → List Float
 putCircularTangent H P T e dir = putTangent T e (circularTangent dir (edgeVec H P e))
 
 -- Both are fixed, the first with a tangent in the direction `dir`, which is `new_tangent`, the second in the opposite one. For a crease the Rust takes both edges from the start of the first: each starts at the point, so its own edge vector is the same.
-unfoldable pub alignTangents : List ℤ → List Float → Tangents → ℕ → ℕ → Vec3 → Tangents
+unfoldable pub alignTangents : Halfedges → List Float → Tangents → ℕ → ℕ → Vec3 → Tangents
 alignTangents H P m first second dir =
     tangentsOf
     (putCircularTangent H P (putCircularTangent H P (m .tangents) first dir) second (neg3 dir))

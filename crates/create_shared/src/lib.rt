@@ -5,6 +5,7 @@ ghost use mathlib.Core.Path.{_≡_};
 ghost use mathlib.Core.Bool.{cond};
 ghost use Prim.Native.Nat.{ℕ, _+_, _*_, _≤_, _<_, _^_};
 ghost use lib.ListN.{length, getD, replicate};
+ghost use Rattle.mesh.specs.Mesh.{asHalfedges};
 ghost use Rattle.mesh.specs.Inside.{Inside};
 ghost use Rattle.smoothing.specs.Edges.{EdgeIn};
 ghost use Rattle.create_shared.specs.Faces.{neighborTri, isFaceNeighbor, faceNeighbors, markNeighbor, markFlat, isFlat, addFlatFace, vertFaceAt, vertFlatFace, vertHalfedge};
@@ -23,15 +24,15 @@ pub enum FlatFace {
 
 // The triangle across edge j of triangle t.
 fn neighbor_tri(h: &[i32], t: usize, j: usize) -> usize
-    requires { ⌜ Inside (now h) (t * 3 + j) ⌝ }
-    ensures { λ r. ⌜ r ≡ neighborTri (now (h .entry)) t j ⌝ }
+    requires { ⌜ Inside (asHalfedges (now h)) (t * 3 + j) ⌝ }
+    ensures { λ r. ⌜ r ≡ neighborTri (asHalfedges (now (h .entry))) t j ⌝ }
 {
     mesh::paired_halfedge(h, t * 3 + j) / 3
 }
 
 fn is_face_neighbor(h: &[i32], refs: &[i32], t: usize, j: usize) -> bool
-    requires { ⌜ Inside (now h) (t * 3 + j) ⌝ }
-    ensures { λ r. ⌜ r ≡ isFaceNeighbor (now (h .entry)) (now (refs .entry)) t j ⌝ }
+    requires { ⌜ Inside (asHalfedges (now h)) (t * 3 + j) ⌝ }
+    ensures { λ r. ⌜ r ≡ isFaceNeighbor (asHalfedges (now (h .entry))) (now (refs .entry)) t j ⌝ }
 {
     mesh::same_face(refs, neighbor_tri(h, t, j), t)
 }
@@ -43,8 +44,8 @@ fn one_if(b: bool) -> usize
 }
 
 fn face_neighbors(h: &[i32], refs: &[i32], t: usize) -> usize
-    requires { ⌜ ((j : ℕ) → j < 3 → Inside (now h) (t * 3 + j)) ⌝ }
-    ensures { λ r. ⌜ r ≡ faceNeighbors (now (h .entry)) (now (refs .entry)) t ⌝ }
+    requires { ⌜ ((j : ℕ) → j < 3 → Inside (asHalfedges (now h)) (t * 3 + j)) ⌝ }
+    ensures { λ r. ⌜ r ≡ faceNeighbors (asHalfedges (now (h .entry))) (now (refs .entry)) t ⌝ }
 {
     let a = one_if(is_face_neighbor(h, refs, t, 0));
     let b = one_if(is_face_neighbor(h, refs, t, 1));
@@ -53,8 +54,8 @@ fn face_neighbors(h: &[i32], refs: &[i32], t: usize) -> usize
 }
 
 fn mark_neighbor(h: &[i32], refs: &[i32], flat: &mut [u8], t: usize, j: usize)
-    requires { ⌜ (t * 3 + j < length (now flat)) × FlatIn (now h) (length (now flat)) ⌝ }
-    ensures { λ _. ⌜ now (flat .exit) ≡ markNeighbor (now (h .entry)) (now (refs .entry)) t (now (flat .entry)) j ⌝ }
+    requires { ⌜ (t * 3 + j < length (now flat)) × FlatIn (asHalfedges (now h)) (length (now flat)) ⌝ }
+    ensures { λ _. ⌜ now (flat .exit) ≡ markNeighbor (asHalfedges (now (h .entry))) (now (refs .entry)) t (now (flat .entry)) j ⌝ }
 {
     if is_face_neighbor(h, refs, t, j) {
         let k = neighbor_tri(h, t, j);
@@ -63,8 +64,8 @@ fn mark_neighbor(h: &[i32], refs: &[i32], flat: &mut [u8], t: usize, j: usize)
 }
 
 fn mark_flat(h: &[i32], refs: &[i32], flat: &mut [u8], t: usize)
-    requires { ⌜ (t * 3 + 2 < length (now flat)) × FlatIn (now h) (length (now flat)) ⌝ }
-    ensures { λ _. ⌜ now (flat .exit) ≡ markFlat (now (h .entry)) (now (refs .entry)) (now (flat .entry)) t ⌝ }
+    requires { ⌜ (t * 3 + 2 < length (now flat)) × FlatIn (asHalfedges (now h)) (length (now flat)) ⌝ }
+    ensures { λ _. ⌜ now (flat .exit) ≡ markFlat (asHalfedges (now (h .entry))) (now (refs .entry)) (now (flat .entry)) t ⌝ }
 {
     if face_neighbors(h, refs, t) <= 1 {
         return;
@@ -77,8 +78,8 @@ fn mark_flat(h: &[i32], refs: &[i32], flat: &mut [u8], t: usize)
 
 // A 1 for each triangle in a flat face. The list has a place for each halfedge; all but the first third become 0.
 pub fn flat_faces(h: &[i32], refs: &[i32], flat: &mut [u8])
-    requires { ⌜ FlatIn (now h) (length (now flat)) ⌝ }
-    ensures { λ _. ⌜ now (flat .exit) ≡ flatFlags (now (h .entry)) (now (refs .entry)) (length (now (flat .entry))) ⌝ }
+    requires { ⌜ FlatIn (asHalfedges (now h)) (length (now flat)) ⌝ }
+    ensures { λ _. ⌜ now (flat .exit) ≡ flatFlags (asHalfedges (now (h .entry))) (now (refs .entry)) (length (now (flat .entry))) ⌝ }
 {
     common::fill_bytes(flat, 0);
     let mut t = 0;
@@ -103,8 +104,8 @@ fn add_flat_face(refs: &[i32], code: usize, t: usize) -> usize
 }
 
 fn vert_face_at(h: &[i32], refs: &[i32], flat: &[u8], at: &mut [usize], e: usize)
-    requires { ⌜ (e < length (now flat)) × VertsIn (now h) (length (now flat)) (length (now at)) ⌝ }
-    ensures { λ _. ⌜ ((v : ℕ) → v < length (now (at .entry)) → faceOf (getD (now (at .exit)) v 0) ≡ vertFaceAt (now (h .entry)) (now (refs .entry)) (isFlat (now (flat .entry))) v (faceOf (getD (now (at .entry)) v 0)) e) ⌝ }
+    requires { ⌜ (e < length (now flat)) × VertsIn (asHalfedges (now h)) (length (now flat)) (length (now at)) ⌝ }
+    ensures { λ _. ⌜ ((v : ℕ) → v < length (now (at .entry)) → faceOf (getD (now (at .exit)) v 0) ≡ vertFaceAt (asHalfedges (now (h .entry))) (now (refs .entry)) (isFlat (now (flat .entry))) v (faceOf (getD (now (at .entry)) v 0)) e) ⌝ }
 {
     let t = e / 3;
     if flat[t] != 1 {
@@ -117,8 +118,8 @@ fn vert_face_at(h: &[i32], refs: &[i32], flat: &[u8], at: &mut [usize], e: usize
 
 // The flat faces at each point, from the result of `flat_faces`.
 pub fn vert_flat_face(h: &[i32], refs: &[i32], flat: &[u8], at: &mut [usize])
-    requires { ⌜ VertsIn (now h) (length (now flat)) (length (now at)) ⌝ }
-    ensures { λ _. ⌜ ((v : ℕ) → v < length (now (at .entry)) → faceOf (getD (now (at .exit)) v 0) ≡ vertFlatFace (now (h .entry)) (now (refs .entry)) (isFlat (now (flat .entry))) (length (now (flat .entry))) v) ⌝ }
+    requires { ⌜ VertsIn (asHalfedges (now h)) (length (now flat)) (length (now at)) ⌝ }
+    ensures { λ _. ⌜ ((v : ℕ) → v < length (now (at .entry)) → faceOf (getD (now (at .exit)) v 0) ≡ vertFlatFace (asHalfedges (now (h .entry))) (now (refs .entry)) (isFlat (now (flat .entry))) (length (now (flat .entry))) v) ⌝ }
 {
     common::fill_numbers(at, 0);
     let mut e = 0;
@@ -146,8 +147,8 @@ pub fn flat_face(at: &[usize], v: usize) -> FlatFace
 
 // The lowest halfedge that starts at each point, n where there is none.
 pub fn vert_halfedge(h: &[i32], at: &mut [usize], n: usize)
-    requires { ⌜ VertsIn (now h) n (length (now at)) ⌝ }
-    ensures { λ _. ⌜ ((v : ℕ) → v < length (now (at .entry)) → getD (now (at .exit)) v 0 ≡ vertHalfedge (now (h .entry)) n v) ⌝ }
+    requires { ⌜ VertsIn (asHalfedges (now h)) n (length (now at)) ⌝ }
+    ensures { λ _. ⌜ ((v : ℕ) → v < length (now (at .entry)) → getD (now (at .exit)) v 0 ≡ vertHalfedge (asHalfedges (now (h .entry))) n v) ⌝ }
 {
     common::fill_numbers(at, n);
     let mut e = n;
@@ -185,8 +186,8 @@ pub fn mesh_lists_fit(
 
 // The circular tangent of halfedge e that leaves in the direction `dir`.
 fn put_circular_tangent(h: &[i32], pos: &[f64], t: &mut [f64], e: usize, dir: Vec3)
-    requires { ⌜ (e * 4 + 4 ≤ length (now t)) × EdgeIn (now h) (now pos) e ⌝ }
-    ensures { λ _. ⌜ now (t .exit) ≡ putCircularTangent (now (h .entry)) (now (pos .entry)) (now (t .entry)) e dir ⌝ }
+    requires { ⌜ (e * 4 + 4 ≤ length (now t)) × EdgeIn (asHalfedges (now h)) (now pos) e ⌝ }
+    ensures { λ _. ⌜ now (t .exit) ≡ putCircularTangent (asHalfedges (now (h .entry))) (now (pos .entry)) (now (t .entry)) e dir ⌝ }
 {
     let tangent = smoothing::circular_tangent(dir, smoothing::edge_vec(h, pos, e));
     smoothing::put_tangent(t, e, tangent);
@@ -203,8 +204,8 @@ pub fn align_tangents(
     second: usize,
     dir: Vec3,
 )
-    requires { ⌜ (first < n) × (second < n) × MakingIn (now h) (now pos) (now t) (now fixed) n ⌝ }
-    ensures { λ _. ⌜ tangentsOf (now (t .exit)) (now (fixed .exit)) ≡ alignTangents (now (h .entry)) (now (pos .entry)) (tangentsOf (now (t .entry)) (now (fixed .entry))) first second dir ⌝ }
+    requires { ⌜ (first < n) × (second < n) × MakingIn (asHalfedges (now h)) (now pos) (now t) (now fixed) n ⌝ }
+    ensures { λ _. ⌜ tangentsOf (now (t .exit)) (now (fixed .exit)) ≡ alignTangents (asHalfedges (now (h .entry))) (now (pos .entry)) (tangentsOf (now (t .entry)) (now (fixed .entry))) first second dir ⌝ }
 {
     put_circular_tangent(h, pos, t, first, dir);
     put_circular_tangent(h, pos, t, second, linalg::neg(dir));

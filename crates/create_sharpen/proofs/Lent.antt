@@ -5,9 +5,8 @@ use mathlib.Core.Path.{_≡_, refl, sym, ap, _∙_, subst}
 use mathlib.Core.Bool.{Bool}
 use mathlib.Core.List.{List}
 use lib.ListN.{length}
-use lib.IntN.{ℤ}
 use lib.Ieee.{Float}
-use Rattle.mesh.specs.Mesh.{halfedgeStride}
+use Rattle.mesh.specs.Mesh.{halfedgeStride, Halfedges}
 use Rattle.mesh.specs.Sound.{Sound}
 use Rattle.create_shared.specs.Makings.{MakingIn, Tangents, tangentsOf}
 use Rattle.create_creases.specs.declared.Crease.{Crease}
@@ -20,8 +19,8 @@ use Rattle.create_shared.specs.Faces.{vertHalfedge}
 use Rattle.create_sharpen.specs.Shapes.{fixHalfedge, shapeMeeting, shapeCrease, shapeVert}
 use Rattle.create_sharpen.specs.Lent.{CreaseIn, VertIn}
 
-module _ {H : List ℤ} {n p : ℕ} (s : Sound H n p) where
-  pub vert-in : {P : List Float} {F : List ℕ} {S : List Float} {A L : List ℕ} {T : List Float} {X : List ℕ} → length H ≡ n * halfedgeStride → length P ≡ p * 3 → length F ≡ n → length S ≡ n → length A ≡ p → length L ≡ n → length T ≡ n * 4 → length X ≡ n → LinkedAll H S A L n → VertIn H P F S A L T X n
+module _ {H : Halfedges} {n p : ℕ} (s : Sound H n p) where
+  pub vert-in : {P : List Float} {F : List ℕ} {S : List Float} {A L : List ℕ} {T : List Float} {X : List ℕ} → H .numbers ≡ n * halfedgeStride → length P ≡ p * 3 → length F ≡ n → length S ≡ n → length A ≡ p → length L ≡ n → length T ≡ n * 4 → length X ≡ n → LinkedAll H S A L n → VertIn H P F S A L T X n
   vert-in w l f k a b t x d = record { creases = crease-lists-in s w a k b d; positions = omega arith; flat = f; tangents = t; fixed = x }
 
   -- the halfedges that a point's creases name
@@ -47,11 +46,11 @@ module _ {H : List ℤ} {n p : ℕ} (s : Sound H n p) where
     crease-apart k e = by-case k e ∙ ap (shapeCrease H P flat n (vertHalfedge H n v) (firstHalfedge (pairsAt H S n v)) m) e
 
 -- lists that keep their lengths
-pub vert-still : {H : List ℤ} {P : List Float} {F : List ℕ} {S : List Float} {A L : List ℕ} {T T′ : List Float} {X X′ : List ℕ} {n : ℕ} → length T′ ≡ length T → length X′ ≡ length X → VertIn H P F S A L T X n → VertIn H P F S A L T′ X′ n
+pub vert-still : {H : Halfedges} {P : List Float} {F : List ℕ} {S : List Float} {A L : List ℕ} {T T′ : List Float} {X X′ : List ℕ} {n : ℕ} → length T′ ≡ length T → length X′ ≡ length X → VertIn H P F S A L T X n → VertIn H P F S A L T′ X′ n
 vert-still q r w = record { creases = w .creases; positions = w .positions; flat = w .flat; tangents = q ∙ w .tangents; fixed = r ∙ w .fixed }
 
 -- what the cases ask at a point
-pub making-in : {H : List ℤ} {P : List Float} {F : List ℕ} {S : List Float} {A L : List ℕ} {T : List Float} {X : List ℕ} {n : ℕ} → VertIn H P F S A L T X n → MakingIn H P T X n
+pub making-in : {H : Halfedges} {P : List Float} {F : List ℕ} {S : List Float} {A L : List ℕ} {T : List Float} {X : List ℕ} {n : ℕ} → VertIn H P F S A L T X n → MakingIn H P T X n
 making-in w = record {
   tangents = record { points = _; sound = w .creases .lists .sound; whole = w .creases .lists .whole; tangents = w .tangents };
   positions = w .positions;

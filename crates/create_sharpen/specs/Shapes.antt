@@ -3,10 +3,10 @@ use Prim.Native.Nat.{ℕ}
 use mathlib.Core.List.{List}
 use mathlib.Core.Bool.{Bool, cond}
 use lib.ListN.{set}
-use lib.IntN.{ℤ}
 use lib.Dec.{ltb}
 use lib.Ieee.{Float}
 use Rattle.common.specs.Fold.{foldTo}
+use Rattle.mesh.specs.Mesh.{Halfedges}
 use Rattle.create_shared.specs.Faces.{vertHalfedge}
 use Rattle.create_edges.specs.Edges.{Pair}
 use Rattle.create_creases.specs.declared.Crease.{Crease}
@@ -22,17 +22,17 @@ unfoldable pub fixHalfedge : ℕ → List ℕ → ℕ → List ℕ
 fixHalfedge n X lowest = cond (ltb lowest n) (set X lowest 1) X
 
 -- two pairs, a crease through the point: both halfedges are fixed and aligned, the others of the vertex cycle sharpened by side
-unfoldable pub shapeThrough : List ℤ → List Float → ℕ → Tangents → ℕ → ℕ → Float → Float → Tangents
+unfoldable pub shapeThrough : Halfedges → List Float → ℕ → Tangents → ℕ → ℕ → Float → Float → Tangents
 shapeThrough H P n m first second between beyond =
     let aligned = alignTangents H P m first second (newTangent (m .tangents) first second) in
     tangentsOf (sharpenSides H n (aligned .tangents) first second between beyond) (aligned .fixed)
 
 -- more pairs, a meeting: the vertex cycle of the first one's halfedge is sharpened
-unfoldable pub shapeMeeting : List ℤ → (ℕ → Bool) → ℕ → Tangents → ℕ → Float → Tangents
+unfoldable pub shapeMeeting : Halfedges → (ℕ → Bool) → ℕ → Tangents → ℕ → Float → Tangents
 shapeMeeting H flat n m first mean = tangentsOf (sharpenMeeting H flat n (m .tangents) first mean) (m .fixed)
 
 -- `lowest` is `vert_halfedge[v]`, `first` is `vert[0].0.halfedge`
-unfoldable pub shapeCrease : List ℤ → List Float → (ℕ → Bool) → ℕ → ℕ → ℕ → Tangents → Crease → Tangents
+unfoldable pub shapeCrease : Halfedges → List Float → (ℕ → Bool) → ℕ → ℕ → ℕ → Tangents → Crease → Tangents
 shapeCrease H P flat n lowest first m NoCrease = tangentsOf (m .tangents) (fixHalfedge n (m .fixed) lowest)
 shapeCrease H P flat n lowest first m OneEnd = m
 shapeCrease H P flat n lowest first m (Through a b between beyond) = shapeThrough H P n m a b between beyond
@@ -41,9 +41,9 @@ shapeCrease H P flat n lowest first m (Meeting mean) = shapeMeeting H flat n m f
 -- ---- the loop
 
 -- its body, at point v
-unfoldable pub shapeVert : List ℤ → List Float → (ℕ → Bool) → ℕ → (ℕ → List Pair) → Tangents → ℕ → Tangents
+unfoldable pub shapeVert : Halfedges → List Float → (ℕ → Bool) → ℕ → (ℕ → List Pair) → Tangents → ℕ → Tangents
 shapeVert H P flat n vert m v = shapeCrease H P flat n (vertHalfedge H n v) (firstHalfedge (vert v)) m (creaseOf (vert v))
 
 -- all p points
-unfoldable pub shapeVerts : List ℤ → List Float → (ℕ → Bool) → ℕ → (ℕ → List Pair) → ℕ → Tangents → Tangents
+unfoldable pub shapeVerts : Halfedges → List Float → (ℕ → Bool) → ℕ → (ℕ → List Pair) → ℕ → Tangents → Tangents
 shapeVerts H P flat n vert p m = foldTo (shapeVert H P flat n vert) m p

@@ -2,14 +2,13 @@
 use Prim.Native.Nat.{ℕ, _/_}
 use mathlib.Core.List.{List, foldl}
 use mathlib.Core.Bool.{Bool, cond, _||_}
-use lib.IntN.{ℤ}
 use lib.Dec.{eqb}
 use lib.Ieee.{Float, eq}
 use Rattle.float.specs.Ops.{_⊗_, zero}
 use Rattle.linalg.specs.declared.Vec3.{Vec3}
 use Rattle.linalg.specs.declared.Vec4.{Vec4}
 use Rattle.linalg.specs.Vec.{sub3, normalizeOf}
-use Rattle.mesh.specs.Mesh.{pairedHalfedge}
+use Rattle.mesh.specs.Mesh.{pairedHalfedge, Halfedges}
 use Rattle.smoothing.specs.Directions.{vec3FromVec4}
 use Rattle.smoothing.specs.Lists.{tangentAt, putTangent, isMarkedInsideQuad}
 use Rattle.cycles.specs.Cycles.{vertexCycle}
@@ -45,21 +44,21 @@ sharpenSide first second beyond m current =
     (sidesOf (sharpenTangent (m .tangents) current (m .smoothness)) (m .smoothness)))
 
 -- the loop; `between` is the smoothness from `first` to `second`
-unfoldable pub sharpenSides : List ℤ → ℕ → List Float → ℕ → ℕ → Float → Float → List Float
+unfoldable pub sharpenSides : Halfedges → ℕ → List Float → ℕ → ℕ → Float → Float → List Float
 sharpenSides H n T first second between beyond =
     foldl (sharpenSide first second beyond) (sidesOf T between) (vertexCycle H n first) .tangents
 
 -- ---- a meeting
 
 -- `s`: 0 beside a flat face, else the mean smoothness
-unfoldable pub meetingSmoothness : List ℤ → (ℕ → Bool) → Float → ℕ → Float
+unfoldable pub meetingSmoothness : Halfedges → (ℕ → Bool) → Float → ℕ → Float
 meetingSmoothness H flat mean current = cond (flat (current / 3) || flat (pairedHalfedge H current / 3)) zero mean
 
 -- the body of the loop, at halfedge `current`
-unfoldable pub sharpenMeetingAt : List ℤ → (ℕ → Bool) → Float → List Float → ℕ → List Float
+unfoldable pub sharpenMeetingAt : Halfedges → (ℕ → Bool) → Float → List Float → ℕ → List Float
 sharpenMeetingAt H flat mean T current =
     cond (isMarkedInsideQuad T current) T (sharpenTangent T current (meetingSmoothness H flat mean current))
 
 -- the loop, from the halfedge of the first pair
-unfoldable pub sharpenMeeting : List ℤ → (ℕ → Bool) → ℕ → List Float → ℕ → Float → List Float
+unfoldable pub sharpenMeeting : Halfedges → (ℕ → Bool) → ℕ → List Float → ℕ → Float → List Float
 sharpenMeeting H flat n T first mean = foldl (sharpenMeetingAt H flat mean) T (vertexCycle H n first)

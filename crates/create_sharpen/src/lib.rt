@@ -2,6 +2,7 @@
 ghost use mathlib.Core.Path.{_≡_};
 ghost use Prim.Native.Nat.{_+_, _*_, _≤_, _<_};
 ghost use lib.ListN.{length};
+ghost use Rattle.mesh.specs.Mesh.{asHalfedges};
 ghost use Rattle.create_shared.specs.Faces.{isFlat};
 ghost use Rattle.create_shared.specs.Lent.{FlatIn};
 ghost use Rattle.create_creases.specs.Linked.{pairsAt};
@@ -71,8 +72,8 @@ fn sharpen_side(
 
 // The smoothness of a halfedge at a meeting: 0 beside a flat face, else the mean.
 fn meeting_smoothness(h: &[i32], flat: &[u8], mean: f64, current: usize) -> f64
-    requires { ⌜ (current < length (now flat)) × FlatIn (now h) (length (now flat)) ⌝ }
-    ensures { λ r. ⌜ r ≡ meetingSmoothness (now (h .entry)) (isFlat (now (flat .entry))) mean current ⌝ }
+    requires { ⌜ (current < length (now flat)) × FlatIn (asHalfedges (now h)) (length (now flat)) ⌝ }
+    ensures { λ r. ⌜ r ≡ meetingSmoothness (asHalfedges (now (h .entry))) (isFlat (now (flat .entry))) mean current ⌝ }
 {
     let a = current / 3;
     let b = mesh::paired_halfedge(h, current) / 3;
@@ -84,8 +85,8 @@ fn meeting_smoothness(h: &[i32], flat: &[u8], mean: f64, current: usize) -> f64
 
 // One halfedge of a meeting.
 fn sharpen_meeting_at(h: &[i32], flat: &[u8], t: &mut [f64], mean: f64, current: usize)
-    requires { ⌜ (current * 4 + 4 ≤ length (now t)) × (current < length (now flat)) × FlatIn (now h) (length (now flat)) ⌝ }
-    ensures { λ _. ⌜ now (t .exit) ≡ sharpenMeetingAt (now (h .entry)) (isFlat (now (flat .entry))) mean (now (t .entry)) current ⌝ }
+    requires { ⌜ (current * 4 + 4 ≤ length (now t)) × (current < length (now flat)) × FlatIn (asHalfedges (now h)) (length (now flat)) ⌝ }
+    ensures { λ _. ⌜ now (t .exit) ≡ sharpenMeetingAt (asHalfedges (now (h .entry))) (isFlat (now (flat .entry))) mean (now (t .entry)) current ⌝ }
 {
     if smoothing::is_marked_inside_quad(t, current) {
         return;
@@ -104,8 +105,8 @@ fn sharpen_sides(
     between: f64,
     beyond: f64,
 )
-    requires { ⌜ (first < n) × TangentsIn (now h) (now t) n ⌝ }
-    ensures { λ _. ⌜ now (t .exit) ≡ sharpenSides (now (h .entry)) n (now (t .entry)) first second between beyond ⌝ }
+    requires { ⌜ (first < n) × TangentsIn (asHalfedges (now h)) (now t) n ⌝ }
+    ensures { λ _. ⌜ now (t .exit) ≡ sharpenSides (asHalfedges (now (h .entry))) n (now (t .entry)) first second between beyond ⌝ }
 {
     let mut s = between;
     let mut current = first;
@@ -120,8 +121,8 @@ fn sharpen_sides(
 
 // The vertex cycle of a meeting, from the halfedge of its first crease on.
 fn sharpen_meeting(n: usize, h: &[i32], flat: &[u8], t: &mut [f64], first: usize, mean: f64)
-    requires { ⌜ (first < n) × MeetingIn (now h) (now flat) (now t) n ⌝ }
-    ensures { λ _. ⌜ now (t .exit) ≡ sharpenMeeting (now (h .entry)) (isFlat (now (flat .entry))) n (now (t .entry)) first mean ⌝ }
+    requires { ⌜ (first < n) × MeetingIn (asHalfedges (now h)) (now flat) (now t) n ⌝ }
+    ensures { λ _. ⌜ now (t .exit) ≡ sharpenMeeting (asHalfedges (now (h .entry))) (isFlat (now (flat .entry))) n (now (t .entry)) first mean ⌝ }
 {
     let mut current = first;
     loop {
@@ -147,8 +148,8 @@ fn shape_through(
     between: f64,
     beyond: f64,
 )
-    requires { ⌜ (first < n) × (second < n) × MakingIn (now h) (now pos) (now t) (now fixed) n ⌝ }
-    ensures { λ _. ⌜ tangentsOf (now (t .exit)) (now (fixed .exit)) ≡ shapeThrough (now (h .entry)) (now (pos .entry)) n (tangentsOf (now (t .entry)) (now (fixed .entry))) first second between beyond ⌝ }
+    requires { ⌜ (first < n) × (second < n) × MakingIn (asHalfedges (now h)) (now pos) (now t) (now fixed) n ⌝ }
+    ensures { λ _. ⌜ tangentsOf (now (t .exit)) (now (fixed .exit)) ≡ shapeThrough (asHalfedges (now (h .entry))) (now (pos .entry)) n (tangentsOf (now (t .entry)) (now (fixed .entry))) first second between beyond ⌝ }
 {
     let dir = new_tangent(t, first, second);
     create_shared::align_tangents(n, h, pos, t, fixed, first, second, dir);
@@ -177,8 +178,8 @@ fn shape_crease(
     first: usize,
     crease: Crease,
 )
-    requires { ⌜ CreaseIn n first crease × (length (now flat) ≡ n) × MakingIn (now h) (now pos) (now t) (now fixed) n ⌝ }
-    ensures { λ _. ⌜ tangentsOf (now (t .exit)) (now (fixed .exit)) ≡ shapeCrease (now (h .entry)) (now (pos .entry)) (isFlat (now (flat .entry))) n first first (tangentsOf (now (t .entry)) (now (fixed .entry))) crease ⌝ }
+    requires { ⌜ CreaseIn n first crease × (length (now flat) ≡ n) × MakingIn (asHalfedges (now h)) (now pos) (now t) (now fixed) n ⌝ }
+    ensures { λ _. ⌜ tangentsOf (now (t .exit)) (now (fixed .exit)) ≡ shapeCrease (asHalfedges (now (h .entry))) (now (pos .entry)) (isFlat (now (flat .entry))) n first first (tangentsOf (now (t .entry)) (now (fixed .entry))) crease ⌝ }
 {
     match crease {
         Crease::NoCrease => fix_halfedge(n, fixed, first),
@@ -206,8 +207,8 @@ fn shape_vert(
     fixed: &mut [u8],
     v: usize,
 )
-    requires { ⌜ (v < length (now at)) × VertIn (now h) (now pos) (now flat) (now smooth) (now at) (now link) (now t) (now fixed) n ⌝ }
-    ensures { λ _. ⌜ tangentsOf (now (t .exit)) (now (fixed .exit)) ≡ shapeVert (now (h .entry)) (now (pos .entry)) (isFlat (now (flat .entry))) n (pairsAt (now (h .entry)) (now (smooth .entry)) n) (tangentsOf (now (t .entry)) (now (fixed .entry))) v ⌝ }
+    requires { ⌜ (v < length (now at)) × VertIn (asHalfedges (now h)) (now pos) (now flat) (now smooth) (now at) (now link) (now t) (now fixed) n ⌝ }
+    ensures { λ _. ⌜ tangentsOf (now (t .exit)) (now (fixed .exit)) ≡ shapeVert (asHalfedges (now (h .entry))) (now (pos .entry)) (isFlat (now (flat .entry))) n (pairsAt (asHalfedges (now (h .entry))) (now (smooth .entry)) n) (tangentsOf (now (t .entry)) (now (fixed .entry))) v ⌝ }
 {
     let first = create_creases::first_crease(n, at, v);
     let crease = create_creases::crease_at(n, h, smooth, at, link, v);
@@ -226,8 +227,8 @@ pub fn shape_verts(
     t: &mut [f64],
     fixed: &mut [u8],
 )
-    requires { ⌜ VertIn (now h) (now pos) (now flat) (now smooth) (now at) (now link) (now t) (now fixed) n ⌝ }
-    ensures { λ _. ⌜ tangentsOf (now (t .exit)) (now (fixed .exit)) ≡ shapeVerts (now (h .entry)) (now (pos .entry)) (isFlat (now (flat .entry))) n (pairsAt (now (h .entry)) (now (smooth .entry)) n) (length (now (at .entry))) (tangentsOf (now (t .entry)) (now (fixed .entry))) ⌝ }
+    requires { ⌜ VertIn (asHalfedges (now h)) (now pos) (now flat) (now smooth) (now at) (now link) (now t) (now fixed) n ⌝ }
+    ensures { λ _. ⌜ tangentsOf (now (t .exit)) (now (fixed .exit)) ≡ shapeVerts (asHalfedges (now (h .entry))) (now (pos .entry)) (isFlat (now (flat .entry))) n (pairsAt (asHalfedges (now (h .entry))) (now (smooth .entry)) n) (length (now (at .entry))) (tangentsOf (now (t .entry)) (now (fixed .entry))) ⌝ }
 {
     let mut v = 0;
     while v < at.len() {

@@ -1,13 +1,11 @@
 -- The walks around the points of a sound mesh: both steps take its halfedges one to one to themselves, and what follows of vertex cycles.
 use mathlib.Core.Path.{_≡_, refl, sym, ap, _∙_}
-use mathlib.Core.List.{List}
 use mathlib.Core.Bool.{Bool}
 use mathlib.Core.Logic.{_≢_}
 use Prim.Native.Nat.{ℕ, zero, suc, _+_, _^_, _≤_, _<_}
 use native.Mathlib.Omega.{arith}
 use lib.ListN.{length}
-use lib.IntN.{ℤ}
-use Rattle.mesh.specs.Mesh.{startVert, pairedHalfedge, nextHalfedge, prevHalfedge}
+use Rattle.mesh.specs.Mesh.{startVert, pairedHalfedge, nextHalfedge, prevHalfedge, Halfedges}
 use Rattle.mesh.specs.Sound.{Sound}
 use Rattle.mesh.specs.Check.{checkMesh}
 use Rattle.mesh.specs.declared.Checked.the-variants.{Accepted}
@@ -20,7 +18,7 @@ use Rattle.cycles.specs.Cycles.{nextAround, prevAround, vertexCycle, ver
 use Rattle.cycles.proofs.Orbits.{undo-reaches, cycle-back, cycle-some, cycle-once, cycle-reached, cycle-all, orbits}
 use Rattle.cycles.proofs.Count.{at-most-one}
 
-module _ {H : List ℤ} {n p : ℕ} (S : Sound H n p) where
+module _ {H : Halfedges} {n p : ℕ} (S : Sound H n p) where
   -- what `prev_around` requires of the number
   pub prev-fits : (e : ℕ) → e < n → e + 1 < 2 ^ 64
   prev-fits e h = omega (arith, S .few-halfedges)
@@ -110,5 +108,5 @@ module _ {H : List ℤ} {n p : ℕ} (S : Sound H n p) where
   }
 
 -- so a mesh that got through the questions has them
-pub accepted-cycles : (H : List ℤ) (n p : ℕ) (lengths : Bool) → checkMesh H n p lengths ≡ Accepted → Cycles H n
+pub accepted-cycles : (H : Halfedges) (n p : ℕ) (lengths : Bool) → checkMesh H n p lengths ≡ Accepted → Cycles H n
 accepted-cycles H n p lengths a = cycles (accepted H n p lengths a .1)

@@ -5,10 +5,10 @@ use mathlib.Core.Path.{_≡_, refl, sym, ap, _∙_}
 use mathlib.Core.List.{List, [], _∷_}
 use borrow.Author.Tests.{le-ltb}
 use lib.ListN.{length, getD, length-set, length-append}
-use lib.IntN.{ℤ}
 use lib.Ieee.{Float}
 use Rattle.common.specs.Fold.{foldTo}
 use Rattle.common.proofs.Fold.{fold-first}
+use Rattle.mesh.specs.Mesh.{Halfedges}
 use Rattle.cycles.specs.Walk.{cycleOf}
 use Rattle.cycles.proofs.Orbits.{cycle-back, cycle-within, cycle-some}
 use Rattle.cycles.proofs.Around.{next-permutes}
@@ -56,7 +56,7 @@ unfolding planAt next
 plan-desired zero by = refl
 plan-desired (suc i) by = plan-desired i (next by) ∙ simp length-set
 
-module _ (H : List ℤ) (P N : List Float) (F : List ℕ) (n : ℕ) where
+module _ (H : Halfedges) (P N : List Float) (F : List ℕ) (n : ℕ) where
   turn-fold : (cs : List ℕ) (by : Plan) (st : State (floatSteps H P N F n))
       → turnAll (floatSteps H P N F n) cs by st ≡ foldTo (λ s i. turnAt (floatSteps H P N F n) (getD cs i 0) (planAt by i) s) st (length cs)
   unfolding turnAll planAt foldTo
@@ -94,7 +94,7 @@ angles-in-lists H P N F T C D n p U start w looked st e =
     }
 
 -- the same as a count, of any steps: with any fuel the second walk turns at most as many tangents as the first one gathered angles
-pub angles-never-run-out : (H : List ℤ) (P N : List Float) (F : List ℕ) (T C D : List Float) (n p : ℕ) (U : List Float) (start : ℕ)
+pub angles-never-run-out : (H : Halfedges) (P N : List Float) (F : List ℕ) (T C D : List Float) (n p : ℕ) (U : List Float) (start : ℕ)
     → WalksGo H P N F T C D n p U start → AnglesSuffice (floatSteps H P N F n) U start
 angles-never-run-out H P N F T C D n p U start w =
     angles-suffice (lawful (lists-of H P N F T C D n p (w .accepted) .sound) P N F) U start (w .below) (w .whole) (w .is-start)

@@ -4,11 +4,11 @@ use mathlib.Core.Path.{_≡_}
 use mathlib.Core.List.{List}
 use mathlib.Core.Bool.{false}
 use lib.ListN.{length, getD}
-use lib.IntN.{ℤ}
 use lib.Ieee.{Float, nan}
 use Rattle.float.specs.Ops as float
 use Rattle.float.specs.Ops.{_⊗_}
 use Rattle.common.specs.Fold.{foldTo}
+use Rattle.mesh.specs.Mesh.{Halfedges}
 use Rattle.mesh.specs.declared.Checked.the-variants.{Accepted}
 use Rattle.cycles.specs.Walk.{iter}
 use Rattle.distribute_spread.specs.Steps.{Steps}
@@ -19,7 +19,7 @@ use Rattle.distribute_walks.specs.Walks.{firstFrom}
 use Rattle.distribute.specs.Distribute.{checkLists}
 
 -- Both walks go from `start` on an accepted mesh: it is fixed, and unmarked in the tangents T′ that the starts before it left. T′ may be any list with four numbers for each halfedge.
-pub record WalksGo (H : List ℤ) (P N : List Float) (X : List ℕ) (T C D : List Float) (n p : ℕ) (T′ : List Float) (start : ℕ) : Type 0 where
+pub record WalksGo (H : Halfedges) (P N : List Float) (X : List ℕ) (T C D : List Float) (n p : ℕ) (T′ : List Float) (start : ℕ) : Type 0 where
   pub accepted : checkLists H P N X T C D n p ≡ Accepted
   pub whole : length T′ ≡ n * 4
   pub below : start < n
@@ -35,7 +35,7 @@ pub record GuardFree (S : Steps) (ts : S .Tangents) (start : ℕ) : Type 0 where
 
 abbrev pub GuardsNeverFire : Type 0
 GuardsNeverFire =
-    (H : List ℤ) (P N : List Float) (X : List ℕ) (T C D : List Float) (n p : ℕ) (T′ : List Float) (start : ℕ)
+    (H : Halfedges) (P N : List Float) (X : List ℕ) (T C D : List Float) (n p : ℕ) (T′ : List Float) (start : ℕ)
     → WalksGo H P N X T C D n p T′ start → GuardFree (floatSteps H P N X n) T′ start
 
 -- ---- the angles
@@ -46,11 +46,11 @@ planAt by zero = by
 planAt by (suc i) = planAt (next by) i
 
 -- what it sets out with: from the first walk, with so many steps looked at before
-abbrev pub planFrom : List ℤ → List Float → List Float → List ℕ → ℕ → List Float → ℕ → ℕ → Plan
+abbrev pub planFrom : Halfedges → List Float → List Float → List ℕ → ℕ → List Float → ℕ → ℕ → Plan
 planFrom H P N X n T′ start looked = let found = firstFrom H P N X n T′ start looked in plan start (found .last) (found .gathered)
 
 -- of the second walk, on the state st and by the plan `by` with which it sets out
-pub record AnglesIn (H : List ℤ) (P N : List Float) (X : List ℕ) (n start : ℕ) (by : Plan) (st : State (floatSteps H P N X n)) : Type 0 where
+pub record AnglesIn (H : Halfedges) (P N : List Float) (X : List ℕ) (n start : ℕ) (by : Plan) (st : State (floatSteps H P N X n)) : Type 0 where
   -- both lists have as many angles: the loop that sums the offset over `current_angle` reads `desired_angle` too
   pub as-many : length (by .currentAngle) ≡ length (by .desiredAngle)
   -- the walk turns these halfedges, number i of them by the plan number i
@@ -63,7 +63,7 @@ pub record AnglesIn (H : List ℤ) (P N : List Float) (X : List ℕ) (n start : 
 
 abbrev pub AnglesInLists : Type 0
 AnglesInLists =
-    (H : List ℤ) (P N : List Float) (X : List ℕ) (T C D : List Float) (n p : ℕ) (T′ : List Float) (start : ℕ)
+    (H : Halfedges) (P N : List Float) (X : List ℕ) (T C D : List Float) (n p : ℕ) (T′ : List Float) (start : ℕ)
     → WalksGo H P N X T C D n p T′ start
     → (looked : ℕ) (st : State (floatSteps H P N X n)) → st .tangents ≡ T′ → AnglesIn H P N X n start (planFrom H P N X n T′ start looked) st
 

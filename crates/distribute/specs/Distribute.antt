@@ -4,10 +4,9 @@ use mathlib.Core.Path.{_≡_}
 use mathlib.Core.List.{List}
 use mathlib.Core.Bool.{Bool, _&&_}
 use lib.ListN.{length, replicate}
-use lib.IntN.{ℤ}
 use lib.Ieee.{Float}
 use Rattle.float.specs.Ops.{zero}
-use Rattle.mesh.specs.Mesh.{halfedgeStride}
+use Rattle.mesh.specs.Mesh.{halfedgeStride, Halfedges}
 use Rattle.mesh.specs.Questions.{hasLength}
 use Rattle.mesh.specs.Check as mesh
 use Rattle.mesh.specs.Check.{checkMesh, checkFlags, whenAccepted}
@@ -44,19 +43,19 @@ turnedOf (RefusedSpreading number place) = 0
 -- ---- the questions
 
 -- question 2 of the lists that the call is lent
-abbrev pub lengthsFit : List ℤ → List Float → List Float → List ℕ → List Float → List Float → List Float → ℕ → ℕ → Bool
+abbrev pub lengthsFit : Halfedges → List Float → List Float → List ℕ → List Float → List Float → List Float → ℕ → ℕ → Bool
 lengthsFit H P N X T C D n p =
-    hasLength (length H) n halfedgeStride && hasLength (length P) p 3 && hasLength (length N) p 3 && hasLength (length X) n 1
+    hasLength (H .numbers) n halfedgeStride && hasLength (length P) p 3 && hasLength (length N) p 3 && hasLength (length X) n 1
     && hasLength (length T) n 4 && hasLength (length C) n 1 && hasLength (length D) n 1
 
 -- questions 1 to 7 and 11
-unfoldable pub checkLists : List ℤ → List Float → List Float → List ℕ → List Float → List Float → List Float → ℕ → ℕ → Checked
+unfoldable pub checkLists : Halfedges → List Float → List Float → List ℕ → List Float → List Float → List Float → ℕ → ℕ → Checked
 checkLists H P N X T C D n p = checkFlags (checkMesh H n p (lengthsFit H P N X T C D n p)) X n
 
 -- ---- the call
 
 -- the tangents and counts of an accepted call: the unit's own pass over the tangents T, with the float steps
-abbrev pub spreadTangents : (H : List ℤ) (P N : List Float) (X : List ℕ) (T : List Float) (n : ℕ) → State (floatSteps H P N X n)
+abbrev pub spreadTangents : (H : Halfedges) (P N : List Float) (X : List ℕ) (T : List Float) (n : ℕ) → State (floatSteps H P N X n)
 spreadTangents H P N X T n = pass (floatSteps H P N X n) T
 
 -- these are the tangents and counts of a state
@@ -70,12 +69,12 @@ answerOf Accepted looked turned = Spread looked turned
 answerOf (Refused number place) looked turned = RefusedSpreading number place
 
 -- the answer, for every input
-abbrev pub distributeTangents : List ℤ → List Float → List Float → List ℕ → List Float → List Float → List Float → ℕ → ℕ → Spreading
+abbrev pub distributeTangents : Halfedges → List Float → List Float → List ℕ → List Float → List Float → List Float → ℕ → ℕ → Spreading
 distributeTangents H P N X T C D n p =
     answerOf (checkLists H P N X T C D n p) (spreadTangents H P N X T n .looked) (spreadTangents H P N X T n .turned)
 
 -- the tangents after the call, for every input: as lent when it is refused
-abbrev pub tangentsAfter : List ℤ → List Float → List Float → List ℕ → List Float → List Float → List Float → ℕ → ℕ → List Float
+abbrev pub tangentsAfter : Halfedges → List Float → List Float → List ℕ → List Float → List Float → List Float → ℕ → ℕ → List Float
 tangentsAfter H P N X T C D n p = whenAccepted (checkLists H P N X T C D n p) (spreadTangents H P N X T n .tangents) T
 
 -- a scratch list after the call: zeros when it is accepted, as lent when it is refused
@@ -83,7 +82,7 @@ abbrev pub scratchAfter : Checked → List Float → ℕ → List Float
 scratchAfter checked lent n = whenAccepted checked (replicate n zero) lent
 
 -- Demand 3 of an accepted call that found the tangents T and left them as `after`, and answered r: for every list of starts that names each fixed halfedge once.
-abbrev pub AnyOrder : List ℤ → List Float → List Float → List ℕ → List Float → List Float → List Float → ℕ → ℕ → List Float → Spreading → Type 0
+abbrev pub AnyOrder : Halfedges → List Float → List Float → List ℕ → List Float → List Float → List Float → ℕ → ℕ → List Float → Spreading → Type 0
 AnyOrder H P N X T C D n p after r =
     checkLists H P N X T C D n p ≡ Accepted → (starts : List ℕ) → NamesFixed (floatSteps H P N X n) starts
     → OrderFree (floatSteps H P N X n) starts T after (lookedOf r) (turnedOf r)

@@ -3,6 +3,7 @@
 ghost use mathlib.Core.Path.{_≡_};
 ghost use lib.ListN.{length, replicate};
 ghost use Rattle.float.specs.Ops.{zero};
+ghost use Rattle.mesh.specs.Mesh.{asHalfedges};
 ghost use Rattle.distribute_steps.specs.FloatSteps.{floatSteps};
 ghost use Rattle.distribute_walks.specs.Walks.{Lists};
 ghost use Rattle.distribute.specs.Distribute.{numberOf, placeOf, lookedOf, turnedOf, lengthsFit, checkLists, spreadTangents, Reports, answerOf, distributeTangents, tangentsAfter, scratchAfter, AnyOrder, Values};
@@ -75,8 +76,8 @@ fn spread_all(
     current: &mut [f64],
     desired: &mut [f64],
 ) -> Counts
-    requires { ⌜ Lists (now h) (now pos) (now normals) (now fixed) (now t) (now current) (now desired) n p ⌝ }
-    ensures { λ r. ⌜ Reports (floatSteps (now (h .entry)) (now (pos .entry)) (now (normals .entry)) (now (fixed .entry)) n) (spreadTangents (now (h .entry)) (now (pos .entry)) (now (normals .entry)) (now (fixed .entry)) (now (t .entry)) n) (now (t .exit)) r ⌝ }
+    requires { ⌜ Lists (asHalfedges (now h)) (now pos) (now normals) (now fixed) (now t) (now current) (now desired) n p ⌝ }
+    ensures { λ r. ⌜ Reports (floatSteps (asHalfedges (now (h .entry))) (now (pos .entry)) (now (normals .entry)) (now (fixed .entry)) n) (spreadTangents (asHalfedges (now (h .entry))) (now (pos .entry)) (now (normals .entry)) (now (fixed .entry)) (now (t .entry)) n) (now (t .exit)) r ⌝ }
 {
     let mut counts = Counts {
         looked: 0,
@@ -112,8 +113,8 @@ pub fn spread_tangents(
     current: &mut [f64],
     desired: &mut [f64],
 ) -> Counts
-    requires { ⌜ Lists (now h) (now pos) (now normals) (now fixed) (now t) (now current) (now desired) n p ⌝ }
-    ensures report { λ r. ⌜ Reports (floatSteps (now (h .entry)) (now (pos .entry)) (now (normals .entry)) (now (fixed .entry)) n) (spreadTangents (now (h .entry)) (now (pos .entry)) (now (normals .entry)) (now (fixed .entry)) (now (t .entry)) n) (now (t .exit)) r ⌝ }
+    requires { ⌜ Lists (asHalfedges (now h)) (now pos) (now normals) (now fixed) (now t) (now current) (now desired) n p ⌝ }
+    ensures report { λ r. ⌜ Reports (floatSteps (asHalfedges (now (h .entry))) (now (pos .entry)) (now (normals .entry)) (now (fixed .entry)) n) (spreadTangents (asHalfedges (now (h .entry))) (now (pos .entry)) (now (normals .entry)) (now (fixed .entry)) (now (t .entry)) n) (now (t .exit)) r ⌝ }
     ensures current { λ _. ⌜ now (current .exit) ≡ replicate n zero ⌝ }
     ensures desired { λ _. ⌜ now (desired .exit) ≡ replicate n zero ⌝ }
 {
@@ -135,7 +136,7 @@ fn lengths_fit(
     current: &[f64],
     desired: &[f64],
 ) -> bool
-    ensures { λ r. ⌜ r ≡ lengthsFit (now (h .entry)) (now (pos .entry)) (now (normals .entry)) (now (fixed .entry)) (now (t .entry)) (now (current .entry)) (now (desired .entry)) n p ⌝ }
+    ensures { λ r. ⌜ r ≡ lengthsFit (asHalfedges (now (h .entry))) (now (pos .entry)) (now (normals .entry)) (now (fixed .entry)) (now (t .entry)) (now (current .entry)) (now (desired .entry)) n p ⌝ }
 {
     let points = common::both(
         common::both(
@@ -166,7 +167,7 @@ fn check_lists(
     current: &[f64],
     desired: &[f64],
 ) -> Checked
-    ensures { λ r. ⌜ r ≡ checkLists (now (h .entry)) (now (pos .entry)) (now (normals .entry)) (now (fixed .entry)) (now (t .entry)) (now (current .entry)) (now (desired .entry)) n p ⌝ }
+    ensures { λ r. ⌜ r ≡ checkLists (asHalfedges (now (h .entry))) (now (pos .entry)) (now (normals .entry)) (now (fixed .entry)) (now (t .entry)) (now (current .entry)) (now (desired .entry)) n p ⌝ }
 {
     let lengths = lengths_fit(n, p, h, pos, normals, fixed, t, current, desired);
     let checked = mesh::check_mesh(h, n, p, lengths);
@@ -200,12 +201,12 @@ pub fn distribute_tangents(
     current: &mut [f64],
     desired: &mut [f64],
 ) -> Spreading
-    ensures answer { λ r. ⌜ r ≡ distributeTangents (now (h .entry)) (now (pos .entry)) (now (normals .entry)) (now (fixed .entry)) (now (t .entry)) (now (current .entry)) (now (desired .entry)) n p ⌝ }
-    ensures tangents { λ r. ⌜ now (t .exit) ≡ tangentsAfter (now (h .entry)) (now (pos .entry)) (now (normals .entry)) (now (fixed .entry)) (now (t .entry)) (now (current .entry)) (now (desired .entry)) n p ⌝ }
-    ensures current { λ r. ⌜ now (current .exit) ≡ scratchAfter (checkLists (now (h .entry)) (now (pos .entry)) (now (normals .entry)) (now (fixed .entry)) (now (t .entry)) (now (current .entry)) (now (desired .entry)) n p) (now (current .entry)) n ⌝ }
-    ensures desired { λ r. ⌜ now (desired .exit) ≡ scratchAfter (checkLists (now (h .entry)) (now (pos .entry)) (now (normals .entry)) (now (fixed .entry)) (now (t .entry)) (now (current .entry)) (now (desired .entry)) n p) (now (desired .entry)) n ⌝ }
-    ensures order { λ r. ⌜ AnyOrder (now (h .entry)) (now (pos .entry)) (now (normals .entry)) (now (fixed .entry)) (now (t .entry)) (now (current .entry)) (now (desired .entry)) n p (now (t .exit)) r ⌝ }
-    ensures values { λ r. ⌜ Values (checkLists (now (h .entry)) (now (pos .entry)) (now (normals .entry)) (now (fixed .entry)) (now (t .entry)) (now (current .entry)) (now (desired .entry)) n p) (floatSteps (now (h .entry)) (now (pos .entry)) (now (normals .entry)) (now (fixed .entry)) n) (spreadTangents (now (h .entry)) (now (pos .entry)) (now (normals .entry)) (now (fixed .entry)) (now (t .entry)) n) r ⌝ }
+    ensures answer { λ r. ⌜ r ≡ distributeTangents (asHalfedges (now (h .entry))) (now (pos .entry)) (now (normals .entry)) (now (fixed .entry)) (now (t .entry)) (now (current .entry)) (now (desired .entry)) n p ⌝ }
+    ensures tangents { λ r. ⌜ now (t .exit) ≡ tangentsAfter (asHalfedges (now (h .entry))) (now (pos .entry)) (now (normals .entry)) (now (fixed .entry)) (now (t .entry)) (now (current .entry)) (now (desired .entry)) n p ⌝ }
+    ensures current { λ r. ⌜ now (current .exit) ≡ scratchAfter (checkLists (asHalfedges (now (h .entry))) (now (pos .entry)) (now (normals .entry)) (now (fixed .entry)) (now (t .entry)) (now (current .entry)) (now (desired .entry)) n p) (now (current .entry)) n ⌝ }
+    ensures desired { λ r. ⌜ now (desired .exit) ≡ scratchAfter (checkLists (asHalfedges (now (h .entry))) (now (pos .entry)) (now (normals .entry)) (now (fixed .entry)) (now (t .entry)) (now (current .entry)) (now (desired .entry)) n p) (now (desired .entry)) n ⌝ }
+    ensures order { λ r. ⌜ AnyOrder (asHalfedges (now (h .entry))) (now (pos .entry)) (now (normals .entry)) (now (fixed .entry)) (now (t .entry)) (now (current .entry)) (now (desired .entry)) n p (now (t .exit)) r ⌝ }
+    ensures values { λ r. ⌜ Values (checkLists (asHalfedges (now (h .entry))) (now (pos .entry)) (now (normals .entry)) (now (fixed .entry)) (now (t .entry)) (now (current .entry)) (now (desired .entry)) n p) (floatSteps (asHalfedges (now (h .entry))) (now (pos .entry)) (now (normals .entry)) (now (fixed .entry)) n) (spreadTangents (asHalfedges (now (h .entry))) (now (pos .entry)) (now (normals .entry)) (now (fixed .entry)) (now (t .entry)) n) r ⌝ }
 {
     let checked = check_lists(n, p, h, pos, normals, fixed, t, current, desired);
     let Checked::Accepted = checked else {

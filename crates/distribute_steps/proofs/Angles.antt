@@ -9,13 +9,13 @@ use borrow.Author.Tests.{eqb-false, ltb-true}
 use lib.Dec.{eqb, ltb}
 use lib.ListN.{length, getD, take, set}
 use lib.Seq.{getD-take, length-take-le, take-suc-set, take-set-lt}
-use lib.IntN.{ℤ}
 use lib.Ieee.{Float, nan}
 use Rattle.float.specs.Ops.{_⊖_, _⊗_, zero as 0f}
 use Rattle.linalg.specs.declared.Vec3.{Vec3}
 use Rattle.linalg.specs.declared.Vec4.{Vec4}
 use Rattle.linalg.specs.Vec.{add3, crossOf}
 use Rattle.common.specs.Fold.{foldTo}
+use Rattle.mesh.specs.Mesh.{Halfedges}
 use Rattle.smoothing.specs.Directions.{safeNormalize}
 use Rattle.smoothing.specs.Lists.{tangentAt}
 use Rattle.distribute_steps.specs.FloatSteps.{Gathered, begin, lastOr, tangentDirection, nextCurrent, nextDesired, gatherEdge, addOffset, offsetSum, scaleOf, offsetOf, plan, clampAngle, clampedAngle, turnAngle, turnedTangent, turn, next}
@@ -60,7 +60,7 @@ clamped-take scale D k i h =
 -- ---- what is gathered
 
 -- the walk sets out with the directions at its start
-pub begin-directions : (H : List ℤ) (P T C D : List Float) (start : ℕ) (g : Carried) → gatheredOf C D g ≡ begin H P start (tangentAt T start)
+pub begin-directions : (H : Halfedges) (P T C D : List Float) (start : ℕ) (g : Carried) → gatheredOf C D g ≡ begin H P start (tangentAt T start)
     → record { edge = g .«last_edge»; tangent = g .«first_tangent» } ≡ directionsAt H P T start start
 unfolding begin
 begin-directions H P T C D start g e = ap (λ (x : Gathered). record { edge = x .lastEdge; tangent = x .firstTangent }) e

@@ -3,14 +3,14 @@ use Prim.Native.Nat.{ℕ, suc, _+_, _-_}
 use mathlib.Core.List.{List, [], _∷_, _++_}
 use mathlib.Core.Bool.{Bool, cond, not, _&&_, _||_}
 use lib.ListN.{length, getD, set}
-use lib.IntN.{ℤ, pos}
+use lib.IntN.{pos}
 use lib.Dec.{eqb, ltb}
 use lib.Ieee.{Float, nan, lt, eq, neg, ofInt, binary64}
 use Rattle.float.specs.Ops.{_⊕_, _⊖_, _⊗_, _⊘_, zero, one, pi, two-pi}
 use Rattle.linalg.specs.declared.Vec3.{Vec3}
 use Rattle.linalg.specs.declared.Vec4.{Vec4}
 use Rattle.linalg.specs.Vec.{add3, sub3, crossOf, dotOf, qrotOf, rotationQuatAxisAngle}
-use Rattle.mesh.specs.Mesh.{startVert, endVert}
+use Rattle.mesh.specs.Mesh.{startVert, endVert, Halfedges}
 use Rattle.common.specs.Fold.{foldTo}
 use Rattle.smoothing.specs.Directions.{vec3FromVec4, safeNormalize, wrapOf, angleBetween}
 use Rattle.smoothing.specs.Lists.{pointAt, tangentAt, putTangent}
@@ -32,11 +32,11 @@ abbrev pub isStart : List ℕ → List Float → ℕ → Bool
 isStart X T e = not (isMark (tangentAt T e .w)) && isFixed X e
 
 -- `approx_normal`: the normal of the start's point
-abbrev pub approxNormal : List ℤ → List Float → ℕ → Vec3
+abbrev pub approxNormal : Halfedges → List Float → ℕ → Vec3
 approxNormal H N start = pointAt N (startVert H start)
 
 -- `this_edge_vec`: the direction from the start's point, `center`, to the end of the halfedge `current`
-unfoldable pub edgeDirection : List ℤ → List Float → ℕ → ℕ → Vec3
+unfoldable pub edgeDirection : Halfedges → List Float → ℕ → ℕ → Vec3
 edgeDirection H P start current = safeNormalize (sub3 (pointAt P (endVert H current)) (pointAt P (startVert H start)))
 
 -- `this_tangent`: the direction of a tangent
@@ -59,7 +59,7 @@ pub record Gathered : Type 0 where
   pub lastTangent : Vec3
 
 -- at the start, with its tangent
-unfoldable pub begin : List ℤ → List Float → ℕ → Vec4 → Gathered
+unfoldable pub begin : Halfedges → List Float → ℕ → Vec4 → Gathered
 begin H P start v =
     let tangent = tangentDirection v in
     record {
@@ -99,7 +99,7 @@ gatherEdge approx edge back v g =
     }
 
 -- the first walk from `start` comes to the halfedge `current` with the tangent v
-abbrev pub gather : List ℤ → List Float → List Float → ℕ → ℕ → Vec4 → Gathered → Gathered
+abbrev pub gather : Halfedges → List Float → List Float → ℕ → ℕ → Vec4 → Gathered → Gathered
 gather H P N start current v g = gatherEdge (approxNormal H N start) (edgeDirection H P start current) (eqb current start) v g
 
 -- one angle, or a normal of length 0: nothing is turned
@@ -188,7 +188,7 @@ next p = record {
 
 -- ---- spreading with these steps, over n halfedges
 
-abbrev pub floatSteps : List ℤ → List Float → List Float → List ℕ → ℕ → Steps
+abbrev pub floatSteps : Halfedges → List Float → List Float → List ℕ → ℕ → Steps
 floatSteps H P N X n = record {
   Tangents = List Float;
   Tangent = Vec4;

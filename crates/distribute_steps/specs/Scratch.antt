@@ -3,10 +3,9 @@ use Prim.Native.Nat.{ℕ, _+_, _*_, _≤_, _<_}
 use mathlib.Core.Path.{_≡_}
 use mathlib.Core.List.{List}
 use lib.ListN.{length, take}
-use lib.IntN.{ℤ}
 use lib.Ieee.{Float}
 use Rattle.linalg.specs.declared.Vec4.{Vec4}
-use Rattle.mesh.specs.Mesh.{startVert, endVert}
+use Rattle.mesh.specs.Mesh.{startVert, endVert, Halfedges}
 use Rattle.mesh.specs.Inside.{Inside}
 use Rattle.smoothing.specs.Lists.{tangentAt}
 use Rattle.distribute_steps.specs.FloatSteps.{Gathered, Plan, edgeDirection, tangentDirection}
@@ -26,7 +25,7 @@ gatheredOf C D g = record {
 }
 
 -- the two directions at halfedge e of a walk from `start`
-abbrev pub directionsAt : List ℤ → List Float → List Float → ℕ → ℕ → Directions
+abbrev pub directionsAt : Halfedges → List Float → List Float → ℕ → ℕ → Directions
 directionsAt H P T start e = record { edge = edgeDirection H P start e; tangent = tangentDirection (tangentAt T e) }
 
 -- what the second walk goes by, at angle i
@@ -43,7 +42,7 @@ planOf C D p i = record {
 -- ---- what the lists must hold for a call
 
 -- both halfedges stand in the list, and the start's point and the end of `current` have a position
-pub record EdgeFrom (H : List ℤ) (P : List Float) (start current : ℕ) : Type 0 where
+pub record EdgeFrom (H : Halfedges) (P : List Float) (start current : ℕ) : Type 0 where
   pub start-inside : Inside H start
   pub current-inside : Inside H current
   pub center-in : startVert H start * 3 + 3 ≤ length P

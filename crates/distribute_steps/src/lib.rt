@@ -6,6 +6,7 @@ ghost use mathlib.Core.List.{List};
 ghost use lib.ListN.{length};
 ghost use lib.Ieee.{Float};
 ghost use Rattle.linalg.specs.declared.Vec4.{Vec4};
+ghost use Rattle.mesh.specs.Mesh.{asHalfedges};
 ghost use Rattle.smoothing.specs.Lists.{tangentAt, putTangent};
 ghost use Rattle.distribute_steps.specs.FloatSteps.{isMark, isFixed, isStart, edgeDirection, tangentDirection, lastOr, begin, angleAround, nextCurrent, nextDesired, gatherEdge, turnsNone, addOffset, offsetSum, scaleOf, offsetOf, plan, clampAngle, clampedAngle, turnedTangent, turn, next};
 ghost use Rattle.distribute_steps.specs.Scratch.{gatheredOf, planOf, EdgeFrom, GatherRoom, TurnRoom};
@@ -60,8 +61,8 @@ pub fn is_start(fixed: &[u8], t: &[f64], e: usize) -> bool
 
 // The direction from the start's point to the end of halfedge `current`.
 pub fn edge_direction(h: &[i32], pos: &[f64], start: usize, current: usize) -> Vec3
-    requires { ⌜ EdgeFrom (now h) (now pos) start current ⌝ }
-    ensures { λ r. ⌜ r ≡ edgeDirection (now (h .entry)) (now (pos .entry)) start current ⌝ }
+    requires { ⌜ EdgeFrom (asHalfedges (now h)) (now pos) start current ⌝ }
+    ensures { λ r. ⌜ r ≡ edgeDirection (asHalfedges (now (h .entry))) (now (pos .entry)) start current ⌝ }
 {
     let end = smoothing::point_at(pos, mesh::end_vert(h, current));
     let center = smoothing::point_at(pos, mesh::start_vert(h, start));
@@ -88,8 +89,8 @@ fn last_or(list: &[f64], k: usize, d: f64) -> f64
 
 // What is gathered at the start, before the first step.
 pub fn begin(h: &[i32], pos: &[f64], start: usize, v: Vec4) -> Carried
-    requires { ⌜ EdgeFrom (now h) (now pos) start start ⌝ }
-    ensures { λ r. ⌜ ((C D : List Float) → gatheredOf C D r ≡ begin (now (h .entry)) (now (pos .entry)) start v) ⌝ }
+    requires { ⌜ EdgeFrom (asHalfedges (now h)) (now pos) start start ⌝ }
+    ensures { λ r. ⌜ ((C D : List Float) → gatheredOf C D r ≡ begin (asHalfedges (now (h .entry))) (now (pos .entry)) start v) ⌝ }
     ensures { λ r. ⌜ r .count ≡ 0 ⌝ }
 {
     let tangent = tangent_direction(v);

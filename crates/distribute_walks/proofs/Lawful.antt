@@ -5,10 +5,10 @@ use mathlib.Core.Bool.{true}
 use Prim.Native.Nat.{ℕ, suc, _+_, _*_, _≤_, _<_}
 use native.Mathlib.Omega.{arith}
 use lib.ListN.{length, length-append}
-use lib.IntN.{ℤ}
 use lib.Ieee.{Float}
 use Rattle.linalg.specs.declared.Vec3.{Vec3}
 use Rattle.linalg.specs.declared.Vec4.{Vec4}
+use Rattle.mesh.specs.Mesh.{Halfedges}
 use Rattle.mesh.specs.Sound.{Sound}
 use Rattle.cycles.proofs.Around.{next-permutes}
 use Rattle.smoothing.proofs.Tangents.{length-put, tangent-put-same, tangent-put-other, same-tangents}
@@ -25,7 +25,7 @@ unfolding turnedTangent
 weight-kept axis angle v = refl
 
 -- Whole: the list has four numbers for each halfedge
-abbrev pub lawful : {H : List ℤ} {n p : ℕ} → Sound H n p → (P N : List Float) (F : List ℕ) → Lawful (floatSteps H P N F n)
+abbrev pub lawful : {H : Halfedges} {n p : ℕ} → Sound H n p → (P N : List Float) (F : List ℕ) → Lawful (floatSteps H P N F n)
 lawful {H} {n} s P N F = record {
   permutes = next-permutes s;
   turn-weight = λ p v. weight-kept (p .axis) (turnAngle p) v;
@@ -40,12 +40,12 @@ lawful {H} {n} s P N F = record {
 abbrev pub angleCount : Gathered → ℕ
 angleCount g = length (g .desiredAngle)
 
-pub angles-counted : (H : List ℤ) (P N : List Float) (F : List ℕ) (n : ℕ) → AngleCount (floatSteps H P N F n) angleCount
+pub angles-counted : (H : Halfedges) (P N : List Float) (F : List ℕ) (n : ℕ) → AngleCount (floatSteps H P N F n) angleCount
 unfolding begin gatherEdge
 angles-counted H P N F n = record { at-start = λ start v. refl; grows = λ start e v g. simp length-append (omega arith) }
 
 -- so the first walk from a start gathers as many as it steps onto unmarked halfedges
-pub angles-are : {H : List ℤ} {n p : ℕ} → Sound H n p → (P N : List Float) (F : List ℕ) (T : List Float) (start looked : ℕ) → start < n → isStart F T start ≡ true
+pub angles-are : {H : Halfedges} {n p : ℕ} → Sound H n p → (P N : List Float) (F : List ℕ) (T : List Float) (start looked : ℕ) → start < n → isStart F T start ≡ true
     → angleCount (firstFrom H P N F n T start looked .gathered) ≡ anglesLeft (floatSteps H P N F n) T start
 angles-are {H} {n} s P N F T start looked b d =
     angles-gathered (lawful s P N F) T start b (stop-is (floatSteps H P N F n) T start d) angleCount (angles-counted H P N F n) (suc n) looked

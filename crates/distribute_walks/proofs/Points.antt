@@ -4,12 +4,11 @@ use mathlib.Core.List.{List}
 use Prim.Native.Nat.{ℕ, _*_, _<_}
 use native.Mathlib.Omega.{arith}
 use lib.ListN.{length}
-use lib.IntN.{ℤ}
 use lib.Ieee.{Float}
-use Rattle.mesh.specs.Mesh.{halfedgeStride}
+use Rattle.mesh.specs.Mesh.{halfedgeStride, Halfedges}
 use Rattle.mesh.specs.Sound.{Sound}
 use Rattle.mesh.proofs.Accepted.{inside}
 use Rattle.distribute_steps.specs.Scratch.{EdgeFrom}
 
-pub edge-from : {H : List ℤ} {n p : ℕ} {P : List Float} → Sound H n p → length H ≡ n * halfedgeStride → length P ≡ p * 3 → (start e : ℕ) → start < n → e < n → EdgeFrom H P start e
+pub edge-from : {H : Halfedges} {n p : ℕ} {P : List Float} → Sound H n p → H .numbers ≡ n * halfedgeStride → length P ≡ p * 3 → (start e : ℕ) → start < n → e < n → EdgeFrom H P start e
 edge-from s w l start e a b = record { start-inside = inside s w start a; current-inside = inside s w e b; center-in = omega (arith, s .start-below start a); end-in = omega (arith, s .end-below e b) }

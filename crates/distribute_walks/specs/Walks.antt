@@ -4,9 +4,8 @@ use mathlib.Core.Path.{_≡_}
 use mathlib.Core.List.{List}
 use mathlib.Core.Bool.{true, false, cond}
 use lib.ListN.{length}
-use lib.IntN.{ℤ}
 use lib.Ieee.{Float}
-use Rattle.mesh.specs.Mesh.{halfedgeStride}
+use Rattle.mesh.specs.Mesh.{halfedgeStride, Halfedges}
 use Rattle.mesh.specs.Sound.{Sound}
 use Rattle.smoothing.specs.Lists.{tangentAt}
 use Rattle.distribute_spread.specs.Steps.{Steps}
@@ -21,9 +20,9 @@ use Rattle.distribute_walks.specs.declared.Ended.{Ended}
 
 -- ---- the lists of an accepted call
 
-pub record Lists (H : List ℤ) (P N : List Float) (X : List ℕ) (T C D : List Float) (n p : ℕ) : Type 0 where
+pub record Lists (H : Halfedges) (P N : List Float) (X : List ℕ) (T C D : List Float) (n p : ℕ) : Type 0 where
   pub sound : Sound H n p
-  pub whole : length H ≡ n * halfedgeStride
+  pub whole : H .numbers ≡ n * halfedgeStride
   pub positions : length P ≡ p * 3
   pub normals : length N ≡ p * 3
   pub flags : length X ≡ n
@@ -57,21 +56,21 @@ spreadAt S start st = cond (S .fixed start) (spreadFrom S start st) st
 -- ---- the first walk
 
 -- what it found, with the angles in the scratch lists
-abbrev pub foundOf : (H : List ℤ) (P N : List Float) (X : List ℕ) (n : ℕ) → List Float → List Float → Ended → Found (floatSteps H P N X n)
+abbrev pub foundOf : (H : Halfedges) (P N : List Float) (X : List ℕ) (n : ℕ) → List Float → List Float → Ended → Found (floatSteps H P N X n)
 foundOf H P N X n C D r = record { last = r .last; looked = r .looked; gathered = gatheredOf C D (r .carried) }
 
 -- what it comes to, from a start and with so many steps looked at before
-abbrev pub firstFrom : (H : List ℤ) (P N : List Float) (X : List ℕ) (n : ℕ) → List Float → ℕ → ℕ → Found (floatSteps H P N X n)
+abbrev pub firstFrom : (H : Halfedges) (P N : List Float) (X : List ℕ) (n : ℕ) → List Float → ℕ → ℕ → Found (floatSteps H P N X n)
 firstFrom H P N X n T start looked = firstWalk (floatSteps H P N X n) (suc n) T start start looked (begin H P start (tangentAt T start))
 
 -- halfedge e has a tangent and an edge, and `first` are the directions at the start
-pub record CanLook (H : List ℤ) (P T : List Float) (start e : ℕ) (first : Directions) : Type 0 where
+pub record CanLook (H : Halfedges) (P T : List Float) (start e : ℕ) (first : Directions) : Type 0 where
   pub tangent-in : e * 4 + 4 ≤ length T
   pub edge : EdgeFrom H P start e
   pub first-is : first ≡ directionsAt H P T start start
 
 -- a step onto halfedge e: there is a place for its angles
-pub record CanGather (H : List ℤ) (P T C D : List Float) (start e : ℕ) (first : Directions) (g : Carried) : Type 0 where
+pub record CanGather (H : Halfedges) (P T C D : List Float) (start e : ℕ) (first : Directions) (g : Carried) : Type 0 where
   pub look : CanLook H P T start e first
   pub current-in : g .count < length C
   pub desired-in : g .count < length D
@@ -87,9 +86,9 @@ pub record CanTurn (T C D : List Float) (by : Turning) (i e : ℕ) : Type 0 wher
   pub angle-below : isMark (tangentAt T e .w) ≡ false → i < by .count
 
 -- what the walk from `start` is lent: as many angles as the first walk gathers
-pub record SecondInput (H : List ℤ) (X : List ℕ) (T C D : List Float) (n p start : ℕ) (by : Turning) : Type 0 where
+pub record SecondInput (H : Halfedges) (X : List ℕ) (T C D : List Float) (n p start : ℕ) (by : Turning) : Type 0 where
   pub sound : Sound H n p
-  pub whole : length H ≡ n * halfedgeStride
+  pub whole : H .numbers ≡ n * halfedgeStride
   pub flags : length X ≡ n
   pub tangents : length T ≡ n * 4
   pub current-in : by .count ≤ length C

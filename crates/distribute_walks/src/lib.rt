@@ -7,6 +7,7 @@ ghost use Prim.Native.Nat.{suc, _+_, _≤_, _<_};
 ghost use lib.ListN.{length};
 ghost use lib.Dec.{eqb};
 ghost use lib.Ieee.{Float};
+ghost use Rattle.mesh.specs.Mesh.{asHalfedges};
 ghost use Rattle.smoothing.specs.Lists.{tangentAt, putTangent};
 ghost use Rattle.distribute_spread.specs.Spread.{secondWalk};
 ghost use Rattle.distribute_steps.specs.FloatSteps.{isMark, isFixed, isStart, edgeDirection, gatherEdge, turn, next, floatSteps};
@@ -40,8 +41,8 @@ fn directions_at(
     e: usize,
     first: Directions,
 ) -> Directions
-    requires { ⌜ CanLook (now h) (now pos) (now t) start e first ⌝ }
-    ensures { λ r. ⌜ r ≡ directionsAt (now (h .entry)) (now (pos .entry)) (now (t .entry)) start e ⌝ }
+    requires { ⌜ CanLook (asHalfedges (now h)) (now pos) (now t) start e first ⌝ }
+    ensures { λ r. ⌜ r ≡ directionsAt (asHalfedges (now (h .entry))) (now (pos .entry)) (now (t .entry)) start e ⌝ }
 {
     if e == start {
         return first;
@@ -64,8 +65,8 @@ fn gather_at(
     first: Directions,
     g: Carried,
 ) -> Carried
-    requires { ⌜ CanGather (now h) (now pos) (now t) (now current) (now desired) start e first g ⌝ }
-    ensures { λ r. ⌜ gatheredOf (now (current .exit)) (now (desired .exit)) r ≡ cond (isMark (tangentAt (now (t .entry)) e .w)) (gatheredOf (now (current .entry)) (now (desired .entry)) g) (gatherEdge approx (edgeDirection (now (h .entry)) (now (pos .entry)) start e) (eqb e start) (tangentAt (now (t .entry)) e) (gatheredOf (now (current .entry)) (now (desired .entry)) g)) ⌝ }
+    requires { ⌜ CanGather (asHalfedges (now h)) (now pos) (now t) (now current) (now desired) start e first g ⌝ }
+    ensures { λ r. ⌜ gatheredOf (now (current .exit)) (now (desired .exit)) r ≡ cond (isMark (tangentAt (now (t .entry)) e .w)) (gatheredOf (now (current .entry)) (now (desired .entry)) g) (gatherEdge approx (edgeDirection (asHalfedges (now (h .entry))) (now (pos .entry)) start e) (eqb e start) (tangentAt (now (t .entry)) e) (gatheredOf (now (current .entry)) (now (desired .entry)) g)) ⌝ }
     ensures { λ r. ⌜ r .count ≡ cond (isMark (tangentAt (now (t .entry)) e .w)) (g .count) (g .count + 1) ⌝ }
 {
     if distribute_steps::is_marked(t, e) {
@@ -90,9 +91,9 @@ fn first_walk(
     start: usize,
     counts: Counts,
 ) -> Ended
-    requires { ⌜ Lists (now h) (now pos) (now normals) (now fixed) (now t) (now current) (now desired) n p ⌝ }
+    requires { ⌜ Lists (asHalfedges (now h)) (now pos) (now normals) (now fixed) (now t) (now current) (now desired) n p ⌝ }
     requires { ⌜ (start < n) × (isStart (now fixed) (now t) start ≡ true) × Room n counts ⌝ }
-    ensures { λ r. ⌜ foundOf (now (h .entry)) (now (pos .entry)) (now (normals .entry)) (now (fixed .entry)) n (now (current .exit)) (now (desired .exit)) r ≡ firstFrom (now (h .entry)) (now (pos .entry)) (now (normals .entry)) (now (fixed .entry)) n (now (t .entry)) start (counts .looked) ⌝ }
+    ensures { λ r. ⌜ foundOf (asHalfedges (now (h .entry))) (now (pos .entry)) (now (normals .entry)) (now (fixed .entry)) n (now (current .exit)) (now (desired .exit)) r ≡ firstFrom (asHalfedges (now (h .entry))) (now (pos .entry)) (now (normals .entry)) (now (fixed .entry)) n (now (t .entry)) start (counts .looked) ⌝ }
     ensures { λ r. ⌜ (r .looked ≤ counts .looked + n) × (r .carried .count ≤ n) ⌝ }
 {
     let approx = smoothing::point_at(normals, mesh::start_vert(h, start));
@@ -159,8 +160,8 @@ fn second_walk(
     start: usize,
     by: Turning,
 ) -> usize
-    requires { ⌜ SecondInput (now h) (now fixed) (now t) (now current) (now desired) n p start by ⌝ }
-    ensures { λ r. ⌜ ((P N : List Float) (k : Counts) → Gives (floatSteps (now (h .entry)) P N (now (fixed .entry)) n) (secondWalk (floatSteps (now (h .entry)) P N (now (fixed .entry)) n) (suc n) start start (planOf (now (current .entry)) (now (desired .entry)) by 0)) (now (t .entry)) k (now (t .exit)) (moreTurned k r)) × (r ≤ by .count) ⌝ }
+    requires { ⌜ SecondInput (asHalfedges (now h)) (now fixed) (now t) (now current) (now desired) n p start by ⌝ }
+    ensures { λ r. ⌜ ((P N : List Float) (k : Counts) → Gives (floatSteps (asHalfedges (now (h .entry))) P N (now (fixed .entry)) n) (secondWalk (floatSteps (asHalfedges (now (h .entry))) P N (now (fixed .entry)) n) (suc n) start start (planOf (now (current .entry)) (now (desired .entry)) by 0)) (now (t .entry)) k (now (t .exit)) (moreTurned k r)) × (r ≤ by .count) ⌝ }
 {
     let mut here = start;
     let mut i: usize = 0;
@@ -192,9 +193,9 @@ pub fn spread_at(
     start: usize,
     counts: Counts,
 ) -> Counts
-    requires { ⌜ Lists (now h) (now pos) (now normals) (now fixed) (now t) (now current) (now desired) n p ⌝ }
+    requires { ⌜ Lists (asHalfedges (now h)) (now pos) (now normals) (now fixed) (now t) (now current) (now desired) n p ⌝ }
     requires { ⌜ (start < n) × Room n counts ⌝ }
-    ensures { λ r. ⌜ Gives (floatSteps (now (h .entry)) (now (pos .entry)) (now (normals .entry)) (now (fixed .entry)) n) (spreadAt (floatSteps (now (h .entry)) (now (pos .entry)) (now (normals .entry)) (now (fixed .entry)) n) start) (now (t .entry)) counts (now (t .exit)) r ⌝ }
+    ensures { λ r. ⌜ Gives (floatSteps (asHalfedges (now (h .entry))) (now (pos .entry)) (now (normals .entry)) (now (fixed .entry)) n) (spreadAt (floatSteps (asHalfedges (now (h .entry))) (now (pos .entry)) (now (normals .entry)) (now (fixed .entry)) n) start) (now (t .entry)) counts (now (t .exit)) r ⌝ }
     ensures { λ r. ⌜ (r .looked ≤ counts .looked + n) × (r .turned ≤ counts .turned + n) ⌝ }
 {
     if !distribute_steps::is_start(fixed, t, start) {

@@ -7,7 +7,6 @@ use mathlib.Core.Bool.{Bool, true, false, cond, _&&_}
 use borrow.Author.Tests.{eqb-true, ne-eqb}
 use lib.Dec.{eqb}
 use lib.ListN.{length}
-use lib.IntN.{ℤ}
 use lib.Ieee as Ieee
 use lib.Ieee.{Float, nan, inf, fin, eq, neg}
 use lib.Ieee.Fits.{down-pos}
@@ -15,7 +14,7 @@ use Rattle.float.specs.Ops.{zero, one}
 use Rattle.linalg.specs.declared.Vec3.{Vec3}
 use Rattle.linalg.specs.declared.Vec4.{Vec4}
 use Rattle.linalg.specs.Vec.{neg3}
-use Rattle.mesh.specs.Mesh.{halfedgeStride, isForward}
+use Rattle.mesh.specs.Mesh.{halfedgeStride, isForward, Halfedges}
 use Rattle.mesh.specs.Questions.{hasLength}
 use Rattle.mesh.specs.declared.Checked.the-variants.{Accepted}
 use Rattle.common.proofs.Tests.{and-true}
@@ -46,7 +45,7 @@ end-length : (T : List Float) (e : ℕ) (edge : Vec3) (tangent other : Vec4) →
 unfolding linearizeEnd
 end-length T e edge tangent other = arm length (isFlat tangent) (putTangent T e (linearized edge other)) T (λ q. length-put T e (linearized edge other))
 
-module _ (H : List ℤ) (P : List Float) where
+module _ (H : Halfedges) (P : List Float) where
   pub at-length : (T : List Float) (e : ℕ) → length (linearizeAt H P T e) ≡ length T
   unfolding linearizeAt linearizeEdge
   at-length T e = arm length (isForward H e) _ T (λ q. end-length _ _ _ _ _ ∙ end-length _ _ _ _ _)
@@ -64,7 +63,7 @@ end-kept T e edge tangent other d f =
     arm (λ (S : List Float). tangentAt S d) (isFlat tangent) (putTangent T e (linearized edge other)) T
     (λ flat. tangent-put-other T e (linearized edge other) d (λ q. let unflat = f q in let z : _≡_ {A = ℕ} 0 1 = cc in omega arith))
 
-module _ (H : List ℤ) (P : List Float) (d : ℕ) where
+module _ (H : Halfedges) (P : List Float) (d : ℕ) where
   pub at-kept : (T : List Float) (e : ℕ) → isFlat (tangentAt T d) ≡ false → tangentAt (linearizeAt H P T e) d ≡ tangentAt T d
   unfolding linearizeAt linearizeEdge
   at-kept T e f =
@@ -87,14 +86,14 @@ mark-unflat (fin s m e) q =
     let other : eqb a (0 * Ieee.down e) ≡ false = ne-eqb a (0 * Ieee.down e) (λ z. omega (arith, same, z, down-pos e)) in
     rw other
 
-pub marked-kept : (H : List ℤ) (P : List Float) (d : ℕ) (T : List Float) (n : ℕ) → isMarkedInsideQuad T d ≡ true → tangentAt (linearizeFlatTangents H P T n) d ≡ tangentAt T d
+pub marked-kept : (H : Halfedges) (P : List Float) (d : ℕ) (T : List Float) (n : ℕ) → isMarkedInsideQuad T d ≡ true → tangentAt (linearizeFlatTangents H P T n) d ≡ tangentAt T d
 marked-kept H P d T n q = all-kept H P d T n (rw weight-of (mark-unflat (weightAt T d) q))
 
 -- ---- the lists of an accepted call
 
-pub accepted-lists : (H : List ℤ) (P T : List Float) (n p : ℕ) → linearizeAnswer H P T n p ≡ Accepted → Lists H P T n p
+pub accepted-lists : (H : Halfedges) (P T : List Float) (n p : ℕ) → linearizeAnswer H P T n p ≡ Accepted → Lists H P T n p
 accepted-lists H P T n p e =
     let a = accepted H n p (lengthsFit H P T n p) e in
-    let l = and-true (hasLength (length H) n halfedgeStride && hasLength (length P) p 3) (hasLength (length T) n 4) (a .0) in
-    let m = and-true (hasLength (length H) n halfedgeStride) (hasLength (length P) p 3) (l .0) in
+    let l = and-true (hasLength (H .numbers) n halfedgeStride && hasLength (length P) p 3) (hasLength (length T) n 4) (a .0) in
+    let m = and-true (hasLength (H .numbers) n halfedgeStride) (hasLength (length P) p 3) (l .0) in
     record { sound = a .1; whole = eqb-true _ _ (m .0); positions = eqb-true _ _ (m .1); tangents = eqb-true _ _ (l .1) }

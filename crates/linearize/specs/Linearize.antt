@@ -4,13 +4,12 @@ use mathlib.Core.Path.{_≡_}
 use mathlib.Core.List.{List}
 use mathlib.Core.Bool.{Bool, cond, _&&_}
 use lib.ListN.{length}
-use lib.IntN.{ℤ}
 use lib.Ieee.{Float, eq}
 use Rattle.float.specs.Ops.{zero, one, two, three}
 use Rattle.linalg.specs.declared.Vec3.{Vec3}
 use Rattle.linalg.specs.declared.Vec4.{Vec4}
 use Rattle.linalg.specs.Vec.{add3, neg3, div3}
-use Rattle.mesh.specs.Mesh.{halfedgeStride, pairedHalfedge, isForward}
+use Rattle.mesh.specs.Mesh.{halfedgeStride, pairedHalfedge, isForward, Halfedges}
 use Rattle.mesh.specs.Questions.{hasLength}
 use Rattle.mesh.specs.Check.{checkMesh, whenAccepted}
 use Rattle.common.specs.Fold.{foldTo}
@@ -46,39 +45,39 @@ linearizeEdge T e pair edge tangent other =
 -- ---- all edges
 
 -- the body of the Rust's loop at halfedge e
-unfoldable pub linearizeAt : List ℤ → List Float → List Float → ℕ → List Float
+unfoldable pub linearizeAt : Halfedges → List Float → List Float → ℕ → List Float
 linearizeAt H P T e =
     let pair = pairedHalfedge H e in
     cond (isForward H e) (linearizeEdge T e pair (edgeVec H P e) (tangentAt T e) (tangentAt T pair)) T
 
 -- `linearize_flat_tangents`
-unfoldable pub linearizeFlatTangents : List ℤ → List Float → List Float → ℕ → List Float
+unfoldable pub linearizeFlatTangents : Halfedges → List Float → List Float → ℕ → List Float
 linearizeFlatTangents H P T n = foldTo (linearizeAt H P) T n
 
 -- ---- the call
 
 -- question 2: 3 numbers per halfedge, 3 per point, 4 per tangent
-abbrev pub lengthsFit : List ℤ → List Float → List Float → ℕ → ℕ → Bool
-lengthsFit H P T n p = hasLength (length H) n halfedgeStride && hasLength (length P) p 3 && hasLength (length T) n 4
+abbrev pub lengthsFit : Halfedges → List Float → List Float → ℕ → ℕ → Bool
+lengthsFit H P T n p = hasLength (H .numbers) n halfedgeStride && hasLength (length P) p 3 && hasLength (length T) n 4
 
 -- the answer, for every input
-abbrev pub linearizeAnswer : List ℤ → List Float → List Float → ℕ → ℕ → Checked
+abbrev pub linearizeAnswer : Halfedges → List Float → List Float → ℕ → ℕ → Checked
 linearizeAnswer H P T n p = checkMesh H n p (lengthsFit H P T n p)
 
 -- the tangents after the call, for every input: as lent when it is refused
-abbrev pub tangentsAfter : List ℤ → List Float → List Float → ℕ → ℕ → List Float
+abbrev pub tangentsAfter : Halfedges → List Float → List Float → ℕ → ℕ → List Float
 tangentsAfter H P T n p = whenAccepted (linearizeAnswer H P T n p) (linearizeFlatTangents H P T n) T
 
 -- ---- what the inner functions ask of their lists
 
 -- at halfedge e: both ends have a position and a tangent
-pub record HalfedgeIn (H : List ℤ) (P T : List Float) (e : ℕ) : Type 0 where
+pub record HalfedgeIn (H : Halfedges) (P T : List Float) (e : ℕ) : Type 0 where
   pub edge : EdgeIn H P e
   pub tangents : QuadIn H T e
 
 -- the lists of an accepted call
-pub record Lists (H : List ℤ) (P T : List Float) (n p : ℕ) : Type 0 where
+pub record Lists (H : Halfedges) (P T : List Float) (n p : ℕ) : Type 0 where
   pub sound : Sound H n p
-  pub whole : length H ≡ n * halfedgeStride
+  pub whole : H .numbers ≡ n * halfedgeStride
   pub positions : length P ≡ p * 3
   pub tangents : length T ≡ n * 4

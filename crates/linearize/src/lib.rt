@@ -3,6 +3,7 @@
 ghost use mathlib.Core.Path.{_≡_};
 ghost use Prim.Native.Nat.{_+_, _*_, _≤_};
 ghost use lib.ListN.{length};
+ghost use Rattle.mesh.specs.Mesh.{asHalfedges};
 ghost use Rattle.mesh.specs.Check.{Values};
 ghost use Rattle.linearize.specs.Linearize.{isFlat, withUnitWeight, linearized, linearizeEnd, linearizeEdge, linearizeAt, linearizeFlatTangents, lengthsFit, linearizeAnswer, tangentsAfter, HalfedgeIn, Lists};
 use linalg::Vec3;
@@ -65,8 +66,8 @@ fn linearize_edge(t: &mut [f64], e: usize, pair: usize, edge: Vec3, tangent: Vec
 
 // The body of the loop at halfedge e. The edge is worked out only where an end is flat.
 fn linearize_at(h: &[i32], pos: &[f64], t: &mut [f64], e: usize)
-    requires { ⌜ HalfedgeIn (now h) (now pos) (now t) e ⌝ }
-    ensures { λ _. ⌜ now (t .exit) ≡ linearizeAt (now (h .entry)) (now (pos .entry)) (now (t .entry)) e ⌝ }
+    requires { ⌜ HalfedgeIn (asHalfedges (now h)) (now pos) (now t) e ⌝ }
+    ensures { λ _. ⌜ now (t .exit) ≡ linearizeAt (asHalfedges (now (h .entry))) (now (pos .entry)) (now (t .entry)) e ⌝ }
 {
     if !mesh::is_forward(h, e) {
         return;
@@ -88,8 +89,8 @@ fn linearize_at(h: &[i32], pos: &[f64], t: &mut [f64], e: usize)
 
 // Every halfedge of lists that are known to be right.
 pub fn linearize_all(n: usize, p: usize, h: &[i32], pos: &[f64], t: &mut [f64])
-    requires { ⌜ Lists (now h) (now pos) (now t) n p ⌝ }
-    ensures { λ _. ⌜ now (t .exit) ≡ linearizeFlatTangents (now (h .entry)) (now (pos .entry)) (now (t .entry)) n ⌝ }
+    requires { ⌜ Lists (asHalfedges (now h)) (now pos) (now t) n p ⌝ }
+    ensures { λ _. ⌜ now (t .exit) ≡ linearizeFlatTangents (asHalfedges (now (h .entry))) (now (pos .entry)) (now (t .entry)) n ⌝ }
 {
     for e in 0..n {
         linearize_at(h, pos, t, e);
@@ -97,7 +98,7 @@ pub fn linearize_all(n: usize, p: usize, h: &[i32], pos: &[f64], t: &mut [f64])
 }
 
 fn lengths_fit(n: usize, p: usize, h: &[i32], pos: &[f64], t: &[f64]) -> bool
-    ensures { λ r. ⌜ r ≡ lengthsFit (now (h .entry)) (now (pos .entry)) (now (t .entry)) n p ⌝ }
+    ensures { λ r. ⌜ r ≡ lengthsFit (asHalfedges (now (h .entry))) (now (pos .entry)) (now (t .entry)) n p ⌝ }
 {
     common::both(
         common::both(
@@ -110,9 +111,9 @@ fn lengths_fit(n: usize, p: usize, h: &[i32], pos: &[f64], t: &[f64]) -> bool
 
 // The public call, for lists of any length and content.
 pub fn linearize_flat_tangents(n: usize, p: usize, h: &[i32], pos: &[f64], t: &mut [f64]) -> Checked
-    ensures answer { λ r. ⌜ r ≡ linearizeAnswer (now (h .entry)) (now (pos .entry)) (now (t .entry)) n p ⌝ }
-    ensures tangents { λ r. ⌜ now (t .exit) ≡ tangentsAfter (now (h .entry)) (now (pos .entry)) (now (t .entry)) n p ⌝ }
-    ensures values { λ r. ⌜ Values (linearizeAnswer (now (h .entry)) (now (pos .entry)) (now (t .entry)) n p) r ⌝ }
+    ensures answer { λ r. ⌜ r ≡ linearizeAnswer (asHalfedges (now (h .entry))) (now (pos .entry)) (now (t .entry)) n p ⌝ }
+    ensures tangents { λ r. ⌜ now (t .exit) ≡ tangentsAfter (asHalfedges (now (h .entry))) (now (pos .entry)) (now (t .entry)) n p ⌝ }
+    ensures values { λ r. ⌜ Values (linearizeAnswer (asHalfedges (now (h .entry))) (now (pos .entry)) (now (t .entry)) n p) r ⌝ }
 {
     let checked = mesh::check_mesh(h, n, p, lengths_fit(n, p, h, pos, t));
     let Checked::Accepted = checked else {

@@ -3,12 +3,10 @@ use Prim.Native.Nat.{ℕ, zero, suc, _+_, _*_, _%_, _/_, _≤_, _<_}
 use native.Mathlib.Omega.{arith}
 use mathlib.Core.Path.{_≡_, refl, sym, subst, _∙_}
 use mathlib.Core.Bool.{true, _&&_}
-use mathlib.Core.List.{List}
 use mathlib.Core.Logic.{_⊎_, inl, inr, ⊎-elim}
 use borrow.Author.Tests.{ltb-true, leb-true, eqb-true, eqb-false, not-true}
 use lib.Dec.{ltb, eqb}
-use lib.IntN.{ℤ}
-use Rattle.mesh.specs.Mesh.{maxHalfedges, maxPoints, startVert, endVert, pairedHalfedge, nextHalfedge}
+use Rattle.mesh.specs.Mesh.{maxHalfedges, maxPoints, startVert, endVert, pairedHalfedge, nextHalfedge, Halfedges}
 use Rattle.mesh.specs.Lowest.{lowest}
 use Rattle.mesh.specs.All.{halfedgeHolds, triangleHolds, trianglesHold}
 use Rattle.mesh.specs.Sound.{Sound}
@@ -16,7 +14,7 @@ use Rattle.common.proofs.Tests.{and-true}
 use Rattle.mesh.proofs.Halfedges.{next-cases}
 use Rattle.mesh.proofs.Lowest.{lowest-before}
 
-module _ (H : List ℤ) (n p : ℕ) where
+module _ (H : Halfedges) (n p : ℕ) where
   -- what is sound at halfedge e
   record Holds (e : ℕ) : Type 0 where
     start-below : startVert H e < p

@@ -2,10 +2,9 @@
 use Prim.Native.Nat.{ℕ, _+_, _*_, _-_, _%_}
 use mathlib.Core.List.{List}
 use mathlib.Core.Bool.{Bool, false, cond, _&&_}
-use lib.ListN.{getD}
+use lib.ListN.{length, getD}
 use lib.IntN.{ℤ, pos, negsuc}
-use lib.Signed.{ltZ}
-use lib.Dec.{eqb}
+use lib.Dec.{eqb, ltb}
 
 -- the limits of question 1
 abbrev pub maxHalfedges : ℕ
@@ -30,23 +29,33 @@ unfoldable pub indexOf : ℤ → ℕ
 indexOf (pos n) = n
 indexOf (negsuc n) = 4294967296
 
--- number k of halfedge e, as an index
+-- number k of halfedge e of a list, as an index
 unfoldable pub field : List ℤ → ℕ → ℕ → ℕ
-field H e k = indexOf (numberAt H e halfedgeStride k)
+field list e k = indexOf (numberAt list e halfedgeStride k)
+
+-- The halfedges of a list as the calls read them: how many numbers the list has, and start, end and pair of halfedge e. Letter H in all definitions.
+pub record Halfedges : Type 0 where
+  pub numbers : ℕ
+  pub start : ℕ → ℕ
+  pub end : ℕ → ℕ
+  pub pair : ℕ → ℕ
+
+unfoldable pub asHalfedges : List ℤ → Halfedges
+asHalfedges list = record { numbers = length list; start = λ e. field list e 0; end = λ e. field list e 1; pair = λ e. field list e 2 }
 
 -- `start_vert`, `end_vert` and `paired_halfedge` of halfedge e
-abbrev pub startVert : List ℤ → ℕ → ℕ
-startVert H e = field H e 0
+abbrev pub startVert : Halfedges → ℕ → ℕ
+startVert H e = H .start e
 
-abbrev pub endVert : List ℤ → ℕ → ℕ
-endVert H e = field H e 1
+abbrev pub endVert : Halfedges → ℕ → ℕ
+endVert H e = H .end e
 
-abbrev pub pairedHalfedge : List ℤ → ℕ → ℕ
-pairedHalfedge H e = field H e 2
+abbrev pub pairedHalfedge : Halfedges → ℕ → ℕ
+pairedHalfedge H e = H .pair e
 
--- `is_forward`: `start_vert < end_vert`, of the two i32 with their sign
-abbrev pub isForward : List ℤ → ℕ → Bool
-isForward H e = ltZ (numberAt H e halfedgeStride 0) (numberAt H e halfedgeStride 1)
+-- `is_forward`: `start_vert < end_vert`. On an accepted mesh none is negative (question 3), so that the numbers stand in the order of the indices.
+abbrev pub isForward : Halfedges → ℕ → Bool
+isForward H e = ltb (startVert H e) (endVert H e)
 
 -- `next_halfedge` and `prev_halfedge`, within the triangle
 unfoldable pub nextHalfedge : ℕ → ℕ

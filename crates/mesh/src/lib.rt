@@ -12,7 +12,7 @@ ghost use mathlib.Core.List.{[]};
 ghost use mathlib.Core.Bool.{_&&_};
 ghost use Prim.Native.Nat.{_+_, _*_, _%_, _<_, _≤_, _^_};
 ghost use lib.ListN.{length};
-ghost use Rattle.mesh.specs.Mesh.{maxHalfedges, maxPoints, halfedgeStride, numberAt, field, startVert, endVert, pairedHalfedge, isForward, nextHalfedge, prevHalfedge, eqZ, refAt, sameFace};
+ghost use Rattle.mesh.specs.Mesh.{maxHalfedges, maxPoints, halfedgeStride, numberAt, field, startVert, endVert, pairedHalfedge, isForward, nextHalfedge, prevHalfedge, eqZ, refAt, sameFace, asHalfedges};
 ghost use Rattle.mesh.specs.Inside.{noIndex, Inside};
 ghost use Rattle.mesh.specs.Scalar.{radiansOf};
 ghost use Rattle.mesh.specs.Questions.{hasLength, signClear, testAt};
@@ -81,29 +81,29 @@ fn known_field(h: &[i32], e: usize, k: usize) -> usize
 }
 
 pub fn start_vert(h: &[i32], e: usize) -> usize
-    requires { ⌜ Inside (now h) e ⌝ }
-    ensures { λ r. ⌜ r ≡ startVert (now (h .entry)) e ⌝ }
+    requires { ⌜ Inside (asHalfedges (now h)) e ⌝ }
+    ensures { λ r. ⌜ r ≡ startVert (asHalfedges (now (h .entry))) e ⌝ }
 {
     known_field(h, e, 0)
 }
 
 pub fn end_vert(h: &[i32], e: usize) -> usize
-    requires { ⌜ Inside (now h) e ⌝ }
-    ensures { λ r. ⌜ r ≡ endVert (now (h .entry)) e ⌝ }
+    requires { ⌜ Inside (asHalfedges (now h)) e ⌝ }
+    ensures { λ r. ⌜ r ≡ endVert (asHalfedges (now (h .entry))) e ⌝ }
 {
     known_field(h, e, 1)
 }
 
 pub fn paired_halfedge(h: &[i32], e: usize) -> usize
-    requires { ⌜ Inside (now h) e ⌝ }
-    ensures { λ r. ⌜ r ≡ pairedHalfedge (now (h .entry)) e ⌝ }
+    requires { ⌜ Inside (asHalfedges (now h)) e ⌝ }
+    ensures { λ r. ⌜ r ≡ pairedHalfedge (asHalfedges (now (h .entry))) e ⌝ }
 {
     known_field(h, e, 2)
 }
 
 pub fn is_forward(h: &[i32], e: usize) -> bool
-    requires { ⌜ Inside (now h) e ⌝ }
-    ensures { λ r. ⌜ r ≡ isForward (now (h .entry)) e ⌝ }
+    requires { ⌜ Inside (asHalfedges (now h)) e ⌝ }
+    ensures { λ r. ⌜ r ≡ isForward (asHalfedges (now (h .entry))) e ⌝ }
 {
     let at = e * HALFEDGE_STRIDE;
     h[at] < h[at + 1]
@@ -236,7 +236,7 @@ fn ask_numbers(
 // Are the questions 3 to 7 answered yes at every halfedge? One pass, a triangle at a time, which an accepted mesh does not leave early.
 fn all_hold(h: &[i32], n: usize, p: usize) -> bool
     requires { ⌜ (n % 3 ≡ 0) × (n ≤ maxHalfedges) × (p ≤ maxPoints) ⌝ }
-    ensures { λ r. ⌜ r ≡ hasLength (length (now (h .entry))) n halfedgeStride && trianglesHold (now (h .entry)) n p ⌝ }
+    ensures { λ r. ⌜ r ≡ hasLength (length (now (h .entry))) n halfedgeStride && trianglesHold (asHalfedges (now (h .entry))) n p ⌝ }
 {
     if !has_length(h.len(), n, HALFEDGE_STRIDE) {
         return false;
@@ -253,7 +253,7 @@ fn all_hold(h: &[i32], n: usize, p: usize) -> bool
 
 // The questions 3 to 7, one after the other.
 fn ask_each(h: &[i32], n: usize, p: usize) -> Checked
-    ensures { λ r. ⌜ r ≡ askEach (now (h .entry)) n p ⌝ }
+    ensures { λ r. ⌜ r ≡ askEach (asHalfedges (now (h .entry))) n p ⌝ }
 {
     let points = ask_numbers(Checked::Accepted, 3, Question::Points, h, n, p, n);
     let pair = ask_numbers(points, 4, Question::Pair, h, n, p, n);
@@ -264,7 +264,7 @@ fn ask_each(h: &[i32], n: usize, p: usize) -> Checked
 
 // The questions 1 to 7. `lengths` is the answer to question 2, which the caller finds of its own lists by `has_length`.
 pub fn check_mesh(h: &[i32], n: usize, p: usize, lengths: bool) -> Checked
-    ensures { λ r. ⌜ r ≡ checkMesh (now (h .entry)) n p lengths ⌝ }
+    ensures { λ r. ⌜ r ≡ checkMesh (asHalfedges (now (h .entry))) n p lengths ⌝ }
 {
     if !counts_fit(n, p) {
         return Checked::Refused {

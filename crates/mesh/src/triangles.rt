@@ -7,7 +7,7 @@ ghost use Prim.Native.Nat.{_+_, _*_, _<_, _≤_, _^_};
 ghost use mathlib.Core.Bool.{_&&_};
 ghost use lib.Dec.{ltb};
 ghost use lib.ListN.{length};
-ghost use Rattle.mesh.specs.Mesh.{maxHalfedges, maxPoints, halfedgeStride, numberAt, indexOf};
+ghost use Rattle.mesh.specs.Mesh.{maxHalfedges, maxPoints, halfedgeStride, numberAt, indexOf, asHalfedges};
 ghost use Rattle.mesh.specs.Inside.{noIndex};
 ghost use Rattle.mesh.specs.All.{halfedgeHolds, triangleHolds};
 
@@ -48,7 +48,7 @@ fn are_points(a: i32, b: i32, c: i32, p: usize) -> bool
 // its own turn: there e is the pair, and starts where it ends.
 fn halfedge_holds(h: &[i32], n: usize, e: usize, a: i32, b: i32) -> bool
     requires { ⌜ (length (now h) ≡ n * halfedgeStride) × (n ≤ maxHalfedges) × (e < n) × (indexOf b < noIndex) ⌝ }
-    ensures { λ r. ⌜ r ≡ halfedgeHolds (now (h .entry)) n e (indexOf a) (indexOf b) ⌝ }
+    ensures { λ r. ⌜ r ≡ halfedgeHolds (asHalfedges (now (h .entry))) n e (indexOf a) (indexOf b) ⌝ }
 {
     if number_in(h, e, 1) != b {
         return false;
@@ -70,7 +70,7 @@ fn halfedge_holds(h: &[i32], n: usize, e: usize, a: i32, b: i32) -> bool
 // The questions 3 to 7 at the halfedges e, e + 1 and e + 2 of a triangle. That an end is a point follows from the next one's start.
 pub fn triangle_holds(h: &[i32], n: usize, p: usize, e: usize) -> bool
     requires { ⌜ (length (now h) ≡ n * halfedgeStride) × (n ≤ maxHalfedges) × (p ≤ maxPoints) × (e + 2 < n) ⌝ }
-    ensures { λ r. ⌜ r ≡ triangleHolds (now (h .entry)) n p e ⌝ }
+    ensures { λ r. ⌜ r ≡ triangleHolds (asHalfedges (now (h .entry))) n p e ⌝ }
 {
     let a = number_in(h, e, 0);
     let b = number_in(h, e + 1, 0);

@@ -7,6 +7,7 @@ use lib.ListN.{replicate}
 use lib.IntN.{ℤ}
 use lib.Ieee.{Float}
 use Rattle.float.specs.Ops.{zero}
+use Rattle.mesh.specs.Mesh.{Halfedges}
 use Rattle.mesh.specs.Sound.{Sound}
 use Rattle.smoothing.specs.Edges.{isInsideQuad}
 use Rattle.create_shared.specs.Makings.{Tangents, tangentsOf}
@@ -19,7 +20,7 @@ use Rattle.normals_core.specs.Flags.{insideQuads}
 use Rattle.normals_core.proofs.Flags.{inside-is}
 
 -- the tangents T and the fixed flags X that the loop over the points leaves, with the flags Q
-pub made : {H : List ℤ} {n j : ℕ} → Sound H n j → (R : List ℤ) (P N A G O : List Float) (old : Bool) (p : ℕ) (T T₀ : List Float) (X X₀ Q : List ℕ) (k : ℕ)
+pub made : {H : Halfedges} {n j : ℕ} → Sound H n j → (R : List ℤ) (P N A G O : List Float) (old : Bool) (p : ℕ) (T T₀ : List Float) (X X₀ Q : List ℕ) (k : ℕ)
     → tangentsOf T X ≡ normalsVerts H P N A G (isInside Q) n k (tangentsOf T₀ X₀) → Q ≡ insideQuads H R O old n → T₀ ≡ replicate (n * 4) zero → X₀ ≡ replicate n 0 → k ≡ p
     → tangentsOf T X ≡ normalTangents H P N A R G O old n p
 unfolding normalTangents
@@ -27,7 +28,7 @@ made {H} {n} s R P N A G O old p T T₀ X X₀ Q k e q t x d =
     e ∙ verts-inside s P N A G (isInside Q) (isInsideQuad H R O old) (λ i h. rw q (inside-is H R O old n i h)) k (tangentsOf T₀ X₀) ∙ rw (t, x, d)
 
 -- the tangents U, where T and X are the tangents and the fixed flags before spreading
-pub created : (H R : List ℤ) (P N A G O : List Float) (old : Bool) (n p : ℕ) (T : List Float) (X : List ℕ) (U : List Float) (k : ℕ)
+pub created : (H : Halfedges) (R : List ℤ) (P N A G O : List Float) (old : Bool) (n p : ℕ) (T : List Float) (X : List ℕ) (U : List Float) (k : ℕ)
     → tangentsOf T X ≡ normalTangents H P N A R G O old n k → k ≡ p → U ≡ spreadTangents H P N X T n .tangents
     → U ≡ createTangentsFromNormals H P N A R G O old n p
 unfolding createTangentsFromNormals

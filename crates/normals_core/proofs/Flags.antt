@@ -11,7 +11,7 @@ use lib.Dec.{eqb}
 use lib.IntN.{ℤ}
 use lib.Ieee.{Float}
 use Rattle.common.specs.Fold.{foldTo}
-use Rattle.mesh.specs.Mesh.{pairedHalfedge}
+use Rattle.mesh.specs.Mesh.{pairedHalfedge, Halfedges}
 use Rattle.mesh.specs.Sound.{Sound}
 use Rattle.smoothing.specs.Edges.{isInsideQuad}
 use Rattle.smoothing.proofs.Pairs.{inside-pair}
@@ -31,12 +31,12 @@ is-flag : (b : Bool) → eqb (cond b 1 0) 1 ≡ b
 is-flag true = refl
 is-flag false = refl
 
-pub inside-is : (H R : List ℤ) (O : List Float) (old : Bool) (n e : ℕ) → e < n → isInside (insideQuads H R O old n) e ≡ isInsideQuad H R O old e
+pub inside-is : (H : Halfedges) (R : List ℤ) (O : List Float) (old : Bool) (n e : ℕ) → e < n → isInside (insideQuads H R O old n) e ≡ isInsideQuad H R O old e
 unfolding insideQuads insideQuadAt quadFlag
 inside-is H R O old n e h =
     rw (each-at (flag-places n) (quadFlag H R O old) (replicate n 0) (length-replicate n 0) n (le-refl n) e h) (is-flag (isInsideQuad H R O old e))
 
-module _ {H : List ℤ} {n p : ℕ} (s : Sound H n p) (R : List ℤ) (O : List Float) where
+module _ {H : Halfedges} {n p : ℕ} (s : Sound H n p) (R : List ℤ) (O : List Float) where
   -- both halfedges of an edge have the same flag
   pub flag-pair : (e : ℕ) → e < n → quadFlag H R O false (pairedHalfedge H e) ≡ quadFlag H R O false e
   unfolding quadFlag

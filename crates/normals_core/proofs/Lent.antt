@@ -4,8 +4,8 @@ use native.Mathlib.Omega.{arith}
 use mathlib.Core.Path.{_≡_, sym, _∙_, subst}
 use mathlib.Core.List.{List}
 use lib.ListN.{length, getD}
-use lib.IntN.{ℤ}
 use lib.Ieee.{Float}
+use Rattle.mesh.specs.Mesh.{Halfedges}
 use Rattle.mesh.specs.Sound.{Sound}
 use Rattle.mesh.specs.Inside.{Inside}
 use Rattle.mesh.proofs.Accepted.{inside}
@@ -19,21 +19,21 @@ use Rattle.normals_core.specs.Core.{TangentLists, Lists}
 use Rattle.normals_core.specs.Flags.{InsideIn, FlagIn}
 
 -- at a halfedge of the loop
-pub quad-at : {H : List ℤ} {T : List Float} {Q : List ℕ} {e : ℕ} → FlagIn H T Q e → InsideQuadIn H T e
+pub quad-at : {H : Halfedges} {T : List Float} {Q : List ℕ} {e : ℕ} → FlagIn H T Q e → InsideQuadIn H T e
 quad-at {e = e} w = inside-quad-in _ _ _ _ (w .lists .sound) (w .lists .whole) (w .lists .tangents) e (w .below)
 
-pub edge-at : {H : List ℤ} {T : List Float} {Q : List ℕ} {e : ℕ} → FlagIn H T Q e → Inside H e
+pub edge-at : {H : Halfedges} {T : List Float} {Q : List ℕ} {e : ℕ} → FlagIn H T Q e → Inside H e
 edge-at {e = e} w = inside (w .lists .sound) (w .lists .whole) e (w .below)
 
 -- in a list as long
-pub flag-in : {H : List ℤ} {T : List Float} {Q Q′ : List ℕ} {n e : ℕ} → InsideIn H T Q n → length Q′ ≡ length Q → e < n → FlagIn H T Q′ e
+pub flag-in : {H : Halfedges} {T : List Float} {Q Q′ : List ℕ} {n e : ℕ} → InsideIn H T Q n → length Q′ ≡ length Q → e < n → FlagIn H T Q′ e
 flag-in {n = n} w q h = record {
   halfedges = n;
   lists = record { points = w .points; sound = w .sound; whole = w .whole; tangents = w .tangents; inside = q ∙ w .inside };
   below = h;
 }
 
-module _ {H : List ℤ} {P N A G T : List Float} {X Q F : List ℕ} {n : ℕ} (w : TangentLists H P N A G T X Q F n) where
+module _ {H : Halfedges} {P N A G T : List Float} {X Q F : List ℕ} {n : ℕ} (w : TangentLists H P N A G T X Q F n) where
   pub inside-in : InsideIn H T Q n
   inside-in = record { points = length F; sound = w .sound; whole = w .whole; tangents = w .tangents; inside = w .inside }
 
@@ -55,7 +55,7 @@ module _ {H : List ℤ} {P N A G T : List Float} {X Q F : List ℕ} {n : ℕ} (w
   }
 
 -- with the tangents T′, the fixed flags X′ and the list C′ that stand there then
-pub spread-in : {H : List ℤ} {P N A G T : List Float} {X Q : List ℕ} {C D : List Float} {F : List ℕ} {n p : ℕ} → Lists H P N A G T X Q C D F n p
+pub spread-in : {H : Halfedges} {P N A G T : List Float} {X Q : List ℕ} {C D : List Float} {F : List ℕ} {n p : ℕ} → Lists H P N A G T X Q C D F n p
     → {T′ C′ : List Float} {X′ : List ℕ} → length T′ ≡ length T → length X′ ≡ length X → length C′ ≡ length C → SpreadLists H P N X′ T′ C′ D n p
 spread-in {H} {n = n} w t x c = record {
   sound = subst (Sound H n) (w .points) (w .lists .sound);

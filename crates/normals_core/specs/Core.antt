@@ -7,7 +7,7 @@ use lib.ListN.{length, replicate}
 use lib.IntN.{ℤ}
 use lib.Ieee.{Float}
 use Rattle.float.specs.Ops.{zero}
-use Rattle.mesh.specs.Mesh.{halfedgeStride}
+use Rattle.mesh.specs.Mesh.{halfedgeStride, Halfedges}
 use Rattle.mesh.specs.Sound.{Sound}
 use Rattle.smoothing.specs.Edges.{isInsideQuad}
 use Rattle.create_shared.specs.Makings.{Tangents, tangentsOf}
@@ -17,9 +17,9 @@ use Rattle.distribute.specs.Distribute.{spreadTangents}
 -- ---- what the lists must be for a call: T are the tangents, X, B, C, D and W the scratch lists `fixed`, `inside`, `current`, `desired` and `first`
 
 -- W has a place for each point
-pub record TangentLists (H : List ℤ) (P N A G T : List Float) (X B W : List ℕ) (n : ℕ) : Type 0 where
+pub record TangentLists (H : Halfedges) (P N A G T : List Float) (X B W : List ℕ) (n : ℕ) : Type 0 where
   pub sound : Sound H n (length W)
-  pub whole : length H ≡ n * halfedgeStride
+  pub whole : H .numbers ≡ n * halfedgeStride
   pub positions : length P ≡ length W * 3
   pub normals : length N ≡ length W * 3
   pub face-normals : length A ≡ n
@@ -29,7 +29,7 @@ pub record TangentLists (H : List ℤ) (P N A G T : List Float) (X B W : List �
   pub inside : length B ≡ n
 
 -- the lists of an accepted call
-pub record Lists (H : List ℤ) (P N A G T : List Float) (X B : List ℕ) (C D : List Float) (W : List ℕ) (n p : ℕ) : Type 0 where
+pub record Lists (H : Halfedges) (P N A G T : List Float) (X B : List ℕ) (C D : List Float) (W : List ℕ) (n p : ℕ) : Type 0 where
   pub lists : TangentLists H P N A G T X B W n
   pub points : length W ≡ p
   pub current : length C ≡ n
@@ -38,12 +38,12 @@ pub record Lists (H : List ℤ) (P N A G T : List Float) (X B : List ℕ) (C D :
 -- ---- the tangents
 
 -- Before spreading, of n halfedges and p points. Each tangent is 0 and no halfedge fixed to begin with; the tangents of a further vertex cycle of a point stay so.
-unfoldable pub normalTangents : List ℤ → List Float → List Float → List Float → List ℤ → List Float → List Float → Bool → ℕ → ℕ → Tangents
+unfoldable pub normalTangents : Halfedges → List Float → List Float → List Float → List ℤ → List Float → List Float → Bool → ℕ → ℕ → Tangents
 normalTangents H P N A R G T old n p =
     normalsVerts H P N A G (isInsideQuad H R T old) n p (tangentsOf (replicate (n * 4) zero) (replicate n 0))
 
 -- `create_tangents_from_normals`
-unfoldable pub createTangentsFromNormals : List ℤ → List Float → List Float → List Float → List ℤ → List Float → List Float → Bool → ℕ → ℕ → List Float
+unfoldable pub createTangentsFromNormals : Halfedges → List Float → List Float → List Float → List ℤ → List Float → List Float → Bool → ℕ → ℕ → List Float
 createTangentsFromNormals H P N A R G T old n p =
     let m = normalTangents H P N A R G T old n p in
     spreadTangents H P N (m .fixed) (m .tangents) n .tangents

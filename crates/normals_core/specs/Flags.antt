@@ -7,36 +7,36 @@ use lib.ListN.{length, set, replicate}
 use lib.IntN.{ℤ}
 use lib.Ieee.{Float}
 use Rattle.common.specs.Fold.{foldTo}
-use Rattle.mesh.specs.Mesh.{halfedgeStride}
+use Rattle.mesh.specs.Mesh.{halfedgeStride, Halfedges}
 use Rattle.mesh.specs.Sound.{Sound}
 use Rattle.smoothing.specs.Edges.{isInsideQuad}
 use Rattle.smoothing.specs.Inner.{putEdge}
 
 -- what the lists must be for a call: a tangent and a flag for each halfedge
-pub record InsideIn (H : List ℤ) (T : List Float) (B : List ℕ) (n : ℕ) : Type 0 where
+pub record InsideIn (H : Halfedges) (T : List Float) (B : List ℕ) (n : ℕ) : Type 0 where
   pub points : ℕ
   pub sound : Sound H n points
-  pub whole : length H ≡ n * halfedgeStride
+  pub whole : H .numbers ≡ n * halfedgeStride
   pub tangents : length T ≡ n * 4
   pub inside : length B ≡ n
 
 -- at halfedge e
-pub record FlagIn (H : List ℤ) (T : List Float) (B : List ℕ) (e : ℕ) : Type 0 where
+pub record FlagIn (H : Halfedges) (T : List Float) (B : List ℕ) (e : ℕ) : Type 0 where
   pub halfedges : ℕ
   pub lists : InsideIn H T B halfedges
   pub below : e < halfedges
 
 -- the flag of halfedge e: 1 if it is inside a quad, else 0
-unfoldable pub quadFlag : List ℤ → List ℤ → List Float → Bool → ℕ → ℕ
+unfoldable pub quadFlag : Halfedges → List ℤ → List Float → Bool → ℕ → ℕ
 quadFlag H R T old e = cond (isInsideQuad H R T old e) 1 0
 
-unfoldable pub insideQuadAt : List ℤ → List ℤ → List Float → Bool → List ℕ → ℕ → List ℕ
+unfoldable pub insideQuadAt : Halfedges → List ℤ → List Float → Bool → List ℕ → ℕ → List ℕ
 insideQuadAt H R T old B e = set B e (quadFlag H R T old e)
 
 -- the flags of all halfedges
-unfoldable pub insideQuads : List ℤ → List ℤ → List Float → Bool → ℕ → List ℕ
+unfoldable pub insideQuads : Halfedges → List ℤ → List Float → Bool → ℕ → List ℕ
 insideQuads H R T old n = foldTo (insideQuadAt H R T old) (replicate n 0) n
 
 -- the body of the code's loop: without old tangents it writes the flags edge by edge
-unfoldable pub insideQuadStep : List ℤ → List ℤ → List Float → Bool → List ℕ → ℕ → List ℕ
+unfoldable pub insideQuadStep : Halfedges → List ℤ → List Float → Bool → List ℕ → ℕ → List ℕ
 insideQuadStep H R T old B e = cond old (insideQuadAt H R T true B e) (putEdge set H (quadFlag H R T false) B e)

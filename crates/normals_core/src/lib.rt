@@ -3,6 +3,7 @@ ghost use mathlib.Core.Path.{_≡_};
 ghost use mathlib.Core.Bool.{false};
 ghost use lib.ListN.{length, set, replicate};
 ghost use Rattle.float.specs.Ops.{zero};
+ghost use Rattle.mesh.specs.Mesh.{asHalfedges};
 ghost use Rattle.smoothing.specs.Edges.{InsideQuadIn};
 ghost use Rattle.smoothing.specs.Inner.{putEdge};
 ghost use Rattle.create_shared.specs.Makings.{tangentsOf};
@@ -14,8 +15,8 @@ ghost use Rattle.normals_core.specs.Flags.{InsideIn, FlagIn, quadFlag, i
 
 // The flag of halfedge e: 1 if it is inside a quad.
 fn quad_flag(h: &[i32], refs: &[i32], t: &[f64], old: bool, e: usize) -> u8
-    requires { ⌜ InsideQuadIn (now h) (now t) e ⌝ }
-    ensures { λ r. ⌜ r ≡ quadFlag (now (h .entry)) (now (refs .entry)) (now (t .entry)) old e ⌝ }
+    requires { ⌜ InsideQuadIn (asHalfedges (now h)) (now t) e ⌝ }
+    ensures { λ r. ⌜ r ≡ quadFlag (asHalfedges (now (h .entry))) (now (refs .entry)) (now (t .entry)) old e ⌝ }
 {
     if smoothing::is_inside_quad(h, refs, t, old, e) {
         return 1;
@@ -26,8 +27,8 @@ fn quad_flag(h: &[i32], refs: &[i32], t: &[f64], old: bool, e: usize) -> u8
 // Writes the flags of both halfedges of an edge at its forward one, e, where there are no old tangents: both are inside a quad
 // or neither is.
 fn put_edge_flags(h: &[i32], refs: &[i32], t: &[f64], inside: &mut [u8], e: usize)
-    requires { ⌜ FlagIn (now h) (now t) (now inside) e ⌝ }
-    ensures { λ _. ⌜ now (inside .exit) ≡ putEdge set (now (h .entry)) (quadFlag (now (h .entry)) (now (refs .entry)) (now (t .entry)) false) (now (inside .entry)) e ⌝ }
+    requires { ⌜ FlagIn (asHalfedges (now h)) (now t) (now inside) e ⌝ }
+    ensures { λ _. ⌜ now (inside .exit) ≡ putEdge set (asHalfedges (now (h .entry))) (quadFlag (asHalfedges (now (h .entry))) (now (refs .entry)) (now (t .entry)) false) (now (inside .entry)) e ⌝ }
 {
     if !mesh::is_forward(h, e) {
         return;
@@ -40,8 +41,8 @@ fn put_edge_flags(h: &[i32], refs: &[i32], t: &[f64], inside: &mut [u8], e: usiz
 
 // The body of the loop over the halfedges.
 fn inside_quad_step(h: &[i32], refs: &[i32], t: &[f64], old: bool, inside: &mut [u8], e: usize)
-    requires { ⌜ FlagIn (now h) (now t) (now inside) e ⌝ }
-    ensures { λ _. ⌜ now (inside .exit) ≡ insideQuadStep (now (h .entry)) (now (refs .entry)) (now (t .entry)) old (now (inside .entry)) e ⌝ }
+    requires { ⌜ FlagIn (asHalfedges (now h)) (now t) (now inside) e ⌝ }
+    ensures { λ _. ⌜ now (inside .exit) ≡ insideQuadStep (asHalfedges (now (h .entry))) (now (refs .entry)) (now (t .entry)) old (now (inside .entry)) e ⌝ }
 {
     if old {
         inside[e] = quad_flag(h, refs, t, true, e);
@@ -52,8 +53,8 @@ fn inside_quad_step(h: &[i32], refs: &[i32], t: &[f64], old: bool, inside: &mut 
 
 // A 1 for each halfedge inside a quad and a 0 for each other one, whatever the list held.
 fn inside_quads(n: usize, h: &[i32], refs: &[i32], t: &[f64], old: bool, inside: &mut [u8])
-    requires { ⌜ InsideIn (now h) (now t) (now inside) n ⌝ }
-    ensures { λ _. ⌜ now (inside .exit) ≡ insideQuads (now (h .entry)) (now (refs .entry)) (now (t .entry)) old n ⌝ }
+    requires { ⌜ InsideIn (asHalfedges (now h)) (now t) (now inside) n ⌝ }
+    ensures { λ _. ⌜ now (inside .exit) ≡ insideQuads (asHalfedges (now (h .entry))) (now (refs .entry)) (now (t .entry)) old n ⌝ }
 {
     let mut e = 0;
     while e < n {
@@ -78,8 +79,8 @@ fn normal_tangents(
     inside: &mut [u8],
     first: &mut [usize],
 )
-    requires { ⌜ TangentLists (now h) (now pos) (now normals) (now «face_normals») (now «halfedge_normals») (now t) (now fixed) (now inside) (now first) n × UnitsIn (now «face_normals») (now «face_units») n ⌝ }
-    ensures { λ _. ⌜ tangentsOf (now (t .exit)) (now (fixed .exit)) ≡ normalTangents (now (h .entry)) (now (pos .entry)) (now (normals .entry)) (now («face_normals» .entry)) (now (refs .entry)) (now («halfedge_normals» .entry)) (now (t .entry)) old n (length (now (first .entry))) ⌝ }
+    requires { ⌜ TangentLists (asHalfedges (now h)) (now pos) (now normals) (now «face_normals») (now «halfedge_normals») (now t) (now fixed) (now inside) (now first) n × UnitsIn (now «face_normals») (now «face_units») n ⌝ }
+    ensures { λ _. ⌜ tangentsOf (now (t .exit)) (now (fixed .exit)) ≡ normalTangents (asHalfedges (now (h .entry))) (now (pos .entry)) (now (normals .entry)) (now («face_normals» .entry)) (now (refs .entry)) (now («halfedge_normals» .entry)) (now (t .entry)) old n (length (now (first .entry))) ⌝ }
 {
     inside_quads(n, h, refs, t, old, inside);
     common::fill_floats(t, 0.0);
@@ -130,8 +131,8 @@ pub fn make_tangents(
     desired: &mut [f64],
     first: &mut [usize],
 )
-    requires { ⌜ Lists (now h) (now pos) (now normals) (now «face_normals») (now «halfedge_normals») (now t) (now fixed) (now inside) (now current) (now desired) (now first) n p ⌝ }
-    ensures tangents { λ _. ⌜ now (t .exit) ≡ createTangentsFromNormals (now (h .entry)) (now (pos .entry)) (now (normals .entry)) (now («face_normals» .entry)) (now (refs .entry)) (now («halfedge_normals» .entry)) (now (t .entry)) old n p ⌝ }
+    requires { ⌜ Lists (asHalfedges (now h)) (now pos) (now normals) (now «face_normals») (now «halfedge_normals») (now t) (now fixed) (now inside) (now current) (now desired) (now first) n p ⌝ }
+    ensures tangents { λ _. ⌜ now (t .exit) ≡ createTangentsFromNormals (asHalfedges (now (h .entry))) (now (pos .entry)) (now (normals .entry)) (now («face_normals» .entry)) (now (refs .entry)) (now («halfedge_normals» .entry)) (now (t .entry)) old n p ⌝ }
     ensures fixed { λ _. ⌜ now (fixed .exit) ≡ replicate n 0 ⌝ }
     ensures inside { λ _. ⌜ now (inside .exit) ≡ replicate n 0 ⌝ }
     ensures current { λ _. ⌜ now (current .exit) ≡ replicate n zero ⌝ }

@@ -4,13 +4,13 @@ use mathlib.Core.Path.{_≡_, refl, sym, ap, _∙_, subst}
 use mathlib.Core.Bool.{true}
 use mathlib.Core.List.{List}
 use lib.Dec.{T}
-use lib.IntN.{ℤ}
 use lib.Ieee.{Float, binary64, fits, ofBits}
 use lib.Ieee.Bits.{ofBits-toBits}
 use borrow.Author.Tests.{eq-eqb, eqb-true}
 use Rattle.float.specs.F64.{bitsOf}
 use Rattle.linalg.specs.declared.Vec3.{Vec3}
 use Rattle.common.proofs.Tests.{and-true}
+use Rattle.mesh.specs.Mesh.{Halfedges}
 use Rattle.cycles.specs.Cycles.{nextAround}
 use Rattle.normals_state.specs.declared.CycleState.{CycleState}
 use Rattle.normals_state.specs.State.{nextState}
@@ -60,7 +60,7 @@ normal-same a b q = rw (bits-same (a .x) (b .x) (ap (λ (v : Vec3). v .x) q), bi
 -- ---- the state after a halfedge
 
 -- U holds the unit vectors of the triangles' normals A
-pub next-state-by : {A U : List Float} {n : ℕ} → UnitsIn A U n → (H : List ℤ) (G : List Float) (s : CycleState) (e : ℕ) → e / 3 * 3 + 3 ≤ n → nextAround H e / 3 * 3 + 3 ≤ n
+pub next-state-by : {A U : List Float} {n : ℕ} → UnitsIn A U n → (H : Halfedges) (G : List Float) (s : CycleState) (e : ℕ) → e / 3 * 3 + 3 ≤ n → nextAround H e / 3 * 3 + 3 ≤ n
     → nextState H A G s e ≡ nextStateOf s (halfedgeNormal U G e) (halfedgeNormal U G (nextAround H e)) e
 unfolding nextState nextStateOf halfedgeNormal
 next-state-by w H G s e h k = rw (flat-is w G e h, flat-is w G (nextAround H e) k) refl

@@ -4,14 +4,14 @@ use native.Mathlib.Omega.{arith}
 use mathlib.Core.Path.{_≡_}
 use mathlib.Core.List.{List}
 use lib.ListN.{length}
-use lib.IntN.{ℤ}
 use lib.Ieee.{Float}
+use Rattle.mesh.specs.Mesh.{Halfedges}
 use Rattle.cycles.specs.Cycles.{nextAround}
 use Rattle.cycles.proofs.Around.{next-below}
 use Rattle.normals_state.specs.State.{MissingIn}
 
 -- the normals of halfedge e and of the next one round its point, x
-module _ {H : List ℤ} {G : List Float} {n : ℕ} (w : MissingIn H G n) {e : ℕ} (h : e < n) where
+module _ {H : Halfedges} {G : List Float} {n : ℕ} (w : MissingIn H G n) {e : ℕ} (h : e < n) where
   pub here-in : e * 3 + 3 ≤ length G
   here-in = omega (arith, w .normals)
 

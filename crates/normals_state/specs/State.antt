@@ -4,11 +4,10 @@ use mathlib.Core.Path.{_≡_}
 use mathlib.Core.List.{List}
 use mathlib.Core.Bool.{Bool, true, false, cond, xor, not, _&&_, _||_}
 use lib.ListN.{length}
-use lib.IntN.{ℤ}
 use lib.Ieee.{Float, eq}
 use Rattle.float.specs.Ops.{zero}
 use Rattle.linalg.specs.declared.Vec3.{Vec3}
-use Rattle.mesh.specs.Mesh.{halfedgeStride}
+use Rattle.mesh.specs.Mesh.{halfedgeStride, Halfedges}
 use Rattle.mesh.specs.Sound.{Sound}
 use Rattle.smoothing.specs.Directions.{equalNormals}
 use Rattle.smoothing.specs.Lists.{pointAt}
@@ -22,14 +21,14 @@ use Rattle.normals_state.specs.declared.CycleState.{CycleState}
 -- ---- what the lists must be for a call
 
 -- a sound mesh, and a normal for each halfedge
-pub record MissingIn (H : List ℤ) (G : List Float) (n : ℕ) : Type 0 where
+pub record MissingIn (H : Halfedges) (G : List Float) (n : ℕ) : Type 0 where
   pub points : ℕ
   pub sound : Sound H n points
-  pub whole : length H ≡ n * halfedgeStride
+  pub whole : H .numbers ≡ n * halfedgeStride
   pub normals : length G ≡ n * 3
 
 -- and one for each triangle
-pub record StateLists (H : List ℤ) (A G : List Float) (n : ℕ) : Type 0 where
+pub record StateLists (H : Halfedges) (A G : List Float) (n : ℕ) : Type 0 where
   pub missing : MissingIn H G n
   pub face-normals : length A ≡ n
 
@@ -52,7 +51,7 @@ unfoldable pub hasFaceNormal : List Float → List Float → ℕ → Bool
 hasFaceNormal A G e = equalNormals (getNormal G e) (pointAt A (e / 3))
 
 -- `here_zero || next_zero`: the normal of halfedge e or that of the next one round its point is missing
-unfoldable pub isMissing : List ℤ → List Float → ℕ → Bool
+unfoldable pub isMissing : Halfedges → List Float → ℕ → Bool
 isMissing H G e = isZero (getNormal G e) || isZero (getNormal G (nextAround H e))
 
 -- ---- `face_edges`
@@ -105,7 +104,7 @@ abbrev pub startState : CycleState
 startState = record { «face_edges» = NoEdge; «start_halfedge» = NoneMissing; «last_normal» = zeroNormal }
 
 -- after halfedge e
-unfoldable pub nextState : List ℤ → List Float → List Float → CycleState → ℕ → CycleState
+unfoldable pub nextState : Halfedges → List Float → List Float → CycleState → ℕ → CycleState
 nextState H A G s e =
     let next = nextAround H e in
     let here-zero = isZero (getNormal G e) in

@@ -4,11 +4,11 @@ use mathlib.Core.Path.{_≡_, refl, sym, _∙_}
 use mathlib.Core.Bool.{Bool, true, false, cond, _||_, true≢false}
 use mathlib.Core.List.{List}
 use lib.ListN.{length}
-use lib.IntN.{ℤ}
 use lib.Ieee.{Float, lt, neg, ofBits}
 use Rattle.float.specs.Ops.{zero, one}
 use Rattle.linalg.specs.declared.Vec3.{Vec3}
 use Rattle.linalg.specs.declared.Vec4.{Vec4}
+use Rattle.mesh.specs.Mesh.{Halfedges}
 use Rattle.smoothing.specs.Directions.{vec3FromVec4, circularTangent}
 use Rattle.smoothing.specs.Edges.{edgeVec}
 use Rattle.smoothing.proofs.Inner.{tangent-by-direction}
@@ -56,18 +56,18 @@ no-flag-is false false last t h = refl
 
 -- ---- a halfedge e without a flag
 
-pub tangent-between-by : (H : List ℤ) (P A : List Float) (a b : Vec3) (equal : Bool) (e : ℕ) → tangentBetween H P A a b equal e ≡ circularTangent (directionBetween H A a b equal (edgeVec H P e) e) (edgeVec H P e)
+pub tangent-between-by : (H : Halfedges) (P A : List Float) (a b : Vec3) (equal : Bool) (e : ℕ) → tangentBetween H P A a b equal e ≡ circularTangent (directionBetween H A a b equal (edgeVec H P e) e) (edgeVec H P e)
 unfolding tangentBetween directionBetween
 tangent-between-by H P A a b true e = tangent-by-direction H P A a e
 tangent-between-by H P A a b false e = refl
 
-pub tangent-step-by : (H : List ℤ) (P A U G : List Float) (m : Walk) (e : ℕ) → tangentStep H P A G m e ≡ tangentStepOf H P A (halfedgeNormal U G e) (halfedgeNormal U G (nextAround H e)) m e
+pub tangent-step-by : (H : Halfedges) (P A U G : List Float) (m : Walk) (e : ℕ) → tangentStep H P A G m e ≡ tangentStepOf H P A (halfedgeNormal U G e) (halfedgeNormal U G (nextAround H e)) m e
 unfolding tangentStep tangentStepOf halfedgeNormal
 tangent-step-by H P A U G m e = rw (equal-by-units (getNormal G (nextAround H e)) (getNormal G e)) refl
 
 -- ---- the body of the loop, at halfedge e
 
-module _ (H : List ℤ) (P A G : List Float) (inside : ℕ → Bool) (m : Walk) (e : ℕ) (h : e * 4 + 4 ≤ length (m .tangents)) where
+module _ (H : Halfedges) (P A G : List Float) (inside : ℕ → Bool) (m : Walk) (e : ℕ) (h : e * 4 + 4 ≤ length (m .tangents)) where
   abbrev after : CycleState
   after = nextState H A G (m .state) e
 

@@ -5,9 +5,9 @@ use mathlib.Core.Path.{_≡_, sym, subst}
 use mathlib.Core.Bool.{Bool, true, false, cond, xor}
 use mathlib.Core.List.{List}
 use lib.ListN.{length}
-use lib.IntN.{ℤ}
 use lib.Ieee.{Float, lt}
 use Rattle.float.specs.Ops.{zero}
+use Rattle.mesh.specs.Mesh.{Halfedges}
 use Rattle.smoothing.specs.Directions.{equalNormals}
 use Rattle.smoothing.specs.Lists.{tangentAt, putTangent, weightAt}
 use Rattle.smoothing.specs.Edges.{FacesIn}
@@ -21,7 +21,7 @@ use Rattle.normals_state.specs.declared.CycleState.{CycleState}
 use Rattle.normals_state.specs.State.{getNormal, isMissing, addFaceEdge, nextFaceEdges, setStart, missingStart, nextStart, startState, nextState, spoilFaceEdges}
 use Rattle.normals_steps.specs.Steps.{NormalsIn, FaceEdgesIn, StartIn, StateIn, flagTangent, Walk, walkOf, tangentStep, normalStep}
 
-module _ {H : List ℤ} {P A G T : List Float} {n : ℕ} (w : NormalsIn H P A G T n) {e : ℕ} (h : e < n) where
+module _ {H : Halfedges} {P A G T : List Float} {n : ℕ} (w : NormalsIn H P A G T n) {e : ℕ} (h : e < n) where
   -- in a list as long as T
   pub tangent-in : {m : ℕ} → m ≡ length T → e * 4 + 4 ≤ m
   tangent-in q = omega (arith, w .tangents)
@@ -30,7 +30,7 @@ module _ {H : List ℤ} {P A G T : List Float} {n : ℕ} (w : NormalsIn H P A G 
   edge-faces-in = faces-in _ _ _ _ _ (w .state .missing .sound) (w .state .missing .whole) (w .positions) (w .state .face-normals) e h
 
 -- another list of tangents, as long
-pub normals-still : {H : List ℤ} {P A G T T′ : List Float} {n : ℕ} → length T′ ≡ length T → NormalsIn H P A G T n → NormalsIn H P A G T′ n
+pub normals-still : {H : Halfedges} {P A G T T′ : List Float} {n : ℕ} → length T′ ≡ length T → NormalsIn H P A G T n → NormalsIn H P A G T′ n
 normals-still q w = record { state = w .state; positions = w .positions; tangents = omega (arith, w .tangents) }
 
 -- ---- the halfedges that a walk names are halfedges
@@ -70,7 +70,7 @@ module _ {n : ℕ} where
     start-next true false s w = start-set s (StartAt e) w h
     start-next false next s w = w
 
-    module _ (H : List ℤ) (P A G : List Float) (inside : ℕ → Bool) where
+    module _ (H : Halfedges) (P A G : List Float) (inside : ℕ → Bool) where
       state-next : (s : CycleState) → StateIn n s → StateIn n (nextState H A G s e)
       unfolding nextState
       state-next s w = record {

@@ -3,10 +3,10 @@ use Prim.Native.Nat.{ℕ}
 use mathlib.Core.List.{List}
 use mathlib.Core.Bool.{Bool, cond, _||_}
 use lib.ListN.{getD, set}
-use lib.IntN.{ℤ}
 use lib.Dec.{eqb}
 use lib.Ieee.{Float}
 use Rattle.linalg.specs.declared.Vec3.{Vec3}
+use Rattle.mesh.specs.Mesh.{Halfedges}
 use Rattle.smoothing.specs.Directions.{equalUnits}
 use Rattle.smoothing.specs.Lists.{putTangent}
 use Rattle.smoothing.specs.Inner.{directionFromNormal}
@@ -20,18 +20,18 @@ abbrev pub isInside : List ℕ → ℕ → Bool
 isInside B e = eqb (getD B e 0) 1
 
 -- the direction of the tangent of halfedge e between two normals, where its edge is known
-unfoldable pub directionBetween : List ℤ → List Float → Vec3 → Vec3 → Bool → Vec3 → ℕ → Vec3
+unfoldable pub directionBetween : Halfedges → List Float → Vec3 → Vec3 → Bool → Vec3 → ℕ → Vec3
 directionBetween H A a b equal edge e = cond equal (directionFromNormal H A a edge e) (signedDir a b edge)
 
 -- `tangentStep`, where `here` is the normal of halfedge e and `next` that of the next one round its point
-unfoldable pub tangentStepOf : List ℤ → List Float → List Float → HalfedgeNormal → HalfedgeNormal → Walk → ℕ → Walk
+unfoldable pub tangentStepOf : Halfedges → List Float → List Float → HalfedgeNormal → HalfedgeNormal → Walk → ℕ → Walk
 tangentStepOf H P A here next m e =
     let equal = equalUnits (next .unit) (here .unit) in
     let T = putTangent (m .tangents) e (tangentBetween H P A (here .normal) (next .normal) equal e) in
     cond equal (walkOf T (m .fixed) (m .state)) (walkOf T (set (m .fixed) e 1) (spoilFaceEdges (m .state)))
 
 -- `normalStep`, likewise. The tangent is written once: with a flag, or as `tangentStepOf` says.
-unfoldable pub normalStepOf : List ℤ → List Float → List Float → (ℕ → Bool) → HalfedgeNormal → HalfedgeNormal → Walk → ℕ → Walk
+unfoldable pub normalStepOf : Halfedges → List Float → List Float → (ℕ → Bool) → HalfedgeNormal → HalfedgeNormal → Walk → ℕ → Walk
 normalStepOf H P A inside here next m e =
     let s = nextStateOf (m .state) here next e in
     let flag = withWeight (s .«last_normal») (cond (inside e) insideQuadWeight missingNormalWeight) in

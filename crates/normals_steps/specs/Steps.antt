@@ -4,12 +4,12 @@ use mathlib.Core.Path.{_≡_}
 use mathlib.Core.List.{List}
 use mathlib.Core.Bool.{Bool, cond}
 use lib.ListN.{length, set}
-use lib.IntN.{ℤ}
 use lib.Ieee.{Float, lt, eq, neg}
 use Rattle.float.specs.Ops.{zero, one, three}
 use Rattle.linalg.specs.declared.Vec3.{Vec3}
 use Rattle.linalg.specs.declared.Vec4.{Vec4}
 use Rattle.linalg.specs.Vec.{sub3, neg3, dotOf, crossOf, normalizeOf}
+use Rattle.mesh.specs.Mesh.{Halfedges}
 use Rattle.smoothing.specs.Directions.{vec3FromVec4, equalNormals, circularTangent}
 use Rattle.smoothing.specs.Lists.{tangentAt, putTangent, weightAt, isMarkedInsideQuad}
 use Rattle.smoothing.specs.Edges.{edgeVec, tangentFromNormal}
@@ -26,13 +26,13 @@ use Rattle.normals_state.specs.State.{StateLists, getNormal, normalOr, isMissin
 -- ---- what the lists must be for a call
 
 -- a sound mesh with all its normals, a position for each point, a tangent for each halfedge
-pub record NormalsIn (H : List ℤ) (P A G T : List Float) (n : ℕ) : Type 0 where
+pub record NormalsIn (H : Halfedges) (P A G T : List Float) (n : ℕ) : Type 0 where
   pub state : StateLists H A G n
   pub positions : length P ≡ state .missing .points * 3
   pub tangents : length T ≡ n * 4
 
 -- and two flags for each halfedge, and the unit vector of each triangle's normal: B, X and U are the code's lists `inside`, `fixed` and `face_units`
-pub record StepIn (H : List ℤ) (P A U G : List Float) (B : List ℕ) (T : List Float) (X : List ℕ) (n : ℕ) : Type 0 where
+pub record StepIn (H : Halfedges) (P A U G : List Float) (B : List ℕ) (T : List Float) (X : List ℕ) (n : ℕ) : Type 0 where
   pub lists : NormalsIn H P A G T n
   pub face-units : UnitsIn A U n
   pub inside : length B ≡ n
@@ -63,7 +63,7 @@ signedDir a b edge =
     cond (lt (dotOf dir edge) zero) (neg3 dir) dir
 
 -- `equal` says whether the two are equal
-unfoldable pub tangentBetween : List ℤ → List Float → List Float → Vec3 → Vec3 → Bool → ℕ → Vec4
+unfoldable pub tangentBetween : Halfedges → List Float → List Float → Vec3 → Vec3 → Bool → ℕ → Vec4
 tangentBetween H P A a b equal e =
     cond equal (tangentFromNormal H P A a e) (circularTangent (signedDir a b (edgeVec H P e)) (edgeVec H P e))
 
@@ -95,7 +95,7 @@ abbrev pub walkOf : List Float → List ℕ → CycleState → Walk
 walkOf T X s = record { tangents = T; fixed = X; state = s }
 
 -- A halfedge e without a flag. Where its normal and the next one differ, it is fixed, and no flat face is looked for.
-unfoldable pub tangentStep : List ℤ → List Float → List Float → List Float → Walk → ℕ → Walk
+unfoldable pub tangentStep : Halfedges → List Float → List Float → List Float → Walk → ℕ → Walk
 tangentStep H P A G m e =
     let here = getNormal G e in
     let next = getNormal G (nextAround H e) in
@@ -104,7 +104,7 @@ tangentStep H P A G m e =
     cond equal (walkOf T (m .fixed) (m .state)) (walkOf T (set (m .fixed) e 1) (spoilFaceEdges (m .state)))
 
 -- the body of the loop, at halfedge e
-unfoldable pub normalStep : List ℤ → List Float → List Float → List Float → (ℕ → Bool) → Walk → ℕ → Walk
+unfoldable pub normalStep : Halfedges → List Float → List Float → List Float → (ℕ → Bool) → Walk → ℕ → Walk
 normalStep H P A G inside m e =
     let s = nextState H A G (m .state) e in
     let t = flagTangent (isMissing H G e) (inside e) (s .«last_normal») (tangentAt (m .tangents) e) in
@@ -113,7 +113,7 @@ normalStep H P A G inside m e =
 
 -- ---- all normals are missing: the body of the loop that takes the point's normal
 
-unfoldable pub vertNormalStep : List ℤ → List Float → List Float → Vec3 → List Float → ℕ → List Float
+unfoldable pub vertNormalStep : Halfedges → List Float → List Float → Vec3 → List Float → ℕ → List Float
 vertNormalStep H P A normal T e = cond (isMarkedInsideQuad T e) T (putTangent T e (tangentFromNormal H P A normal e))
 
 -- ---- some normals are missing: the body of the loop that goes round backwards
@@ -127,29 +127,29 @@ abbrev pub fillOf : List Float → Vec3 → Fill
 fillOf T prev = record { tangents = T; prevNorm = prev }
 
 -- The tangent of halfedge e, whose normal is missing. `next_norm` stands in the tangent, or is the last normal of the first walk.
-unfoldable pub fillTangent : List ℤ → List Float → List Float → Vec3 → Vec3 → Vec4 → ℕ → Vec4
+unfoldable pub fillTangent : Halfedges → List Float → List Float → Vec3 → Vec3 → Vec4 → ℕ → Vec4
 fillTangent H P A last prev t e =
     let next = normalOr (vec3FromVec4 t) last in
     tangentBetween H P A prev next (equalNormals prev next) e
 
-unfoldable pub putFillTangent : List ℤ → List Float → List Float → Vec3 → Vec3 → List Float → ℕ → List Float
+unfoldable pub putFillTangent : Halfedges → List Float → List Float → Vec3 → Vec3 → List Float → ℕ → List Float
 putFillTangent H P A last prev T e =
     cond (eq (weightAt T e) missingNormalWeight) (putTangent T e (fillTangent H P A last prev (tangentAt T e) e)) T
 
-unfoldable pub fillStep : List ℤ → List Float → List Float → List Float → Vec3 → Fill → ℕ → Fill
+unfoldable pub fillStep : Halfedges → List Float → List Float → List Float → Vec3 → Fill → ℕ → Fill
 fillStep H P A G last m e =
     fillOf (putFillTangent H P A last (m .prevNorm) (m .tangents) e) (normalOr (getNormal G e) (m .prevNorm))
 
 -- ---- a single flat face: its two edges are aligned and fixed
 
 -- `new_tangent`
-unfoldable pub faceTangent : List ℤ → List Float → ℕ → ℕ → Vec3
+unfoldable pub faceTangent : Halfedges → List Float → ℕ → ℕ → Vec3
 faceTangent H P a b = sub3 (normalizeOf (edgeVec H P a)) (normalizeOf (edgeVec H P b))
 
-unfoldable pub fixFaceEdges : List ℤ → List Float → Tangents → ℕ → ℕ → Tangents
+unfoldable pub fixFaceEdges : Halfedges → List Float → Tangents → ℕ → ℕ → Tangents
 fixFaceEdges H P m a b = alignTangents H P m a b (faceTangent H P a b)
 
-unfoldable pub alignFaceEdges : List ℤ → List Float → Tangents → FaceEdges → Tangents
+unfoldable pub alignFaceEdges : Halfedges → List Float → Tangents → FaceEdges → Tangents
 alignFaceEdges H P m NoEdge = m
 alignFaceEdges H P m (OneEdge a) = m
 alignFaceEdges H P m (TwoEdges a b) = fixFaceEdges H P m a b

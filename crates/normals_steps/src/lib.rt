@@ -3,6 +3,7 @@ ghost use mathlib.Core.Path.{_≡_};
 ghost use mathlib.Core.Bool.{cond};
 ghost use Prim.Native.Nat.{_+_, _*_, _≤_, _<_};
 ghost use lib.ListN.{length};
+ghost use Rattle.mesh.specs.Mesh.{asHalfedges};
 ghost use Rattle.smoothing.specs.Edges.{EdgeIn, NormalsIn, FacesIn};
 ghost use Rattle.create_shared.specs.Makings.{MakingIn, tangentsOf};
 ghost use Rattle.normals_state.specs.Packed.{stateOf};
@@ -37,8 +38,8 @@ fn direction_between(
     edge: Vec3,
     e: usize,
 ) -> Vec3
-    requires { ⌜ NormalsIn (now h) (now «face_normals») e ⌝ }
-    ensures { λ r. ⌜ r ≡ directionBetween (now (h .entry)) (now («face_normals» .entry)) a b equal edge e ⌝ }
+    requires { ⌜ NormalsIn (asHalfedges (now h)) (now «face_normals») e ⌝ }
+    ensures { λ r. ⌜ r ≡ directionBetween (asHalfedges (now (h .entry))) (now («face_normals» .entry)) a b equal edge e ⌝ }
 {
     if equal {
         return smoothing::direction_from_normal(h, face_normals, a, edge, e);
@@ -56,8 +57,8 @@ fn tangent_between(
     equal: bool,
     e: usize,
 ) -> Vec4
-    requires { ⌜ FacesIn (now h) (now pos) (now «face_normals») e ⌝ }
-    ensures { λ r. ⌜ r ≡ tangentBetween (now (h .entry)) (now (pos .entry)) (now («face_normals» .entry)) a b equal e ⌝ }
+    requires { ⌜ FacesIn (asHalfedges (now h)) (now pos) (now «face_normals») e ⌝ }
+    ensures { λ r. ⌜ r ≡ tangentBetween (asHalfedges (now (h .entry))) (now (pos .entry)) (now («face_normals» .entry)) a b equal e ⌝ }
 {
     let edge = smoothing::edge_vec(h, pos, e);
     let dir = direction_between(h, face_normals, a, b, equal, edge, e);
@@ -98,8 +99,8 @@ fn tangent_step(
     next: HalfedgeNormal,
     e: usize,
 ) -> PackedState
-    requires { ⌜ (e < n) × MakingIn (now h) (now pos) (now t) (now fixed) n × (length (now «face_normals») ≡ n) ⌝ }
-    ensures { λ r. ⌜ walkOf (now (t .exit)) (now (fixed .exit)) (stateOf r) ≡ tangentStepOf (now (h .entry)) (now (pos .entry)) (now («face_normals» .entry)) here next (walkOf (now (t .entry)) (now (fixed .entry)) (stateOf state)) e ⌝ }
+    requires { ⌜ (e < n) × MakingIn (asHalfedges (now h)) (now pos) (now t) (now fixed) n × (length (now «face_normals») ≡ n) ⌝ }
+    ensures { λ r. ⌜ walkOf (now (t .exit)) (now (fixed .exit)) (stateOf r) ≡ tangentStepOf (asHalfedges (now (h .entry))) (now (pos .entry)) (now («face_normals» .entry)) here next (walkOf (now (t .entry)) (now (fixed .entry)) (stateOf state)) e ⌝ }
 {
     let equal = smoothing::equal_units(next.unit, here.unit);
     let tangent = tangent_between(h, pos, face_normals, here.normal, next.normal, equal, e);
@@ -126,8 +127,8 @@ pub fn normal_step(
     next: HalfedgeNormal,
     e: usize,
 ) -> PackedState
-    requires { ⌜ (e < n) × MakingIn (now h) (now pos) (now t) (now fixed) n × (length (now «face_normals») ≡ n) × (length (now inside) ≡ n) ⌝ }
-    ensures { λ r. ⌜ walkOf (now (t .exit)) (now (fixed .exit)) (stateOf r) ≡ normalStepOf (now (h .entry)) (now (pos .entry)) (now («face_normals» .entry)) (isInside (now (inside .entry))) here next (walkOf (now (t .entry)) (now (fixed .entry)) (stateOf state)) e ⌝ }
+    requires { ⌜ (e < n) × MakingIn (asHalfedges (now h)) (now pos) (now t) (now fixed) n × (length (now «face_normals») ≡ n) × (length (now inside) ≡ n) ⌝ }
+    ensures { λ r. ⌜ walkOf (now (t .exit)) (now (fixed .exit)) (stateOf r) ≡ normalStepOf (asHalfedges (now (h .entry))) (now (pos .entry)) (now («face_normals» .entry)) (isInside (now (inside .entry))) here next (walkOf (now (t .entry)) (now (fixed .entry)) (stateOf state)) e ⌝ }
 {
     let after = normals_state::next_state(state, here, next, e);
     let in_quad = inside[e] == 1;
@@ -150,8 +151,8 @@ pub fn vert_normal_step(
     t: &mut [f64],
     e: usize,
 )
-    requires { ⌜ (e * 4 + 4 ≤ length (now t)) × FacesIn (now h) (now pos) (now «face_normals») e ⌝ }
-    ensures { λ _. ⌜ now (t .exit) ≡ vertNormalStep (now (h .entry)) (now (pos .entry)) (now («face_normals» .entry)) normal (now (t .entry)) e ⌝ }
+    requires { ⌜ (e * 4 + 4 ≤ length (now t)) × FacesIn (asHalfedges (now h)) (now pos) (now «face_normals») e ⌝ }
+    ensures { λ _. ⌜ now (t .exit) ≡ vertNormalStep (asHalfedges (now (h .entry))) (now (pos .entry)) (now («face_normals» .entry)) normal (now (t .entry)) e ⌝ }
 {
     if smoothing::is_marked_inside_quad(t, e) {
         return;
@@ -170,8 +171,8 @@ fn fill_tangent(
     t: Vec4,
     e: usize,
 ) -> Vec4
-    requires { ⌜ FacesIn (now h) (now pos) (now «face_normals») e ⌝ }
-    ensures { λ r. ⌜ r ≡ fillTangent (now (h .entry)) (now (pos .entry)) (now («face_normals» .entry)) last prev t e ⌝ }
+    requires { ⌜ FacesIn (asHalfedges (now h)) (now pos) (now «face_normals») e ⌝ }
+    ensures { λ r. ⌜ r ≡ fillTangent (asHalfedges (now (h .entry))) (now (pos .entry)) (now («face_normals» .entry)) last prev t e ⌝ }
 {
     let next = normals_state::normal_or(smoothing::vec3_from_vec4(t), last);
     if smoothing::equal_normals(prev, next) {
@@ -191,8 +192,8 @@ fn put_fill_tangent(
     t: &mut [f64],
     e: usize,
 )
-    requires { ⌜ (e * 4 + 4 ≤ length (now t)) × FacesIn (now h) (now pos) (now «face_normals») e ⌝ }
-    ensures { λ _. ⌜ now (t .exit) ≡ putFillTangent (now (h .entry)) (now (pos .entry)) (now («face_normals» .entry)) last prev (now (t .entry)) e ⌝ }
+    requires { ⌜ (e * 4 + 4 ≤ length (now t)) × FacesIn (asHalfedges (now h)) (now pos) (now «face_normals») e ⌝ }
+    ensures { λ _. ⌜ now (t .exit) ≡ putFillTangent (asHalfedges (now (h .entry))) (now (pos .entry)) (now («face_normals» .entry)) last prev (now (t .entry)) e ⌝ }
 {
     if smoothing::weight_at(t, e) == -3.0 {
         let old = smoothing::tangent_at(t, e);
@@ -212,8 +213,8 @@ pub fn fill_step(
     prev: Vec3,
     e: usize,
 ) -> Vec3
-    requires { ⌜ (e * 4 + 4 ≤ length (now t)) × (e * 3 + 3 ≤ length (now «halfedge_normals»)) × FacesIn (now h) (now pos) (now «face_normals») e ⌝ }
-    ensures { λ r. ⌜ fillOf (now (t .exit)) r ≡ fillStep (now (h .entry)) (now (pos .entry)) (now («face_normals» .entry)) (now («halfedge_normals» .entry)) last (fillOf (now (t .entry)) prev) e ⌝ }
+    requires { ⌜ (e * 4 + 4 ≤ length (now t)) × (e * 3 + 3 ≤ length (now «halfedge_normals»)) × FacesIn (asHalfedges (now h)) (now pos) (now «face_normals») e ⌝ }
+    ensures { λ r. ⌜ fillOf (now (t .exit)) r ≡ fillStep (asHalfedges (now (h .entry))) (now (pos .entry)) (now («face_normals» .entry)) (now («halfedge_normals» .entry)) last (fillOf (now (t .entry)) prev) e ⌝ }
 {
     put_fill_tangent(h, pos, face_normals, last, prev, t, e);
     normals_state::normal_or(normals_state::get_normal(halfedge_normals, e), prev)
@@ -222,8 +223,8 @@ pub fn fill_step(
 // ---- the edges of a single flat face
 
 fn face_tangent(h: &[i32], pos: &[f64], a: usize, b: usize) -> Vec3
-    requires { ⌜ EdgeIn (now h) (now pos) a × EdgeIn (now h) (now pos) b ⌝ }
-    ensures { λ r. ⌜ r ≡ faceTangent (now (h .entry)) (now (pos .entry)) a b ⌝ }
+    requires { ⌜ EdgeIn (asHalfedges (now h)) (now pos) a × EdgeIn (asHalfedges (now h)) (now pos) b ⌝ }
+    ensures { λ r. ⌜ r ≡ faceTangent (asHalfedges (now (h .entry))) (now (pos .entry)) a b ⌝ }
 {
     let first = linalg::normalize(smoothing::edge_vec(h, pos, a));
     let second = linalg::normalize(smoothing::edge_vec(h, pos, b));
@@ -240,8 +241,8 @@ fn fix_face_edges(
     a: usize,
     b: usize,
 )
-    requires { ⌜ (a < n) × (b < n) × MakingIn (now h) (now pos) (now t) (now fixed) n ⌝ }
-    ensures { λ _. ⌜ tangentsOf (now (t .exit)) (now (fixed .exit)) ≡ fixFaceEdges (now (h .entry)) (now (pos .entry)) (tangentsOf (now (t .entry)) (now (fixed .entry))) a b ⌝ }
+    requires { ⌜ (a < n) × (b < n) × MakingIn (asHalfedges (now h)) (now pos) (now t) (now fixed) n ⌝ }
+    ensures { λ _. ⌜ tangentsOf (now (t .exit)) (now (fixed .exit)) ≡ fixFaceEdges (asHalfedges (now (h .entry))) (now (pos .entry)) (tangentsOf (now (t .entry)) (now (fixed .entry))) a b ⌝ }
 {
     let dir = face_tangent(h, pos, a, b);
     create_shared::align_tangents(n, h, pos, t, fixed, a, b, dir);
@@ -256,8 +257,8 @@ pub fn align_face_edges(
     fixed: &mut [u8],
     face_edges: FaceEdges,
 )
-    requires { ⌜ FaceEdgesIn n «face_edges» × MakingIn (now h) (now pos) (now t) (now fixed) n ⌝ }
-    ensures { λ _. ⌜ tangentsOf (now (t .exit)) (now (fixed .exit)) ≡ alignFaceEdges (now (h .entry)) (now (pos .entry)) (tangentsOf (now (t .entry)) (now (fixed .entry))) «face_edges» ⌝ }
+    requires { ⌜ FaceEdgesIn n «face_edges» × MakingIn (asHalfedges (now h)) (now pos) (now t) (now fixed) n ⌝ }
+    ensures { λ _. ⌜ tangentsOf (now (t .exit)) (now (fixed .exit)) ≡ alignFaceEdges (asHalfedges (now (h .entry))) (now (pos .entry)) (tangentsOf (now (t .entry)) (now (fixed .entry))) «face_edges» ⌝ }
 {
     match face_edges {
         FaceEdges::NoEdge => {}

@@ -5,9 +5,9 @@ use mathlib.Core.Bool.{Bool, true, false, cond}
 use mathlib.Core.List.{List, [], foldl}
 use borrow.Author.Tests.{ltb-true}
 use lib.Dec.{eqb, ltb}
-use lib.IntN.{ℤ}
 use lib.Ieee.{Float}
 use Rattle.common.specs.Fold.{foldTo}
+use Rattle.mesh.specs.Mesh.{Halfedges}
 use Rattle.mesh.specs.Sound.{Sound}
 use Rattle.cycles.specs.Walk.{cycleFrom}
 use Rattle.cycles.specs.Orbits.{Permutes}
@@ -31,7 +31,7 @@ cycle-same {S} f g {step} P same (suc k) s c t h =
     go true u r q = refl
     go false u r q = q
 
-module _ {H : List ℤ} {n p : ℕ} (S : Sound H n p) (P N A G : List Float) (f g : ℕ → Bool) (same : (e : ℕ) → e < n → f e ≡ g e) where
+module _ {H : Halfedges} {n p : ℕ} (S : Sound H n p) (P N A G : List Float) (f g : ℕ → Bool) (same : (e : ℕ) → e < n → f e ≡ g e) where
   step-inside : (m : Walk) (e : ℕ) → e < n → normalStep H P A G f m e ≡ normalStep H P A G g m e
   unfolding normalStep
   step-inside m e h = rw (same e h) refl

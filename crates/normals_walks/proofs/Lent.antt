@@ -4,14 +4,14 @@ use native.Mathlib.Omega.{arith}
 use mathlib.Core.Path.{_≡_, refl, _∙_}
 use mathlib.Core.List.{List}
 use lib.ListN.{length}
-use lib.IntN.{ℤ}
 use lib.Ieee.{Float}
+use Rattle.mesh.specs.Mesh.{Halfedges}
 use Rattle.create_shared.specs.Makings.{TangentsIn, MakingIn}
 use Rattle.normals_steps.specs.Steps.{NormalsIn, StepIn}
 use Rattle.normals_walks.specs.Walks.{FacesLists, VertsLists}
 
 -- what the calls after the first loop ask, of as many tangents
-module _ {H : List ℤ} {P A G T : List Float} {n : ℕ} (w : NormalsIn H P A G T n) where
+module _ {H : Halfedges} {P A G T : List Float} {n : ℕ} (w : NormalsIn H P A G T n) where
   abbrev tangents-in : {T′ : List Float} → length T′ ≡ length T → TangentsIn H T′ n
   tangents-in q = record { points = w .state .missing .points; sound = w .state .missing .sound; whole = w .state .missing .whole; tangents = q ∙ w .tangents }
 
@@ -22,7 +22,7 @@ module _ {H : List ℤ} {P A G T : List Float} {n : ℕ} (w : NormalsIn H P A G 
   making-in q x = record { tangents = tangents-in q; positions = w .positions; fixed = x }
 
 -- what a point asks
-module _ {H : List ℤ} {P N A U G : List Float} {Q F : List ℕ} {T : List Float} {X : List ℕ} {n : ℕ} (w : VertsLists H P N A U G Q F T X n) where
+module _ {H : Halfedges} {P N A U G : List Float} {Q F : List ℕ} {T : List Float} {X : List ℕ} {n : ℕ} (w : VertsLists H P N A U G Q F T X n) where
   pub step-in : StepIn H P A U G Q T X n
   step-in = record {
     lists = record {

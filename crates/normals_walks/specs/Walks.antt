@@ -4,12 +4,11 @@ use mathlib.Core.Path.{_≡_}
 use mathlib.Core.List.{List, foldl}
 use mathlib.Core.Bool.{Bool, cond, _&&_}
 use lib.ListN.{length, getD}
-use lib.IntN.{ℤ}
 use lib.Dec.{ltb}
 use lib.Ieee.{Float}
 use Rattle.linalg.specs.declared.Vec3.{Vec3}
 use Rattle.common.specs.Fold.{foldTo}
-use Rattle.mesh.specs.Mesh.{halfedgeStride}
+use Rattle.mesh.specs.Mesh.{halfedgeStride, Halfedges}
 use Rattle.mesh.specs.Sound.{Sound}
 use Rattle.smoothing.specs.Lists.{pointAt}
 use Rattle.create_shared.specs.Makings.{TangentsIn, Tangents, tangentsOf}
@@ -24,15 +23,15 @@ use Rattle.normals_steps.specs.Steps.{Walk, walkOf, normalStep, vertNormalStep,
 -- ---- what the lists must be for a call
 
 -- a sound mesh with its face normals, a position for each point, a tangent for each halfedge
-pub record FacesLists (H : List ℤ) (P A T : List Float) (n : ℕ) : Type 0 where
+pub record FacesLists (H : Halfedges) (P A T : List Float) (n : ℕ) : Type 0 where
   pub tangents : TangentsIn H T n
   pub positions : length P ≡ tangents .points * 3
   pub face-normals : length A ≡ n
 
 -- All lists of the loop over the points. U, B and X are the code's lists `face_units`, `inside` and `fixed`; W has a place for each point, which holds its `vert_halfedge`.
-pub record VertsLists (H : List ℤ) (P N A U G : List Float) (B W : List ℕ) (T : List Float) (X : List ℕ) (n : ℕ) : Type 0 where
+pub record VertsLists (H : Halfedges) (P N A U G : List Float) (B W : List ℕ) (T : List Float) (X : List ℕ) (n : ℕ) : Type 0 where
   pub sound : Sound H n (length W)
-  pub whole : length H ≡ n * halfedgeStride
+  pub whole : H .numbers ≡ n * halfedgeStride
   pub positions : length P ≡ length W * 3
   pub point-normals : length N ≡ length W * 3
   pub face-normals : length A ≡ n
@@ -46,20 +45,20 @@ pub record VertsLists (H : List ℤ) (P N A U G : List Float) (B W : List ℕ) (
 -- ---- the loops round a vertex cycle
 
 -- the first, from halfedge e
-unfoldable pub normalWalk : List ℤ → List Float → List Float → List Float → (ℕ → Bool) → ℕ → Tangents → ℕ → Walk
+unfoldable pub normalWalk : Halfedges → List Float → List Float → List Float → (ℕ → Bool) → ℕ → Tangents → ℕ → Walk
 normalWalk H P A G inside n m e = foldl (normalStep H P A G inside) (walkOf (m .tangents) (m .fixed) startState) (vertexCycle H n e)
 
 -- all normals are missing: `normal` is the point's
-unfoldable pub vertNormalWalk : List ℤ → List Float → List Float → ℕ → Vec3 → List Float → ℕ → List Float
+unfoldable pub vertNormalWalk : Halfedges → List Float → List Float → ℕ → Vec3 → List Float → ℕ → List Float
 vertNormalWalk H P A n normal T e = foldl (vertNormalStep H P A normal) T (vertexCycle H n e)
 
 -- some are missing: backwards from `start`; `last` is the last normal of the first loop
-unfoldable pub fillWalk : List ℤ → List Float → List Float → List Float → ℕ → Vec3 → List Float → ℕ → List Float
+unfoldable pub fillWalk : Halfedges → List Float → List Float → List Float → ℕ → Vec3 → List Float → ℕ → List Float
 fillWalk H P A G n last T start =
     foldl (fillStep H P A G last) (fillOf T (getNormal G (nextAround H start))) (vertexCycleBack H n start) .tangents
 
 -- `if start_halfedge >= 0`
-unfoldable pub fillMissing : List ℤ → List Float → List Float → List Float → ℕ → Vec3 → List Float → StartHalfedge → List Float
+unfoldable pub fillMissing : Halfedges → List Float → List Float → List Float → ℕ → Vec3 → List Float → StartHalfedge → List Float
 fillMissing H P A G n last T NoneMissing = T
 fillMissing H P A G n last T SomeMissing = T
 fillMissing H P A G n last T (StartAt start) = fillWalk H P A G n last T start
@@ -67,7 +66,7 @@ fillMissing H P A G n last T (StartAt start) = fillWalk H P A G n last T start
 -- ---- a point
 
 -- what follows the first loop, at point v, with its lowest halfedge e
-unfoldable pub finishVert : List ℤ → List Float → List Float → List Float → List Float → ℕ → Walk → ℕ → ℕ → Tangents
+unfoldable pub finishVert : Halfedges → List Float → List Float → List Float → List Float → ℕ → Walk → ℕ → ℕ → Tangents
 finishVert H P N A G n m v e =
     let s = m .state in
     cond (someMissing (s .«start_halfedge») && isZero (s .«last_normal»))
@@ -75,11 +74,11 @@ finishVert H P N A G n m v e =
     (alignFaceEdges H P (tangentsOf (fillMissing H P A G n (s .«last_normal») (m .tangents) (s .«start_halfedge»)) (m .fixed)) (s .«face_edges»))
 
 -- the body of the loop over the points: nothing where no halfedge starts at v
-unfoldable pub normalsVert : List ℤ → List Float → List Float → List Float → List Float → (ℕ → Bool) → ℕ → Tangents → ℕ → Tangents
+unfoldable pub normalsVert : Halfedges → List Float → List Float → List Float → List Float → (ℕ → Bool) → ℕ → Tangents → ℕ → Tangents
 normalsVert H P N A G inside n m v =
     let e = vertHalfedge H n v in
     cond (ltb e n) (finishVert H P N A G n (normalWalk H P A G inside n m e) v e) m
 
 -- all p points
-unfoldable pub normalsVerts : List ℤ → List Float → List Float → List Float → List Float → (ℕ → Bool) → ℕ → ℕ → Tangents → Tangents
+unfoldable pub normalsVerts : Halfedges → List Float → List Float → List Float → List Float → (ℕ → Bool) → ℕ → ℕ → Tangents → Tangents
 normalsVerts H P N A G inside n p m = foldTo (normalsVert H P N A G inside n) m p

@@ -3,6 +3,7 @@
 ghost use mathlib.Core.Path.{_≡_};
 ghost use Prim.Native.Nat.{_+_, _*_, _≤_, _<_};
 ghost use lib.ListN.{length};
+ghost use Rattle.mesh.specs.Mesh.{asHalfedges};
 ghost use Rattle.create_shared.specs.Makings.{tangentsOf};
 ghost use Rattle.normals_steps.specs.Steps.{NormalsIn, StepIn, StartIn, StateIn, walkOf};
 ghost use Rattle.normals_steps.specs.Carried.{isInside};
@@ -26,8 +27,8 @@ fn normal_walk(
     fixed: &mut [u8],
     e: usize,
 ) -> CycleState
-    requires { ⌜ (e < n) × StepIn (now h) (now pos) (now «face_normals») (now «face_units») (now «halfedge_normals») (now inside) (now t) (now fixed) n ⌝ }
-    ensures { λ r. ⌜ walkOf (now (t .exit)) (now (fixed .exit)) r ≡ normalWalk (now (h .entry)) (now (pos .entry)) (now («face_normals» .entry)) (now («halfedge_normals» .entry)) (isInside (now (inside .entry))) n (tangentsOf (now (t .entry)) (now (fixed .entry))) e ⌝ }
+    requires { ⌜ (e < n) × StepIn (asHalfedges (now h)) (now pos) (now «face_normals») (now «face_units») (now «halfedge_normals») (now inside) (now t) (now fixed) n ⌝ }
+    ensures { λ r. ⌜ walkOf (now (t .exit)) (now (fixed .exit)) r ≡ normalWalk (asHalfedges (now (h .entry))) (now (pos .entry)) (now («face_normals» .entry)) (now («halfedge_normals» .entry)) (isInside (now (inside .entry))) n (tangentsOf (now (t .entry)) (now (fixed .entry))) e ⌝ }
     ensures { λ r. ⌜ StateIn n r ⌝ }
 {
     let mut state = normals_state::start_state();
@@ -74,8 +75,8 @@ fn vert_normal_walk(
     t: &mut [f64],
     e: usize,
 )
-    requires { ⌜ (e < n) × FacesLists (now h) (now pos) (now «face_normals») (now t) n ⌝ }
-    ensures { λ _. ⌜ now (t .exit) ≡ vertNormalWalk (now (h .entry)) (now (pos .entry)) (now («face_normals» .entry)) n normal (now (t .entry)) e ⌝ }
+    requires { ⌜ (e < n) × FacesLists (asHalfedges (now h)) (now pos) (now «face_normals») (now t) n ⌝ }
+    ensures { λ _. ⌜ now (t .exit) ≡ vertNormalWalk (asHalfedges (now (h .entry))) (now (pos .entry)) (now («face_normals» .entry)) n normal (now (t .entry)) e ⌝ }
 {
     let mut current = e;
     loop {
@@ -98,8 +99,8 @@ fn fill_walk(
     t: &mut [f64],
     start: usize,
 )
-    requires { ⌜ (start < n) × NormalsIn (now h) (now pos) (now «face_normals») (now «halfedge_normals») (now t) n ⌝ }
-    ensures { λ _. ⌜ now (t .exit) ≡ fillWalk (now (h .entry)) (now (pos .entry)) (now («face_normals» .entry)) (now («halfedge_normals» .entry)) n last (now (t .entry)) start ⌝ }
+    requires { ⌜ (start < n) × NormalsIn (asHalfedges (now h)) (now pos) (now «face_normals») (now «halfedge_normals») (now t) n ⌝ }
+    ensures { λ _. ⌜ now (t .exit) ≡ fillWalk (asHalfedges (now (h .entry))) (now (pos .entry)) (now («face_normals» .entry)) (now («halfedge_normals» .entry)) n last (now (t .entry)) start ⌝ }
 {
     let next = cycles::next_around(h, start);
     let mut prev = normals_state::get_normal(halfedge_normals, next);
@@ -133,8 +134,8 @@ fn fill_missing(
     t: &mut [f64],
     start: StartHalfedge,
 )
-    requires { ⌜ StartIn n start × NormalsIn (now h) (now pos) (now «face_normals») (now «halfedge_normals») (now t) n ⌝ }
-    ensures { λ _. ⌜ now (t .exit) ≡ fillMissing (now (h .entry)) (now (pos .entry)) (now («face_normals» .entry)) (now («halfedge_normals» .entry)) n last (now (t .entry)) start ⌝ }
+    requires { ⌜ StartIn n start × NormalsIn (asHalfedges (now h)) (now pos) (now «face_normals») (now «halfedge_normals») (now t) n ⌝ }
+    ensures { λ _. ⌜ now (t .exit) ≡ fillMissing (asHalfedges (now (h .entry))) (now (pos .entry)) (now («face_normals» .entry)) (now («halfedge_normals» .entry)) n last (now (t .entry)) start ⌝ }
 {
     match start {
         StartHalfedge::NoneMissing => {}
@@ -161,8 +162,8 @@ fn finish_vert(
     v: usize,
     e: usize,
 )
-    requires { ⌜ (e < n) × (v * 3 + 3 ≤ length (now normals)) × StateIn n state × NormalsIn (now h) (now pos) (now «face_normals») (now «halfedge_normals») (now t) n × (length (now fixed) ≡ n) ⌝ }
-    ensures { λ _. ⌜ tangentsOf (now (t .exit)) (now (fixed .exit)) ≡ finishVert (now (h .entry)) (now (pos .entry)) (now (normals .entry)) (now («face_normals» .entry)) (now («halfedge_normals» .entry)) n (walkOf (now (t .entry)) (now (fixed .entry)) state) v e ⌝ }
+    requires { ⌜ (e < n) × (v * 3 + 3 ≤ length (now normals)) × StateIn n state × NormalsIn (asHalfedges (now h)) (now pos) (now «face_normals») (now «halfedge_normals») (now t) n × (length (now fixed) ≡ n) ⌝ }
+    ensures { λ _. ⌜ tangentsOf (now (t .exit)) (now (fixed .exit)) ≡ finishVert (asHalfedges (now (h .entry))) (now (pos .entry)) (now (normals .entry)) (now («face_normals» .entry)) (now («halfedge_normals» .entry)) n (walkOf (now (t .entry)) (now (fixed .entry)) state) v e ⌝ }
 {
     let start = state.start_halfedge;
     let last = state.last_normal;
@@ -194,8 +195,8 @@ fn normals_vert(
     fixed: &mut [u8],
     v: usize,
 )
-    requires { ⌜ (v < length (now «vert_halfedge»)) × VertsLists (now h) (now pos) (now normals) (now «face_normals») (now «face_units») (now «halfedge_normals») (now inside) (now «vert_halfedge») (now t) (now fixed) n ⌝ }
-    ensures { λ _. ⌜ tangentsOf (now (t .exit)) (now (fixed .exit)) ≡ normalsVert (now (h .entry)) (now (pos .entry)) (now (normals .entry)) (now («face_normals» .entry)) (now («halfedge_normals» .entry)) (isInside (now (inside .entry))) n (tangentsOf (now (t .entry)) (now (fixed .entry))) v ⌝ }
+    requires { ⌜ (v < length (now «vert_halfedge»)) × VertsLists (asHalfedges (now h)) (now pos) (now normals) (now «face_normals») (now «face_units») (now «halfedge_normals») (now inside) (now «vert_halfedge») (now t) (now fixed) n ⌝ }
+    ensures { λ _. ⌜ tangentsOf (now (t .exit)) (now (fixed .exit)) ≡ normalsVert (asHalfedges (now (h .entry))) (now (pos .entry)) (now (normals .entry)) (now («face_normals» .entry)) (now («halfedge_normals» .entry)) (isInside (now (inside .entry))) n (tangentsOf (now (t .entry)) (now (fixed .entry))) v ⌝ }
 {
     let e = vert_halfedge[v];
     if e >= n {
@@ -242,8 +243,8 @@ pub fn normals_verts(
     t: &mut [f64],
     fixed: &mut [u8],
 )
-    requires { ⌜ VertsLists (now h) (now pos) (now normals) (now «face_normals») (now «face_units») (now «halfedge_normals») (now inside) (now «vert_halfedge») (now t) (now fixed) n ⌝ }
-    ensures { λ _. ⌜ tangentsOf (now (t .exit)) (now (fixed .exit)) ≡ normalsVerts (now (h .entry)) (now (pos .entry)) (now (normals .entry)) (now («face_normals» .entry)) (now («halfedge_normals» .entry)) (isInside (now (inside .entry))) n (length (now («vert_halfedge» .entry))) (tangentsOf (now (t .entry)) (now (fixed .entry))) ⌝ }
+    requires { ⌜ VertsLists (asHalfedges (now h)) (now pos) (now normals) (now «face_normals») (now «face_units») (now «halfedge_normals») (now inside) (now «vert_halfedge») (now t) (now fixed) n ⌝ }
+    ensures { λ _. ⌜ tangentsOf (now (t .exit)) (now (fixed .exit)) ≡ normalsVerts (asHalfedges (now (h .entry))) (now (pos .entry)) (now (normals .entry)) (now («face_normals» .entry)) (now («halfedge_normals» .entry)) (isInside (now (inside .entry))) n (length (now («vert_halfedge» .entry))) (tangentsOf (now (t .entry)) (now (fixed .entry))) ⌝ }
 {
     let mut v = 0;
     while v < vert_halfedge.len() {

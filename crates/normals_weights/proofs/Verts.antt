@@ -9,9 +9,9 @@ use mathlib.Core.List.{List, foldl}
 use borrow.Author.Tests.{ltb-true}
 use lib.Dec.{ltb}
 use lib.ListN.{length}
-use lib.IntN.{ℤ}
 use lib.Ieee.{Float, eq, ofBits}
 use Rattle.linalg.specs.declared.Vec3.{Vec3}
+use Rattle.mesh.specs.Mesh.{Halfedges}
 use Rattle.mesh.specs.Sound.{Sound}
 use Rattle.smoothing.specs.Lists.{pointAt, weightAt}
 use Rattle.cycles.specs.Count.{_∈_}
@@ -98,7 +98,7 @@ either-true false b q = inr q
 
 -- ---- a loop that writes each flag of a missing normal anew
 
-module _ (H : List ℤ) (P : List Float) (n : ℕ) where
+module _ (H : Halfedges) (P : List Float) (n : ℕ) where
   module _ {S : Type 0} (step : S → ℕ → S) (tangents : S → List Float) (writes : (s : S) (x : ℕ) → Writes (tangents s) (tangents (step s x)) x)
       (makes : (s : S) (x : ℕ) → x * 4 + 4 ≤ length (tangents s) → MadeOrMissing H P (tangents s) x → Made H P (tangents (step s x)) x) where
     loop-length : (xs : List ℕ) (s : S) → length (tangents s) ≡ n * 4 → length (tangents (foldl step s xs)) ≡ n * 4
@@ -135,7 +135,7 @@ module _ (H : List ℤ) (P : List Float) (n : ℕ) where
 
 -- ---- the vertex cycle of halfedge h
 
-module _ {H : List ℤ} {n p : ℕ} (S : Sound H n p) (h : ℕ) (h-below : h < n) where
+module _ {H : Halfedges} {n p : ℕ} (S : Sound H n p) (h : ℕ) (h-below : h < n) where
   abbrev cycle : List ℕ
   cycle = vertexCycle H n h
 
@@ -336,11 +336,11 @@ module _ {H : List ℤ} {n p : ℕ} (S : Sound H n p) (h : ℕ) (h-below : h < n
 -- ---- THE POINT
 
 -- the tangents are whole, and each weight is made
-pub record AllMade (H : List ℤ) (P : List Float) (n : ℕ) (m : Tangents) : Type 0 where
+pub record AllMade (H : Halfedges) (P : List Float) (n : ℕ) (m : Tangents) : Type 0 where
   pub whole : length (m .tangents) ≡ n * 4
   pub made : (d : ℕ) → d < n → Made H P (m .tangents) d
 
-module _ {H : List ℤ} {n p : ℕ} (S : Sound H n p) (P N A G : List Float) (in-quad : ℕ → Bool) where
+module _ {H : Halfedges} {n p : ℕ} (S : Sound H n p) (P N A G : List Float) (in-quad : ℕ → Bool) where
   pub vert-keeps : (m : Tangents) (v : ℕ) → AllMade H P n m → AllMade H P n (normalsVert H P N A G in-quad n m v)
   unfolding normalsVert normalWalk
   vert-keeps m v a = go (vertHalfedge H n v) (ltb (vertHalfedge H n v) n) refl

@@ -10,6 +10,7 @@ use lib.ListN.{length, replicate, length-replicate, getD-replicate}
 use lib.IntN.{ℤ}
 use lib.Ieee.{Float, nan, eq, neg, ofBits}
 use Rattle.float.specs.Ops.{zero}
+use Rattle.mesh.specs.Mesh.{Halfedges}
 use Rattle.mesh.specs.Questions.{signClear}
 use Rattle.mesh.specs.Check.{checkMesh}
 use Rattle.mesh.specs.Sound.{Sound}
@@ -46,7 +47,7 @@ flags-differ : insideQuadWeight ≡ missingNormalWeight → ⊥
 unfolding eq neg ofBits
 flags-differ q = true≢false (ap (λ (x : Float). eq x insideQuadWeight) q)
 
-mark-or-clear : {H : List ℤ} {P : List Float} {e : ℕ} {w : Float} → MadeWeight H P e w → (w ≡ insideQuadWeight) ⊎ (signClear w ≡ true)
+mark-or-clear : {H : Halfedges} {P : List Float} {e : ℕ} {w : Float} → MadeWeight H P e w → (w ≡ insideQuadWeight) ⊎ (signClear w ≡ true)
 mark-or-clear (inside q) = inl q
 mark-or-clear (further q) = inr (ap signClear q ∙ zero-clear)
 mark-or-clear {H} {P} {e} (circular dir q) = inr (ap signClear q ∙ circular-clear dir (edgeVec H P e))
@@ -61,7 +62,7 @@ zero-weight : (n e : ℕ) → e < n → weightAt (replicate (n * 4) zero) e ≡ 
 unfolding weightAt
 zero-weight n e h = getD-replicate (n * 4) (e * 4 + 3) zero nan (omega arith)
 
-module _ {H : List ℤ} {n p : ℕ} (S : Sound H n p) (R : List ℤ) (P N A G O : List Float) (old : Bool) where
+module _ {H : Halfedges} {n p : ℕ} (S : Sound H n p) (R : List ℤ) (P N A G O : List Float) (old : Bool) where
   before-spreading : AllMade H P n (normalTangents H P N A R G O old n p)
   unfolding normalTangents normalsVerts
   before-spreading =
@@ -90,9 +91,9 @@ module _ {H : List ℤ} {n p : ℕ} (S : Sound H n p) (R : List ℤ) (P N A G O 
   }
 
 -- so of a call that is accepted
-pub weights-after : (H : List ℤ) (P N A : List Float) (R : List ℤ) (G O : List Float) (X Q : List ℕ) (C D : List Float) (F : List ℕ) (old : Bool) (n p : ℕ) → WeightsAfter H P N A R G O X Q C D F old n p
+pub weights-after : (H : Halfedges) (P N A : List Float) (R : List ℤ) (G O : List Float) (X Q : List ℕ) (C D : List Float) (F : List ℕ) (old : Bool) (n p : ℕ) → WeightsAfter H P N A R G O X Q C D F old n p
 unfolding checkNormals
 weights-after H P N A R G O X Q C D F old n p e =
-    let lengths = listsFit (length H) (length P) (length N) (length A) (length R) (length G) (length O) n p && scratchFits (length X) (length Q) (length C) (length D) (length F) n p in
+    let lengths = listsFit (H .numbers) (length P) (length N) (length A) (length R) (length G) (length O) n p && scratchFits (length X) (length Q) (length C) (length D) (length F) n p in
     let sound = accepted H n p lengths (refs-accepted (checkMesh H n p lengths) n R e .0) .1 in
     rw e (weights sound R P N A G O old)

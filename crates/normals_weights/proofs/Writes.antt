@@ -6,11 +6,11 @@ use mathlib.Core.Logic.{_⊎_, inl, inr}
 use mathlib.Core.Bool.{Bool, true, false, cond, true≢false}
 use mathlib.Core.List.{List}
 use lib.ListN.{length, set}
-use lib.IntN.{ℤ}
 use lib.Ieee.{Float, lt, eq, neg, ofBits}
 use Rattle.float.specs.Ops.{zero}
 use Rattle.linalg.specs.declared.Vec3.{Vec3}
 use Rattle.linalg.specs.declared.Vec4.{Vec4}
+use Rattle.mesh.specs.Mesh.{Halfedges}
 use Rattle.smoothing.specs.Directions.{circularTangent, equalNormals}
 use Rattle.smoothing.specs.Lists.{tangentAt, putTangent, weightAt, isMarkedInsideQuad}
 use Rattle.smoothing.specs.Edges.{edgeVec, tangentFromNormal}
@@ -51,7 +51,7 @@ missing-inside = refl
 
 -- ---- the weight of halfedge e is made; or it is the flag of a missing normal
 
-module _ (H : List ℤ) (P : List Float) where
+module _ (H : Halfedges) (P : List Float) where
   abbrev pub Made : List Float → ℕ → Type 0
   Made T e = MadeWeight H P e (weightAt T e)
 

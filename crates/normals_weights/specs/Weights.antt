@@ -8,6 +8,7 @@ use lib.IntN.{ℤ}
 use lib.Ieee.{Float}
 use Rattle.float.specs.Ops.{zero}
 use Rattle.linalg.specs.declared.Vec3.{Vec3}
+use Rattle.mesh.specs.Mesh.{Halfedges}
 use Rattle.mesh.specs.Questions.{signClear}
 use Rattle.mesh.specs.declared.Checked.the-variants.{Accepted}
 use Rattle.smoothing.specs.Directions.{circularTangent}
@@ -18,13 +19,13 @@ use Rattle.normals_core.specs.Core.{createTangentsFromNormals}
 use Rattle.create_from_normals.specs.FromNormals.{checkLists, tangentsAfter}
 
 -- What the weight w of halfedge e can be: -1 inside a quad, 0 in a further vertex cycle of a point, and else that of a circular tangent along its edge.
-pub data MadeWeight (H : List ℤ) (P : List Float) (e : ℕ) (w : Float) : Type 0 where
+pub data MadeWeight (H : Halfedges) (P : List Float) (e : ℕ) (w : Float) : Type 0 where
   inside : w ≡ insideQuadWeight → MadeWeight H P e w
   further : w ≡ zero → MadeWeight H P e w
   circular : (dir : Vec3) → w ≡ circularTangent dir (edgeVec H P e) .w → MadeWeight H P e w
 
 -- What is claimed of the tangents T
-pub record Weights (H : List ℤ) (P T : List Float) (n : ℕ) : Type 0 where
+pub record Weights (H : Halfedges) (P T : List Float) (n : ℕ) : Type 0 where
   pub made : (e : ℕ) → e < n → MadeWeight H P e (weightAt T e)
   -- so each is -1, or a number with a clear sign bit
   pub mark-or-clear : (e : ℕ) → e < n → (weightAt T e ≡ insideQuadWeight) ⊎ (signClear (weightAt T e) ≡ true)
@@ -32,11 +33,11 @@ pub record Weights (H : List ℤ) (P T : List Float) (n : ℕ) : Type 0 where
   pub none-missing : (e : ℕ) → e < n → weightAt T e ≡ missingNormalWeight → ⊥
 
 -- THE CLAIM, for every sound mesh and any other lists
-abbrev pub WeightsOf : List ℤ → List Float → List Float → List Float → List ℤ → List Float → List Float → Bool → ℕ → ℕ → Type 0
+abbrev pub WeightsOf : Halfedges → List Float → List Float → List Float → List ℤ → List Float → List Float → Bool → ℕ → ℕ → Type 0
 WeightsOf H P N A R G T old n p = Weights H P (createTangentsFromNormals H P N A R G T old n p) n
 
 -- The same of the public call, for every input that it accepts; X, B, C, D and W are its scratch lists
-abbrev pub WeightsAfter : List ℤ → List Float → List Float → List Float → List ℤ → List Float → List Float → List ℕ → List ℕ → List Float → List Float → List ℕ → Bool → ℕ → ℕ → Type 0
+abbrev pub WeightsAfter : Halfedges → List Float → List Float → List Float → List ℤ → List Float → List Float → List ℕ → List ℕ → List Float → List Float → List ℕ → Bool → ℕ → ℕ → Type 0
 WeightsAfter H P N A R G T X B C D W old n p =
     let answer = checkLists H P N A R G T X B C D W n p in
     answer ≡ Accepted → Weights H P (tangentsAfter answer H P N A R G T old n p) n

@@ -2,7 +2,7 @@
 use Prim.Native.Nat.{ℕ, _+_, _*_, _≤_}
 use native.Mathlib.Omega.{arith}
 use mathlib.Core.Path.{_≡_, refl, sym, ap, _∙_}
-use mathlib.Core.Bool.{Bool, true, false, cond, _&&_}
+use mathlib.Core.Bool.{Bool, true, false, cond}
 use mathlib.Core.List.{List, _++_}
 use borrow.Author.Tests.{leb-true}
 use lib.Dec.{eqb}
@@ -13,6 +13,7 @@ use Rattle.common.proofs.Tests.{and-true}
 use Rattle.little_endian.specs.Filled.{items, filled}
 use Rattle.little_endian.proofs.Filled.{items-length}
 use Rattle.little_endian.specs.Numbers.{f64Item}
+use Rattle.mesh.specs.Mesh.{asHalfedges}
 use Rattle.records.specs.Records.{bodyAt, parseInput}
 use Rattle.records.specs.Lists.{Lists, ifSpread, readAnswer, readLists}
 use Rattle.records.specs.declared.Parsed.{Parsed}
@@ -156,7 +157,7 @@ module _ {s : List ℕ} {L L′ : Lists} {r : Parsed} (w : Reading s L L′ r) w
 
     -- what the operation prints of the lists that were read is printed
     pub operation-shows : (output : Output) (T : List Float) →
-        Shows (operationLines o (take (3 * n) (L′ .halfedges)) (take (3 * p) (L′ .positions)) (take (3 * p) (L′ .normals)) (take n (L′ .flags)) (take (4 * n) (L′ .tangents)) n p) n output T →
+        Shows (operationLines o (asHalfedges (take (3 * n) (L′ .halfedges))) (take (3 * p) (L′ .positions)) (take (3 * p) (L′ .normals)) (take n (L′ .flags)) (take (4 * n) (L′ .tangents)) n p) n output T →
         Shows (outputOf s) 1488 output T
     unfolding outputOf operationLines
     operation-shows output T h =
@@ -164,30 +165,30 @@ module _ {s : List ℕ} {L L′ : Lists} {r : Parsed} (w : Reading s L L′ r) w
           shown =
               h .shown
               ∙ rw (parsed _ e, halfedges-read, positions-read, tangents-read)
-              (ap (cond (eqb o 1) (straightenLines (halfedgesOf s p n) (positionsOf s p n) (tangentsOf s p n) n p))
-              (only-spread o (λ N F. spreadLines (halfedgesOf s p n) (positionsOf s p n) N F (tangentsOf s p n) n p) _ _ (normalsOf s p n) _ (flagsOf s p n) (eqb o 2) refl spread-read));
+              (ap (cond (eqb o 1) (straightenLines (asHalfedges (halfedgesOf s p n)) (positionsOf s p n) (tangentsOf s p n) n p))
+              (only-spread o (λ N F. spreadLines (asHalfedges (halfedgesOf s p n)) (positionsOf s p n) N F (tangentsOf s p n) n p) _ _ (normalsOf s p n) _ (flagsOf s p n) (eqb o 2) refl spread-read));
           halfedges-few = omega (arith, bound, h .halfedges-few);
         }
 
     -- and what it leaves in the tangents and the scratch lists is left
     pub tangents-left : (T : List Float) →
-        T ≡ operationTangents o (take (3 * n) (L′ .halfedges)) (take (3 * p) (L′ .positions)) (take (3 * p) (L′ .normals)) (take n (L′ .flags)) (take (4 * n) (L′ .tangents)) n p ++ drop (4 * n) (L′ .tangents) →
+        T ≡ operationTangents o (asHalfedges (take (3 * n) (L′ .halfedges))) (take (3 * p) (L′ .positions)) (take (3 * p) (L′ .normals)) (take n (L′ .flags)) (take (4 * n) (L′ .tangents)) n p ++ drop (4 * n) (L′ .tangents) →
         T ≡ tangentsAfter s (L .tangents)
     unfolding tangentsAfter operationTangents
     tangents-left T h =
         h
         ∙ rw (parsed _ e, halfedges-read, positions-read, tangents-read, further-tangents)
-        (ap (λ (after : List Float). cond (eqb o 1) (straightenTangents (halfedgesOf s p n) (positionsOf s p n) (tangentsOf s p n) n p) after ++ drop (4 * n) (L .tangents))
-        (only-spread o (λ N F. spreadTangents (halfedgesOf s p n) (positionsOf s p n) N F (tangentsOf s p n) n p) _ _ (normalsOf s p n) _ (flagsOf s p n) (eqb o 2) refl spread-read))
+        (ap (λ (after : List Float). cond (eqb o 1) (straightenTangents (asHalfedges (halfedgesOf s p n)) (positionsOf s p n) (tangentsOf s p n) n p) after ++ drop (4 * n) (L .tangents))
+        (only-spread o (λ N F. spreadTangents (asHalfedges (halfedgesOf s p n)) (positionsOf s p n) N F (tangentsOf s p n) n p) _ _ (normalsOf s p n) _ (flagsOf s p n) (eqb o 2) refl spread-read))
 
     pub scratch-left : (left lent : List Float) →
-        left ≡ operationScratch o (take (3 * n) (L′ .halfedges)) (take (3 * p) (L′ .positions)) (take (3 * p) (L′ .normals)) (take n (L′ .flags)) (take (4 * n) (L′ .tangents)) n p lent →
+        left ≡ operationScratch o (asHalfedges (take (3 * n) (L′ .halfedges))) (take (3 * p) (L′ .positions)) (take (3 * p) (L′ .normals)) (take n (L′ .flags)) (take (4 * n) (L′ .tangents)) n p lent →
         left ≡ scratchAfter s lent
     unfolding scratchAfter operationScratch
     scratch-left left lent h =
         h
         ∙ rw (parsed _ e, halfedges-read, positions-read, tangents-read)
-        (only-spread o (λ N F. spreadScratch (halfedgesOf s p n) (positionsOf s p n) N F (tangentsOf s p n) n p lent) lent _ (normalsOf s p n) _ (flagsOf s p n) (eqb o 2) refl spread-read)
+        (only-spread o (λ N F. spreadScratch (asHalfedges (halfedgesOf s p n)) (positionsOf s p n) N F (tangentsOf s p n) n p lent) lent _ (normalsOf s p n) _ (flagsOf s p n) (eqb o 2) refl spread-read)
 
 -- ---- what the operations may take for granted
 

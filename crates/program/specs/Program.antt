@@ -8,6 +8,7 @@ use lib.IntN.{ℤ}
 use lib.Ieee.{Float}
 use Rattle.little_endian.specs.Numbers.{f64Item, i32Item, byteItem}
 use Rattle.little_endian.specs.Filled.{items}
+use Rattle.mesh.specs.Mesh.{asHalfedges}
 use Rattle.records.specs.Records.{bodyAt, parseInput}
 use Rattle.records.specs.declared.Parsed.{Parsed}
 use Rattle.records.specs.declared.Parsed.the-variants.{Input, Refused as InputRefused}
@@ -38,7 +39,7 @@ flagsOf s p n = items (byteItem s (bodyAt p n 7)) n
 abbrev pub linesFor : List ℕ → Parsed → List ℕ
 linesFor s (InputRefused number place) = linesOf (Refused number place) []
 linesFor s (Input operation p n) =
-    operationLines operation (halfedgesOf s p n) (positionsOf s p n) (normalsOf s p n) (flagsOf s p n) (tangentsOf s p n) n p
+    operationLines operation (asHalfedges (halfedgesOf s p n)) (positionsOf s p n) (normalsOf s p n) (flagsOf s p n) (tangentsOf s p n) n p
 
 -- the bytes that the program writes, for every input
 unfoldable pub outputOf : List ℕ → List ℕ
@@ -72,7 +73,7 @@ unfoldable pub tangentsAfter : List ℕ → List Float → List Float
 tangentsAfter s lent =
     whenRead (parseInput s)
     (λ operation p n.
-    operationTangents operation (halfedgesOf s p n) (positionsOf s p n) (normalsOf s p n) (flagsOf s p n) (tangentsOf s p n) n p
+    operationTangents operation (asHalfedges (halfedgesOf s p n)) (positionsOf s p n) (normalsOf s p n) (flagsOf s p n) (tangentsOf s p n) n p
     ++ drop (4 * n) lent)
     lent
 
@@ -81,7 +82,7 @@ unfoldable pub scratchAfter : List ℕ → List Float → List Float
 scratchAfter s lent =
     whenRead (parseInput s)
     (λ operation p n.
-    operationScratch operation (halfedgesOf s p n) (positionsOf s p n) (normalsOf s p n) (flagsOf s p n) (tangentsOf s p n) n p lent)
+    operationScratch operation (asHalfedges (halfedgesOf s p n)) (positionsOf s p n) (normalsOf s p n) (flagsOf s p n) (tangentsOf s p n) n p lent)
     lent
 
 -- ---- the room of the lent lists

@@ -4,12 +4,12 @@ use native.Mathlib.Omega.{arith}
 use mathlib.Core.Path.{_≡_, refl, _∙_}
 use mathlib.Core.List.{List, _++_}
 use lib.ListN.{length, take, drop, replicate, List·getD-append, length-replicate, take-append-drop}
-use lib.IntN.{ℤ}
 use lib.Ieee.{Float, nan}
 use Rattle.float.specs.Ops.{zero as 0f}
 use Rattle.program_lines.specs.Lines.{bitsField, tangentLine, tangentLines, tangentsLines, linesOf, halfedgesIn}
 use Rattle.program_lines.specs.declared.Output.{Output}
 use Rattle.program_lines.specs.declared.Output.the-variants.{Tangents, Spread, Valid, Refused}
+use Rattle.mesh.specs.Mesh.{Halfedges}
 use Rattle.mesh.specs.Check.{whenAccepted}
 use Rattle.mesh.specs.declared.Checked.{Checked}
 use Rattle.mesh.specs.declared.Checked.the-variants.{Accepted, Refused as MeshRefused}
@@ -56,7 +56,7 @@ straighten-few : (r : Checked) (n : ℕ) → halfedgesIn (straightenOutput r n) 
 straighten-few Accepted n = omega arith
 straighten-few (MeshRefused number place) n = omega arith
 
-pub straighten-shows : (H : List ℤ) (P T : List Float) (n p : ℕ) (r : Checked) (o : Output) (after rest : List Float) →
+pub straighten-shows : (H : Halfedges) (P T : List Float) (n p : ℕ) (r : Checked) (o : Output) (after rest : List Float) →
     o ≡ straightenOutput r n → r ≡ linearizeAnswer H P T n p → after ≡ straightened H P T n p → length after ≡ 4 * n →
     Shows (straightenLines H P T n p) n o (after ++ rest)
 unfolding straightenLines
@@ -68,12 +68,12 @@ spread-few (Spreads looked turned) n = omega arith
 spread-few (SpreadRefused number place) n = omega arith
 
 -- of the scratch lists only the lengths are asked about
-scratch-lengths : (H : List ℤ) (P N : List Float) (F : List ℕ) (T C D : List Float) (n p : ℕ) → length C ≡ n → length D ≡ n →
+scratch-lengths : (H : Halfedges) (P N : List Float) (F : List ℕ) (T C D : List Float) (n p : ℕ) → length C ≡ n → length D ≡ n →
     checkLists H P N F T C D n p ≡ checkLists H P N F T (replicate n 0f) (replicate n 0f) n p
 unfolding checkLists
 scratch-lengths H P N F T C D n p c d = rw (length-replicate, c, d)
 
-pub spread-shows : (H : List ℤ) (P N : List Float) (F : List ℕ) (T C D : List Float) (n p : ℕ) (r : Spreading) (o : Output) (after rest : List Float) →
+pub spread-shows : (H : Halfedges) (P N : List Float) (F : List ℕ) (T C D : List Float) (n p : ℕ) (r : Spreading) (o : Output) (after rest : List Float) →
     length C ≡ n → length D ≡ n →
     o ≡ spreadOutput r n → r ≡ distributeTangents H P N F T C D n p → after ≡ spread H P N F T C D n p → length after ≡ 4 * n →
     Shows (spreadLines H P N F T n p) n o (after ++ rest)
@@ -92,7 +92,7 @@ scratch-left : (checked : Checked) (n : ℕ) (lent : List Float) →
 scratch-left Accepted n lent = refl
 scratch-left (MeshRefused number place) n lent = take-append-drop n lent
 
-module _ (H : List ℤ) (P N : List Float) (F : List ℕ) (T C D : List Float) (n p : ℕ) (c : length C ≡ n) (d : length D ≡ n) where
+module _ (H : Halfedges) (P N : List Float) (F : List ℕ) (T C D : List Float) (n p : ℕ) (c : length C ≡ n) (d : length D ≡ n) where
   pub spread-tangents : (after rest : List Float) → after ≡ spread H P N F T C D n p → after ++ rest ≡ spreadTangents H P N F T n p ++ rest
   spread-tangents after rest e = rw (e, scratch-lengths H P N F T C D n p c d)
 
@@ -111,7 +111,7 @@ unfolding linesOf
 check-any (MarksValid valid) T T′ = refl
 check-any (MarksRefused number place) T T′ = refl
 
-pub check-shows : (H : List ℤ) (P T : List Float) (n p : ℕ) (r : Validity) (o : Output) (T′ : List Float) →
+pub check-shows : (H : Halfedges) (P T : List Float) (n p : ℕ) (r : Validity) (o : Output) (T′ : List Float) →
     o ≡ checkOutput r → r ≡ validAnswer H P T n p → Shows (checkLines H P T n p) n o T′
 unfolding checkLines
 check-shows H P T n p r o T′ e f =

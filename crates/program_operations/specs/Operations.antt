@@ -5,9 +5,9 @@ use mathlib.Core.List.{List, _++_}
 use mathlib.Core.Bool.{cond}
 use lib.ListN.{replicate, drop}
 use lib.Dec.{eqb}
-use lib.IntN.{ℤ}
 use lib.Ieee.{Float}
 use Rattle.float.specs.Ops.{zero}
+use Rattle.mesh.specs.Mesh.{Halfedges}
 use Rattle.mesh.specs.Check.{whenAccepted}
 use Rattle.mesh.specs.declared.Checked.{Checked}
 use Rattle.mesh.specs.declared.Checked.the-variants.{Accepted, Refused as MeshRefused}
@@ -28,7 +28,7 @@ abbrev pub straightenOutput : Checked → ℕ → Output
 straightenOutput Accepted n = Tangents n
 straightenOutput (MeshRefused number place) n = Refused number place
 
-unfoldable pub straightenLines : List ℤ → List Float → List Float → ℕ → ℕ → List ℕ
+unfoldable pub straightenLines : Halfedges → List Float → List Float → ℕ → ℕ → List ℕ
 straightenLines H P T n p = linesOf (straightenOutput (linearizeAnswer H P T n p) n) (straightened H P T n p)
 
 abbrev pub spreadOutput : Spreading → ℕ → Output
@@ -39,7 +39,7 @@ spreadOutput (SpreadRefused number place) n = Refused number place
 abbrev pub scratch : ℕ → List Float
 scratch n = replicate n zero
 
-unfoldable pub spreadLines : List ℤ → List Float → List Float → List ℕ → List Float → ℕ → ℕ → List ℕ
+unfoldable pub spreadLines : Halfedges → List Float → List Float → List ℕ → List Float → ℕ → ℕ → List ℕ
 spreadLines H P N X T n p =
     linesOf (spreadOutput (distributeTangents H P N X T (scratch n) (scratch n) n p) n) (spread H P N X T (scratch n) (scratch n) n p)
 
@@ -47,11 +47,11 @@ abbrev pub checkOutput : Validity → Output
 checkOutput (MarksValid valid) = Valid valid
 checkOutput (MarksRefused number place) = Refused number place
 
-unfoldable pub checkLines : List ℤ → List Float → List Float → ℕ → ℕ → List ℕ
+unfoldable pub checkLines : Halfedges → List Float → List Float → ℕ → ℕ → List ℕ
 checkLines H P T n p = linesOf (checkOutput (validAnswer H P T n p)) T
 
 -- 1 straighten, 2 spread, 3 check
-unfoldable pub operationLines : ℕ → List ℤ → List Float → List Float → List ℕ → List Float → ℕ → ℕ → List ℕ
+unfoldable pub operationLines : ℕ → Halfedges → List Float → List Float → List ℕ → List Float → ℕ → ℕ → List ℕ
 operationLines operation H P N X T n p =
     cond (eqb operation 1) (straightenLines H P T n p)
     (cond (eqb operation 2) (spreadLines H P N X T n p) (checkLines H P T n p))
@@ -59,25 +59,25 @@ operationLines operation H P N X T n p =
 -- ---- what the lists hold after an operation, for every input
 
 -- the tangents that straightening leaves, and spreading
-abbrev pub straightenTangents : List ℤ → List Float → List Float → ℕ → ℕ → List Float
+abbrev pub straightenTangents : Halfedges → List Float → List Float → ℕ → ℕ → List Float
 straightenTangents H P T n p = straightened H P T n p
 
-abbrev pub spreadTangents : List ℤ → List Float → List Float → List ℕ → List Float → ℕ → ℕ → List Float
+abbrev pub spreadTangents : Halfedges → List Float → List Float → List ℕ → List Float → ℕ → ℕ → List Float
 spreadTangents H P N X T n p = spread H P N X T (scratch n) (scratch n) n p
 
 -- the tangents that an operation leaves; the check changes none
-unfoldable pub operationTangents : ℕ → List ℤ → List Float → List Float → List ℕ → List Float → ℕ → ℕ → List Float
+unfoldable pub operationTangents : ℕ → Halfedges → List Float → List Float → List ℕ → List Float → ℕ → ℕ → List Float
 operationTangents operation H P N X T n p =
     cond (eqb operation 1) (straightenTangents H P T n p)
     (cond (eqb operation 2) (spreadTangents H P N X T n p) T)
 
 -- a scratch list that spreading is lent the front of: zeros there where it is accepted, else all as lent
-abbrev pub spreadScratch : List ℤ → List Float → List Float → List ℕ → List Float → ℕ → ℕ → List Float → List Float
+abbrev pub spreadScratch : Halfedges → List Float → List Float → List ℕ → List Float → ℕ → ℕ → List Float → List Float
 spreadScratch H P N X T n p lent =
     whenAccepted (checkLists H P N X T (scratch n) (scratch n) n p) (replicate n zero ++ drop n lent) lent
 
 -- a scratch list: the other operations are lent none
-unfoldable pub operationScratch : ℕ → List ℤ → List Float → List Float → List ℕ → List Float → ℕ → ℕ → List Float → List Float
+unfoldable pub operationScratch : ℕ → Halfedges → List Float → List Float → List ℕ → List Float → ℕ → ℕ → List Float → List Float
 operationScratch operation H P N X T n p lent = cond (eqb operation 2) (spreadScratch H P N X T n p lent) lent
 
 -- ---- what the functions ask of their lists, and what they answer

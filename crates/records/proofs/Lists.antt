@@ -1,7 +1,7 @@
 -- The laws of the room in the lists. Assumes nothing.
 use Prim.Native.Nat.{ℕ, _*_, _≤_}
-use mathlib.Core.Path.{_≡_, refl}
-use mathlib.Core.Bool.{Bool, true, false, _&&_}
+use mathlib.Core.Path.{_≡_}
+use mathlib.Core.Bool.{true}
 use borrow.Author.Tests.{le-leb, leb-true}
 use lib.Dec.{leb}
 use Rattle.common.proofs.Tests.{and-true}

@@ -1,4 +1,5 @@
 // Leaves over the faces of a mesh: `flat_faces`, `vert_flat_face` and `vert_halfedge`.
+ghost use Rattle.mesh.specs.Mesh.{asHalfedges};
 ghost use Rattle.replay_mesh_faces.specs.Points.{Points};
 use create_shared::FlatFace;
 use mesh::Checked;
@@ -58,7 +59,7 @@ fn flat_all(
     points: &mut [usize],
     p: usize,
 ) -> bool
-    requires { ⌜ Points (now h) (now flat) (now points) p ⌝ }
+    requires { ⌜ Points (asHalfedges (now h)) (now flat) (now points) p ⌝ }
 {
     let triangles = flat.len() / 3;
     create_shared::flat_faces(h, refs, flat);
@@ -79,7 +80,7 @@ fn points_all(
     points: &mut [usize],
     p: usize,
 ) -> bool
-    requires { ⌜ Points (now h) (now flat) (now points) p ⌝ }
+    requires { ⌜ Points (asHalfedges (now h)) (now flat) (now points) p ⌝ }
 {
     create_shared::vert_flat_face(h, refs, flat, points);
     if !same_faces(s, at, points) {

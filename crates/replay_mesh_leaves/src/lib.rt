@@ -1,4 +1,5 @@
 // Leaves over a mesh: `tangent_from_normal`, `is_inside_quad` and `is_marked_inside_quad`.
+ghost use Rattle.mesh.specs.Mesh.{asHalfedges};
 ghost use Rattle.replay_mesh_leaves.specs.Lists.{NormalLists, QuadLists};
 use linalg::Vec4;
 use mesh::Checked;
@@ -25,7 +26,7 @@ fn tfn_all(
     n: usize,
     p: usize,
 ) -> bool
-    requires { ⌜ NormalLists (now h) (now pos) (now normals) (now own) n p ⌝ }
+    requires { ⌜ NormalLists (asHalfedges (now h)) (now pos) (now normals) (now own) n p ⌝ }
 {
     let mut from = replay::after(at, 4);
     for e in 0..n {
@@ -106,7 +107,7 @@ fn inside_all(
     n: usize,
     p: usize,
 ) -> bool
-    requires { ⌜ QuadLists (now h) (now t) n p ⌝ }
+    requires { ⌜ QuadLists (asHalfedges (now h)) (now t) n p ⌝ }
 {
     for e in 0..n {
         let inside = smoothing::is_inside_quad(h, refs, t, old, e);
@@ -119,7 +120,7 @@ fn inside_all(
 
 // Is it marked?
 fn marked_all(s: &[u8], at: usize, h: &[i32], t: &[f64], n: usize, p: usize) -> bool
-    requires { ⌜ QuadLists (now h) (now t) n p ⌝ }
+    requires { ⌜ QuadLists (asHalfedges (now h)) (now t) n p ⌝ }
 {
     for e in 0..n {
         let marked = smoothing::is_marked_inside_quad(t, e);

@@ -8,12 +8,12 @@ use mathlib.Core.Logic.{_≢_}
 use mathlib.Core.Bool.{Bool, true, false, cond}
 use lib.ListN.{getD}
 use lib.Seq.{getD-set-other}
-use lib.IntN.{ℤ}
 use lib.Ieee.{Float, nan, ofBits, ne, lt}
 use Rattle.float.specs.Ops.{lit}
 use Rattle.float.specs.F64.{maxOf}
 use Rattle.common.specs.Fold.{foldTo}
 use Rattle.common.proofs.Fold.{fold-keeps}
+use Rattle.mesh.specs.Mesh.{Halfedges}
 use Rattle.sharpen.specs.Crease.{minRadians}
 use Rattle.sharpen.specs.Entries.{Entries, entriesIn, pushEntry, pushEdge, listEdge, listEdges, countBelow}
 
@@ -29,7 +29,7 @@ module _ (E : List ℕ) (S : List Float) where
       let past : k ≢ s .count = λ q. omega arith in
       (getD-set-other (s .halfedges) _ k e 0 past ∙ old .0, getD-set-other (s .smoothness) _ k smooth nan past ∙ old .1)
 
-  module _ (H : List ℤ) (crease : ℕ → Bool) (smooth : Float) where
+  module _ (H : Halfedges) (crease : ℕ → Bool) (smooth : Float) where
     -- the entries are twice the edges listed
     pub entries-twice : (n : ℕ) → listEdges H crease smooth (entriesIn E S 0) n .count ≡ 2 * countBelow crease n
     unfolding foldTo listEdge pushEdge pushEntry countBelow

@@ -9,7 +9,7 @@ use Rattle.float.specs.F64.{maxOf, clampOf}
 use Rattle.math.specs.Kernels.{absHighWord, signBit}
 use Rattle.math.specs.Acos.{acosBeyond, acosOf}
 use Rattle.linalg.specs.Vec.{dotOf}
-use Rattle.mesh.specs.Mesh.{numberAt, indexOf, field, nextHalfedge}
+use Rattle.mesh.specs.Mesh.{numberAt, indexOf, field, asHalfedges, nextHalfedge}
 use Rattle.mesh.specs.Lowest.{lowest}
 use Rattle.common.specs.Fold.{foldTo}
 use Rattle.common.specs.Pillow.{pillow}
@@ -38,24 +38,24 @@ halves = half ∷ half ∷ half ∷ half ∷ half ∷ half ∷ []
 
 -- what the cases compute with
 unfoldable all : Unit {0}
-unfolding Ieee.ofBits Ieee.toBits Ieee.neg Ieee.add Ieee.mul Ieee.div Ieee.ne Ieee.lt maxOf clampOf absHighWord signBit acosBeyond acosOf dotOf numberAt indexOf field nextHalfedge lowest foldTo radiansOf checkMesh pointAt minRadians dihedralOf isCrease pushEntry pushEdge listEdge countBelow
+unfolding Ieee.ofBits Ieee.toBits Ieee.neg Ieee.add Ieee.mul Ieee.div Ieee.ne Ieee.lt maxOf clampOf absHighWord signBit acosBeyond acosOf dotOf numberAt indexOf field asHalfedges nextHalfedge lowest foldTo radiansOf checkMesh pointAt minRadians dihedralOf isCrease pushEntry pushEdge listEdge countBelow
 all = tt
 
 -- each edge is listed, its forward halfedge first
-pub all-listed : (sharpenEdges pillow opposite nan half places zeros 6 3 ≡ Listed 6 3) × (entriesAfter pillow opposite nan half places zeros 6 3 ≡ entriesIn (0 ∷ 5 ∷ 1 ∷ 4 ∷ 3 ∷ 2 ∷ []) halves 6)
+pub all-listed : (sharpenEdges (asHalfedges pillow) opposite nan half places zeros 6 3 ≡ Listed 6 3) × (entriesAfter (asHalfedges pillow) opposite nan half places zeros 6 3 ≡ entriesIn (0 ∷ 5 ∷ 1 ∷ 4 ∷ 3 ∷ 2 ∷ []) halves 6)
 unfolding all
 all-listed = (refl, refl)
 
-pub none-listed : (sharpenEdges pillow same nan half places zeros 6 3 ≡ Listed 0 0) × (entriesAfter pillow same nan half places zeros 6 3 ≡ entriesIn places zeros 0)
+pub none-listed : (sharpenEdges (asHalfedges pillow) same nan half places zeros 6 3 ≡ Listed 0 0) × (entriesAfter (asHalfedges pillow) same nan half places zeros 6 3 ≡ entriesIn places zeros 0)
 unfolding all
 none-listed = (refl, refl)
 
 -- at 180 degrees the angle is the limit, and not above it
-pub at-limit : sharpenEdges pillow opposite (lit 0x4066_8000_0000_0000) half places zeros 6 3 ≡ Listed 0 0
+pub at-limit : sharpenEdges (asHalfedges pillow) opposite (lit 0x4066_8000_0000_0000) half places zeros 6 3 ≡ Listed 0 0
 unfolding all
 at-limit = refl
 
 -- a list without its length
-pub refused : (sharpenEdges pillow opposite nan half [] zeros 6 3 ≡ Refused 2 0) × (entriesAfter pillow opposite nan half [] zeros 6 3 ≡ entriesIn [] zeros 0)
+pub refused : (sharpenEdges (asHalfedges pillow) opposite nan half [] zeros 6 3 ≡ Refused 2 0) × (entriesAfter (asHalfedges pillow) opposite nan half [] zeros 6 3 ≡ entriesIn [] zeros 0)
 unfolding all
 refused = (refl, refl)

@@ -5,10 +5,9 @@ use mathlib.Core.Path.{_≡_, ap, _∙_}
 use mathlib.Core.List.{List}
 use mathlib.Core.Bool.{true, false, not}
 use lib.ListN.{length}
-use lib.IntN.{ℤ}
 use lib.Ieee.{Float}
 use borrow.Author.Tests.{eqb-true}
-use Rattle.mesh.specs.Mesh.{pairedHalfedge, isForward}
+use Rattle.mesh.specs.Mesh.{pairedHalfedge, isForward, Halfedges}
 use Rattle.mesh.specs.Sound.{Sound}
 use Rattle.mesh.specs.declared.Checked.the-variants.{Accepted}
 use Rattle.common.proofs.Tests.{and-true}
@@ -21,7 +20,7 @@ use Rattle.sharpen.specs.Sharpen.{lengthsFit, checkLists, Lists, EdgeFit
 use Rattle.sharpen.proofs.Listed.{entries-twice}
 use Rattle.sharpen.proofs.Count.{count-half, count-room}
 
-module _ {H : List ℤ} {n p : ℕ} (A : List Float) (limit : Float) (s : Sound H n p) where
+module _ {H : Halfedges} {n p : ℕ} (A : List Float) (limit : Float) (s : Sound H n p) where
   -- of the two halfedges of an edge only the forward one is asked
   other-side : (e : ℕ) → e < n → isCrease H A limit e ≡ true → isCrease H A limit (pairedHalfedge H e) ≡ false
   unfolding isCrease
@@ -40,7 +39,7 @@ module _ {H : List ℤ} {n p : ℕ} (A : List Float) (limit : Float) (s : Sound 
   entries-room : (e : ℕ) → e < n → isCrease H A limit e ≡ true → 2 * countBelow (isCrease H A limit) e + 2 ≤ n
   entries-room = count-room (λ e. pairedHalfedge H e) n (isCrease H A limit) (s .paired-below) (paired-injective s) other-side
 
-module _ (H : List ℤ) (A : List Float) (E : List ℕ) (S : List Float) (n p : ℕ) where
+module _ (H : Halfedges) (A : List Float) (E : List ℕ) (S : List Float) (n p : ℕ) where
   pub lists-checked : checkLists H A E S n p ≡ Accepted → Lists H A E S n p
   lists-checked a =
       let b = accepted H n p (lengthsFit H A E S n) a in

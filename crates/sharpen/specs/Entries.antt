@@ -3,9 +3,8 @@ use Prim.Native.Nat.{ℕ, zero, suc, _+_}
 use mathlib.Core.List.{List}
 use mathlib.Core.Bool.{Bool, cond}
 use lib.ListN.{set}
-use lib.IntN.{ℤ}
 use lib.Ieee.{Float}
-use Rattle.mesh.specs.Mesh.{pairedHalfedge}
+use Rattle.mesh.specs.Mesh.{pairedHalfedge, Halfedges}
 use Rattle.common.specs.Fold.{foldTo}
 
 -- the lists, and the number of entries so far
@@ -26,15 +25,15 @@ pushEntry s e smooth = record {
 }
 
 -- halfedge e, then its pair
-unfoldable pub pushEdge : List ℤ → Float → Entries → ℕ → Entries
+unfoldable pub pushEdge : Halfedges → Float → Entries → ℕ → Entries
 pushEdge H smooth s e = pushEntry (pushEntry s e smooth) (pairedHalfedge H e) smooth
 
 -- one turn of the Rust's loop
-unfoldable pub listEdge : List ℤ → (ℕ → Bool) → Float → Entries → ℕ → Entries
+unfoldable pub listEdge : Halfedges → (ℕ → Bool) → Float → Entries → ℕ → Entries
 listEdge H crease smooth s e = cond (crease e) (pushEdge H smooth s e) s
 
 -- the loop over n halfedges
-abbrev pub listEdges : List ℤ → (ℕ → Bool) → Float → Entries → ℕ → Entries
+abbrev pub listEdges : Halfedges → (ℕ → Bool) → Float → Entries → ℕ → Entries
 listEdges H crease smooth s n = foldTo (listEdge H crease smooth) s n
 
 -- how many of the numbers below n pass the test t

@@ -4,9 +4,8 @@ use mathlib.Core.Path.{_≡_}
 use mathlib.Core.List.{List}
 use mathlib.Core.Bool.{Bool, true, _&&_}
 use lib.ListN.{length}
-use lib.IntN.{ℤ}
 use lib.Ieee.{Float}
-use Rattle.mesh.specs.Mesh.{halfedgeStride}
+use Rattle.mesh.specs.Mesh.{halfedgeStride, Halfedges}
 use Rattle.mesh.specs.Questions.{hasLength}
 use Rattle.mesh.specs.Check as mesh
 use Rattle.mesh.specs.Check.{checkMesh, whenAccepted}
@@ -42,25 +41,25 @@ tallyOf (RefusedListing number place) = 0
 -- ---- the questions
 
 -- question 2 of the lists that the call is lent
-abbrev pub lengthsFit : List ℤ → List Float → List ℕ → List Float → ℕ → Bool
+abbrev pub lengthsFit : Halfedges → List Float → List ℕ → List Float → ℕ → Bool
 lengthsFit H A I Q n =
-    hasLength (length H) n halfedgeStride && hasLength (length A) (n / 3) 3
+    hasLength (H .numbers) n halfedgeStride && hasLength (length A) (n / 3) 3
     && (hasLength (length I) n 1 && hasLength (length Q) n 1)
 
 -- questions 1 to 7
-abbrev pub checkLists : List ℤ → List Float → List ℕ → List Float → ℕ → ℕ → Checked
+abbrev pub checkLists : Halfedges → List Float → List ℕ → List Float → ℕ → ℕ → Checked
 checkLists H A I Q n p = checkMesh H n p (lengthsFit H A I Q n)
 
 -- what they establish
-pub record Lists (H : List ℤ) (A : List Float) (I : List ℕ) (Q : List Float) (n p : ℕ) : Type 0 where
+pub record Lists (H : Halfedges) (A : List Float) (I : List ℕ) (Q : List Float) (n p : ℕ) : Type 0 where
   pub sound : Sound H n p
-  pub whole : length H ≡ n * halfedgeStride
+  pub whole : H .numbers ≡ n * halfedgeStride
   pub normals : length A ≡ n / 3 * 3
   pub halfedges : length I ≡ n
   pub smoothness : length Q ≡ n
 
 -- what one turn of the loop needs, after k entries: normals at halfedge e, and room for two entries more where its edge is listed
-pub record EdgeFits (H : List ℤ) (A : List Float) (limit : Float) (e k : ℕ) (I : List ℕ) (Q : List Float) : Type 0 where
+pub record EdgeFits (H : Halfedges) (A : List Float) (limit : Float) (e k : ℕ) (I : List ℕ) (Q : List Float) : Type 0 where
   pub normals : NormalsIn H A e
   pub halfedges : isCrease H A limit e ≡ true → k + 2 ≤ length I
   pub smoothness : isCrease H A limit e ≡ true → k + 2 ≤ length Q
@@ -68,11 +67,11 @@ pub record EdgeFits (H : List ℤ) (A : List Float) (limit : Float) (e k : ℕ) 
 -- ---- the call
 
 -- the lists with the entries of an accepted mesh
-abbrev pub creases : List ℤ → List Float → Float → Float → List ℕ → List Float → ℕ → Entries
+abbrev pub creases : Halfedges → List Float → Float → Float → List ℕ → List Float → ℕ → Entries
 creases H A angle smooth I Q n = listEdges H (isCrease H A (minRadians angle)) smooth (entriesIn I Q 0) n
 
 -- the crease tally: the number of edges that are listed
-abbrev pub creaseTally : List ℤ → List Float → Float → ℕ → ℕ
+abbrev pub creaseTally : Halfedges → List Float → Float → ℕ → ℕ
 creaseTally H A angle n = countBelow (isCrease H A (minRadians angle)) n
 
 abbrev pub answerOf : Checked → ℕ → ℕ → Listing
@@ -80,11 +79,11 @@ answerOf Accepted entries tally = Listed entries tally
 answerOf (Refused number place) entries tally = RefusedListing number place
 
 -- the answer of `sharpen_edges`
-abbrev pub sharpenEdges : List ℤ → List Float → Float → Float → List ℕ → List Float → ℕ → ℕ → Listing
+abbrev pub sharpenEdges : Halfedges → List Float → Float → Float → List ℕ → List Float → ℕ → ℕ → Listing
 sharpenEdges H A angle smooth I Q n p = answerOf (checkLists H A I Q n p) (creases H A angle smooth I Q n .count) (creaseTally H A angle n)
 
 -- the lists after it: as lent where it refuses
-abbrev pub entriesAfter : List ℤ → List Float → Float → Float → List ℕ → List Float → ℕ → ℕ → Entries
+abbrev pub entriesAfter : Halfedges → List Float → Float → Float → List ℕ → List Float → ℕ → ℕ → Entries
 entriesAfter H A angle smooth I Q n p = whenAccepted (checkLists H A I Q n p) (creases H A angle smooth I Q n) (entriesIn I Q 0)
 
 -- what the definitions give of an answer `r`, after the answer `checked` of the questions, where `listed` are the entries of the listing and `edges` is its tally: number, place, entries and tally; and that the tally is half of the entries

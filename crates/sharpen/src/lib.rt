@@ -3,6 +3,7 @@
 ghost use mathlib.Core.Path.{_≡_};
 ghost use Prim.Native.Nat.{_+_, _≤_};
 ghost use lib.ListN.{length};
+ghost use Rattle.mesh.specs.Mesh.{asHalfedges};
 ghost use Rattle.mesh.specs.Inside.{Inside};
 ghost use Rattle.smoothing.specs.Edges.{NormalsIn};
 ghost use Rattle.sharpen.specs.Crease.{minRadians, dihedralOf, isCrease};
@@ -74,8 +75,8 @@ fn min_radians(angle: f64) -> f64
 
 // The angle between the normals of the two triangles at halfedge e.
 fn dihedral(h: &[i32], normals: &[f64], e: usize) -> f64
-    requires { ⌜ NormalsIn (now h) (now normals) e ⌝ }
-    ensures { λ r. ⌜ r ≡ dihedralOf (now (h .entry)) (now (normals .entry)) e ⌝ }
+    requires { ⌜ NormalsIn (asHalfedges (now h)) (now normals) e ⌝ }
+    ensures { λ r. ⌜ r ≡ dihedralOf (asHalfedges (now (h .entry))) (now (normals .entry)) e ⌝ }
 {
     let pair = mesh::paired_halfedge(h, e);
     let d = linalg::dot(
@@ -87,8 +88,8 @@ fn dihedral(h: &[i32], normals: &[f64], e: usize) -> f64
 
 // Is the edge of halfedge e listed, with e before its pair? Of its two halfedges the forward one says so.
 fn is_crease(h: &[i32], normals: &[f64], limit: f64, e: usize) -> bool
-    requires { ⌜ NormalsIn (now h) (now normals) e ⌝ }
-    ensures { λ r. ⌜ r ≡ isCrease (now (h .entry)) (now (normals .entry)) limit e ⌝ }
+    requires { ⌜ NormalsIn (asHalfedges (now h)) (now normals) e ⌝ }
+    ensures { λ r. ⌜ r ≡ isCrease (asHalfedges (now (h .entry))) (now (normals .entry)) limit e ⌝ }
 {
     if !mesh::is_forward(h, e) {
         return false;
@@ -105,8 +106,8 @@ fn push_edge(
     halfedges: &mut [usize],
     smoothness: &mut [f64],
 ) -> usize
-    requires { ⌜ Inside (now h) e × (entries + 2 ≤ length (now halfedges)) × (entries + 2 ≤ length (now smoothness)) ⌝ }
-    ensures { λ r. ⌜ entriesIn (now (halfedges .exit)) (now (smoothness .exit)) r ≡ pushEdge (now (h .entry)) smooth (entriesIn (now (halfedges .entry)) (now (smoothness .entry)) entries) e ⌝ }
+    requires { ⌜ Inside (asHalfedges (now h)) e × (entries + 2 ≤ length (now halfedges)) × (entries + 2 ≤ length (now smoothness)) ⌝ }
+    ensures { λ r. ⌜ entriesIn (now (halfedges .exit)) (now (smoothness .exit)) r ≡ pushEdge (asHalfedges (now (h .entry))) smooth (entriesIn (now (halfedges .entry)) (now (smoothness .entry)) entries) e ⌝ }
 {
     let pair = mesh::paired_halfedge(h, e);
     halfedges[entries] = e;
@@ -127,8 +128,8 @@ fn list_edge(
     halfedges: &mut [usize],
     smoothness: &mut [f64],
 ) -> usize
-    requires { ⌜ EdgeFits (now h) (now normals) limit e entries (now halfedges) (now smoothness) ⌝ }
-    ensures { λ r. ⌜ entriesIn (now (halfedges .exit)) (now (smoothness .exit)) r ≡ listEdge (now (h .entry)) (isCrease (now (h .entry)) (now (normals .entry)) limit) smooth (entriesIn (now (halfedges .entry)) (now (smoothness .entry)) entries) e ⌝ }
+    requires { ⌜ EdgeFits (asHalfedges (now h)) (now normals) limit e entries (now halfedges) (now smoothness) ⌝ }
+    ensures { λ r. ⌜ entriesIn (now (halfedges .exit)) (now (smoothness .exit)) r ≡ listEdge (asHalfedges (now (h .entry))) (isCrease (asHalfedges (now (h .entry))) (now (normals .entry)) limit) smooth (entriesIn (now (halfedges .entry)) (now (smoothness .entry)) entries) e ⌝ }
 {
     if !is_crease(h, normals, limit, e) {
         return entries;
@@ -147,8 +148,8 @@ fn list_edges(
     halfedges: &mut [usize],
     smoothness: &mut [f64],
 ) -> usize
-    requires { ⌜ Lists (now h) (now normals) (now halfedges) (now smoothness) n p ⌝ }
-    ensures { λ r. ⌜ entriesIn (now (halfedges .exit)) (now (smoothness .exit)) r ≡ listEdges (now (h .entry)) (isCrease (now (h .entry)) (now (normals .entry)) limit) smooth (entriesIn (now (halfedges .entry)) (now (smoothness .entry)) 0) n ⌝ }
+    requires { ⌜ Lists (asHalfedges (now h)) (now normals) (now halfedges) (now smoothness) n p ⌝ }
+    ensures { λ r. ⌜ entriesIn (now (halfedges .exit)) (now (smoothness .exit)) r ≡ listEdges (asHalfedges (now (h .entry))) (isCrease (asHalfedges (now (h .entry))) (now (normals .entry)) limit) smooth (entriesIn (now (halfedges .entry)) (now (smoothness .entry)) 0) n ⌝ }
 {
     let mut entries: usize = 0;
     for e in 0..n {
@@ -165,7 +166,7 @@ fn lengths_fit(
     halfedges: &[usize],
     smoothness: &[f64],
 ) -> bool
-    ensures { λ r. ⌜ r ≡ lengthsFit (now (h .entry)) (now (normals .entry)) (now (halfedges .entry)) (now (smoothness .entry)) n ⌝ }
+    ensures { λ r. ⌜ r ≡ lengthsFit (asHalfedges (now (h .entry))) (now (normals .entry)) (now (halfedges .entry)) (now (smoothness .entry)) n ⌝ }
 {
     common::both(
         common::both(
@@ -193,10 +194,10 @@ pub fn sharpen_edges(
     halfedges: &mut [usize],
     smoothness: &mut [f64],
 ) -> Listing
-    ensures answer { λ r. ⌜ r ≡ sharpenEdges (now (h .entry)) (now (normals .entry)) angle smooth (now (halfedges .entry)) (now (smoothness .entry)) n p ⌝ }
-    ensures listed { λ r. ⌜ now (halfedges .exit) ≡ entriesAfter (now (h .entry)) (now (normals .entry)) angle smooth (now (halfedges .entry)) (now (smoothness .entry)) n p .halfedges ⌝ }
-    ensures copied { λ r. ⌜ now (smoothness .exit) ≡ entriesAfter (now (h .entry)) (now (normals .entry)) angle smooth (now (halfedges .entry)) (now (smoothness .entry)) n p .smoothness ⌝ }
-    ensures values { λ r. ⌜ Values (checkLists (now (h .entry)) (now (normals .entry)) (now (halfedges .entry)) (now (smoothness .entry)) n p) (creases (now (h .entry)) (now (normals .entry)) angle smooth (now (halfedges .entry)) (now (smoothness .entry)) n) (creaseTally (now (h .entry)) (now (normals .entry)) angle n) r ⌝ }
+    ensures answer { λ r. ⌜ r ≡ sharpenEdges (asHalfedges (now (h .entry))) (now (normals .entry)) angle smooth (now (halfedges .entry)) (now (smoothness .entry)) n p ⌝ }
+    ensures listed { λ r. ⌜ now (halfedges .exit) ≡ entriesAfter (asHalfedges (now (h .entry))) (now (normals .entry)) angle smooth (now (halfedges .entry)) (now (smoothness .entry)) n p .halfedges ⌝ }
+    ensures copied { λ r. ⌜ now (smoothness .exit) ≡ entriesAfter (asHalfedges (now (h .entry))) (now (normals .entry)) angle smooth (now (halfedges .entry)) (now (smoothness .entry)) n p .smoothness ⌝ }
+    ensures values { λ r. ⌜ Values (checkLists (asHalfedges (now (h .entry))) (now (normals .entry)) (now (halfedges .entry)) (now (smoothness .entry)) n p) (creases (asHalfedges (now (h .entry))) (now (normals .entry)) angle smooth (now (halfedges .entry)) (now (smoothness .entry)) n) (creaseTally (asHalfedges (now (h .entry))) (now (normals .entry)) angle n) r ⌝ }
 {
     let checked = mesh::check_mesh(h, n, p, lengths_fit(n, h, normals, halfedges, smoothness));
     let Checked::Accepted = checked else {

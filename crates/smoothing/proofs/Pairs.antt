@@ -7,7 +7,7 @@ use borrow.Author.Tests.{eqb-true, eqb-false, eq-eqb, ne-eqb}
 use lib.IntN.{ℤ, pos, negsuc}
 use lib.Dec.{eqb}
 use lib.Ieee.{Float}
-use Rattle.mesh.specs.Mesh.{pairedHalfedge, eqZ, refAt, sameFace}
+use Rattle.mesh.specs.Mesh.{pairedHalfedge, eqZ, refAt, sameFace, Halfedges}
 use Rattle.mesh.specs.Sound.{Sound}
 use Rattle.smoothing.specs.Edges.{sameFaceAcross, noOtherNeighbor, isInsideQuad}
 
@@ -41,7 +41,7 @@ and-flip true false true = refl
 and-flip true false false = refl
 and-flip false a b = refl
 
-pub inside-pair : (H R : List ℤ) (n p : ℕ) (T : List Float) → Sound H n p → (e : ℕ) → e < n → isInsideQuad H R T false (pairedHalfedge H e) ≡ isInsideQuad H R T false e
+pub inside-pair : (H : Halfedges) (R : List ℤ) (n p : ℕ) (T : List Float) → Sound H n p → (e : ℕ) → e < n → isInsideQuad H R T false (pairedHalfedge H e) ≡ isInsideQuad H R T false e
 unfolding isInsideQuad sameFaceAcross
 inside-pair H R n p T s e h =
     rw (s .paired-back e h, face-flip R (pairedHalfedge H e / 3) (e / 3))

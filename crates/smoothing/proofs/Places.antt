@@ -6,10 +6,9 @@ use mathlib.Core.List.{List}
 use mathlib.Core.Bool.{Bool, true, false, cond, not}
 use borrow.Author.Tests.{eqb-true, eqb-false}
 use lib.ListN.{length}
-use lib.IntN.{ℤ}
 use lib.Dec.{eqb}
 use lib.Ieee.{Float}
-use Rattle.mesh.specs.Mesh.{pairedHalfedge, isForward}
+use Rattle.mesh.specs.Mesh.{pairedHalfedge, isForward, Halfedges}
 use Rattle.common.specs.Fold.{foldTo}
 use Rattle.mesh.specs.Sound.{Sound}
 use Rattle.mesh.proofs.Pairs.{one-forward}
@@ -64,7 +63,7 @@ module _ {S W : Type 0} {put : S → ℕ → W → S} {get : S → ℕ → W} {W
 
   -- ---- edge by edge
 
-  module _ {H : List ℤ} {p : ℕ} (sound : Sound H n p) where
+  module _ {H : Halfedges} {p : ℕ} (sound : Sound H n p) where
     both-turn : (s : S) (k x : ℕ) → Whole s → k < n → ((x ≡ k → ⊥) → (x ≡ pairedHalfedge H k → ⊥) → get s x ≡ v x) → get (each (each s k) (pairedHalfedge H k)) x ≡ v x
     both-turn s k x w h before =
         each-turn (each s k) (pairedHalfedge H k) x (places .whole-put s k (v k) w) (sound .paired-below k h)

@@ -3,6 +3,7 @@
 ghost use mathlib.Core.Path.{_≡_};
 ghost use Prim.Native.Nat.{_+_, _*_, _≤_};
 ghost use lib.ListN.{length};
+ghost use Rattle.mesh.specs.Mesh.{asHalfedges};
 ghost use Rattle.mesh.specs.Inside.{Inside};
 ghost use Rattle.smoothing.specs.Directions.{vec3FromVec4, isDegenerate, directionBy, safeNormalize, wrapOf, angleBetween, equalNormals, equalUnits, circularTangent};
 ghost use Rattle.smoothing.specs.Lists.{pointAt, tangentAt, putTangent, weightAt, isMarkedInsideQuad};
@@ -202,8 +203,8 @@ pub fn is_marked_inside_quad(t: &[f64], e: usize) -> bool
 
 // The end of halfedge e minus its start.
 pub fn edge_vec(h: &[i32], pos: &[f64], e: usize) -> Vec3
-    requires { ⌜ EdgeIn (now h) (now pos) e ⌝ }
-    ensures { λ r. ⌜ r ≡ edgeVec (now (h .entry)) (now (pos .entry)) e ⌝ }
+    requires { ⌜ EdgeIn (asHalfedges (now h)) (now pos) e ⌝ }
+    ensures { λ r. ⌜ r ≡ edgeVec (asHalfedges (now (h .entry))) (now (pos .entry)) e ⌝ }
 {
     linalg::sub(
         point_at(pos, mesh::end_vert(h, e)),
@@ -223,8 +224,8 @@ fn bi_tangent(normal: Vec3, edge_normal: Vec3, edge_vec: Vec3) -> Vec3
 
 // The sum of the normals of the triangles at halfedge e.
 fn edge_normal(h: &[i32], face_normals: &[f64], e: usize) -> Vec3
-    requires { ⌜ NormalsIn (now h) (now «face_normals») e ⌝ }
-    ensures { λ r. ⌜ r ≡ edgeNormal (now (h .entry)) (now («face_normals» .entry)) e ⌝ }
+    requires { ⌜ NormalsIn (asHalfedges (now h)) (now «face_normals») e ⌝ }
+    ensures { λ r. ⌜ r ≡ edgeNormal (asHalfedges (now (h .entry))) (now («face_normals» .entry)) e ⌝ }
 {
     let pair = mesh::paired_halfedge(h, e);
     linalg::add(
@@ -241,8 +242,8 @@ pub fn direction_from_normal(
     edge: Vec3,
     e: usize,
 ) -> Vec3
-    requires { ⌜ NormalsIn (now h) (now «face_normals») e ⌝ }
-    ensures { λ r. ⌜ r ≡ directionFromNormal (now (h .entry)) (now («face_normals» .entry)) normal edge e ⌝ }
+    requires { ⌜ NormalsIn (asHalfedges (now h)) (now «face_normals») e ⌝ }
+    ensures { λ r. ⌜ r ≡ directionFromNormal (asHalfedges (now (h .entry))) (now («face_normals» .entry)) normal edge e ⌝ }
 {
     let bi = bi_tangent(normal, edge_normal(h, face_normals, e), edge);
     linalg::cross(bi, normal)
@@ -255,8 +256,8 @@ pub fn tangent_from_normal(
     normal: Vec3,
     e: usize,
 ) -> Vec4
-    requires { ⌜ FacesIn (now h) (now pos) (now «face_normals») e ⌝ }
-    ensures { λ r. ⌜ r ≡ tangentFromNormal (now (h .entry)) (now (pos .entry)) (now («face_normals» .entry)) normal e ⌝ }
+    requires { ⌜ FacesIn (asHalfedges (now h)) (now pos) (now «face_normals») e ⌝ }
+    ensures { λ r. ⌜ r ≡ tangentFromNormal (asHalfedges (now (h .entry))) (now (pos .entry)) (now («face_normals» .entry)) normal e ⌝ }
 {
     let edge = edge_vec(h, pos, e);
     circular_tangent(
@@ -268,8 +269,8 @@ pub fn tangent_from_normal(
 // The edges of halfedge e and of its pair. Each is a difference: where two coordinates are the same both are +0, and the negative
 // of one would be -0.
 fn edge_vecs(h: &[i32], pos: &[f64], e: usize) -> EdgeVecs
-    requires { ⌜ EdgesIn (now h) (now pos) e ⌝ }
-    ensures { λ r. ⌜ r ≡ edgeVecs (now (h .entry)) (now (pos .entry)) e ⌝ }
+    requires { ⌜ EdgesIn (asHalfedges (now h)) (now pos) e ⌝ }
+    ensures { λ r. ⌜ r ≡ edgeVecs (asHalfedges (now (h .entry))) (now (pos .entry)) e ⌝ }
 {
     let end = point_at(pos, mesh::end_vert(h, e));
     let start = point_at(pos, mesh::start_vert(h, e));
@@ -297,8 +298,8 @@ pub fn tangents_from_normals(
     b: Vec3,
     e: usize,
 ) -> TwoTangents
-    requires { ⌜ PairIn (now h) (now pos) (now «face_normals») e ⌝ }
-    ensures { λ r. ⌜ r ≡ tangentsFromNormals (now (h .entry)) (now (pos .entry)) (now («face_normals» .entry)) a b e ⌝ }
+    requires { ⌜ PairIn (asHalfedges (now h)) (now pos) (now «face_normals») e ⌝ }
+    ensures { λ r. ⌜ r ≡ tangentsFromNormals (asHalfedges (now (h .entry))) (now (pos .entry)) (now («face_normals» .entry)) a b e ⌝ }
 {
     let edges = edge_vecs(h, pos, e);
     let normal = edge_normal(h, face_normals, e);
@@ -311,16 +312,16 @@ pub fn tangents_from_normals(
 
 // Is the triangle across halfedge e of triangle t's face?
 fn same_face_across(h: &[i32], refs: &[i32], e: usize, t: usize) -> bool
-    requires { ⌜ Inside (now h) e ⌝ }
-    ensures { λ r. ⌜ r ≡ sameFaceAcross (now (h .entry)) (now (refs .entry)) e t ⌝ }
+    requires { ⌜ Inside (asHalfedges (now h)) e ⌝ }
+    ensures { λ r. ⌜ r ≡ sameFaceAcross (asHalfedges (now (h .entry))) (now (refs .entry)) e t ⌝ }
 {
     mesh::same_face(refs, t, mesh::paired_halfedge(h, e) / 3)
 }
 
 // Has neither of the other two halfedges of e's triangle its face across?
 fn no_other_neighbor(h: &[i32], refs: &[i32], e: usize) -> bool
-    requires { ⌜ TriangleIn (now h) e ⌝ }
-    ensures { λ r. ⌜ r ≡ noOtherNeighbor (now (h .entry)) (now (refs .entry)) e ⌝ }
+    requires { ⌜ TriangleIn (asHalfedges (now h)) e ⌝ }
+    ensures { λ r. ⌜ r ≡ noOtherNeighbor (asHalfedges (now (h .entry))) (now (refs .entry)) e ⌝ }
 {
     let next = mesh::next_halfedge(e);
     if same_face_across(h, refs, next, e / 3) {
@@ -331,8 +332,8 @@ fn no_other_neighbor(h: &[i32], refs: &[i32], e: usize) -> bool
 
 // `old` says whether old tangents exist: their weights decide, else the face references.
 pub fn is_inside_quad(h: &[i32], refs: &[i32], t: &[f64], old: bool, e: usize) -> bool
-    requires { ⌜ InsideQuadIn (now h) (now t) e ⌝ }
-    ensures { λ r. ⌜ r ≡ isInsideQuad (now (h .entry)) (now (refs .entry)) (now (t .entry)) old e ⌝ }
+    requires { ⌜ InsideQuadIn (asHalfedges (now h)) (now t) e ⌝ }
+    ensures { λ r. ⌜ r ≡ isInsideQuad (asHalfedges (now (h .entry))) (now (refs .entry)) (now (t .entry)) old e ⌝ }
 {
     if old {
         return weight_at(t, e) < 0.0;

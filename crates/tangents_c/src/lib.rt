@@ -11,6 +11,7 @@ ghost use Rattle.validate.specs.Validate.{validAnswer};
 ghost use Rattle.sharpen.specs.Sharpen.{sharpenEdges, entriesAfter};
 ghost use Rattle.distribute.specs.Distribute.{distributeTangents, scratchAfter, checkLists};
 ghost use Rattle.distribute.specs.Distribute.{tangentsAfter as spreadAfter};
+ghost use Rattle.mesh.specs.Mesh.{asHalfedges};
 ghost use Rattle.mesh.specs.Check.{whenAccepted};
 ghost use Rattle.create_smoothness.specs.Entries.{entriesOf};
 ghost use Rattle.create.specs.Create.{checkLists as checkCreate, tangentsAfter as createdTangents};
@@ -100,8 +101,8 @@ pub extern "C" fn tangents_linearize_flat_tangents(
     t: &mut [f64],
     answer: &mut [usize],
 )
-    ensures { λ _. ⌜ now (t .exit) ≡ tangentsAfter (now (h .entry)) (now (pos .entry)) (now (t .entry)) n p ⌝ }
-    ensures { λ _. ⌜ now (answer .exit) ≡ putChecked (now (answer .entry)) (linearizeAnswer (now (h .entry)) (now (pos .entry)) (now (t .entry)) n p) ⌝ }
+    ensures { λ _. ⌜ now (t .exit) ≡ tangentsAfter (asHalfedges (now (h .entry))) (now (pos .entry)) (now (t .entry)) n p ⌝ }
+    ensures { λ _. ⌜ now (answer .exit) ≡ putChecked (now (answer .entry)) (linearizeAnswer (asHalfedges (now (h .entry))) (now (pos .entry)) (now (t .entry)) n p) ⌝ }
 {
     let checked = linearize::linearize_flat_tangents(n, p, h, pos, t);
     put_checked(answer, checked);
@@ -117,7 +118,7 @@ pub extern "C" fn tangents_valid_tangents(
     t: &[f64],
     answer: &mut [usize],
 )
-    ensures { λ _. ⌜ now (answer .exit) ≡ putValidity (now (answer .entry)) (validAnswer (now (h .entry)) (now (pos .entry)) (now (t .entry)) n p) ⌝ }
+    ensures { λ _. ⌜ now (answer .exit) ≡ putValidity (now (answer .entry)) (validAnswer (asHalfedges (now (h .entry))) (now (pos .entry)) (now (t .entry)) n p) ⌝ }
 {
     let valid = validate::valid_tangents(n, p, h, pos, t);
     put_validity(answer, valid);
@@ -136,9 +137,9 @@ pub extern "C" fn tangents_sharpen_edges(
     smoothness: &mut [f64],
     answer: &mut [usize],
 )
-    ensures { λ _. ⌜ now (halfedges .exit) ≡ entriesAfter (now (h .entry)) (now (normals .entry)) angle smooth (now (halfedges .entry)) (now (smoothness .entry)) n p .halfedges ⌝ }
-    ensures { λ _. ⌜ now (smoothness .exit) ≡ entriesAfter (now (h .entry)) (now (normals .entry)) angle smooth (now (halfedges .entry)) (now (smoothness .entry)) n p .smoothness ⌝ }
-    ensures { λ _. ⌜ now (answer .exit) ≡ putListing (now (answer .entry)) (sharpenEdges (now (h .entry)) (now (normals .entry)) angle smooth (now (halfedges .entry)) (now (smoothness .entry)) n p) ⌝ }
+    ensures { λ _. ⌜ now (halfedges .exit) ≡ entriesAfter (asHalfedges (now (h .entry))) (now (normals .entry)) angle smooth (now (halfedges .entry)) (now (smoothness .entry)) n p .halfedges ⌝ }
+    ensures { λ _. ⌜ now (smoothness .exit) ≡ entriesAfter (asHalfedges (now (h .entry))) (now (normals .entry)) angle smooth (now (halfedges .entry)) (now (smoothness .entry)) n p .smoothness ⌝ }
+    ensures { λ _. ⌜ now (answer .exit) ≡ putListing (now (answer .entry)) (sharpenEdges (asHalfedges (now (h .entry))) (now (normals .entry)) angle smooth (now (halfedges .entry)) (now (smoothness .entry)) n p) ⌝ }
 {
     let listing = sharpen::sharpen_edges(n, p, h, normals, angle, smooth, halfedges, smoothness);
     put_listing(answer, listing);
@@ -158,10 +159,10 @@ pub extern "C" fn tangents_distribute_tangents(
     desired: &mut [f64],
     answer: &mut [usize],
 )
-    ensures { λ _. ⌜ now (t .exit) ≡ spreadAfter (now (h .entry)) (now (pos .entry)) (now (normals .entry)) (now (flags .entry)) (now (t .entry)) (now (current .entry)) (now (desired .entry)) n p ⌝ }
-    ensures { λ _. ⌜ now (current .exit) ≡ scratchAfter (checkLists (now (h .entry)) (now (pos .entry)) (now (normals .entry)) (now (flags .entry)) (now (t .entry)) (now (current .entry)) (now (desired .entry)) n p) (now (current .entry)) n ⌝ }
-    ensures { λ _. ⌜ now (desired .exit) ≡ scratchAfter (checkLists (now (h .entry)) (now (pos .entry)) (now (normals .entry)) (now (flags .entry)) (now (t .entry)) (now (current .entry)) (now (desired .entry)) n p) (now (desired .entry)) n ⌝ }
-    ensures { λ _. ⌜ now (answer .exit) ≡ putSpreading (now (answer .entry)) (distributeTangents (now (h .entry)) (now (pos .entry)) (now (normals .entry)) (now (flags .entry)) (now (t .entry)) (now (current .entry)) (now (desired .entry)) n p) ⌝ }
+    ensures { λ _. ⌜ now (t .exit) ≡ spreadAfter (asHalfedges (now (h .entry))) (now (pos .entry)) (now (normals .entry)) (now (flags .entry)) (now (t .entry)) (now (current .entry)) (now (desired .entry)) n p ⌝ }
+    ensures { λ _. ⌜ now (current .exit) ≡ scratchAfter (checkLists (asHalfedges (now (h .entry))) (now (pos .entry)) (now (normals .entry)) (now (flags .entry)) (now (t .entry)) (now (current .entry)) (now (desired .entry)) n p) (now (current .entry)) n ⌝ }
+    ensures { λ _. ⌜ now (desired .exit) ≡ scratchAfter (checkLists (asHalfedges (now (h .entry))) (now (pos .entry)) (now (normals .entry)) (now (flags .entry)) (now (t .entry)) (now (current .entry)) (now (desired .entry)) n p) (now (desired .entry)) n ⌝ }
+    ensures { λ _. ⌜ now (answer .exit) ≡ putSpreading (now (answer .entry)) (distributeTangents (asHalfedges (now (h .entry))) (now (pos .entry)) (now (normals .entry)) (now (flags .entry)) (now (t .entry)) (now (current .entry)) (now (desired .entry)) n p) ⌝ }
 {
     let spreading = distribute::distribute_tangents(
         n,
@@ -199,7 +200,7 @@ pub extern "C" fn tangents_create_tangents(
     link: &mut [usize],
     answer: &mut [usize],
 )
-    ensures { λ _. ⌜ (let r = checkCreate (now (h .entry)) (now (pos .entry)) (now (normals .entry)) (now («face_normals» .entry)) (now (refs .entry)) (now (entries .entry)) (now (values .entry)) (now (t .entry)) (now (fixed .entry)) (now (flat .entry)) (now (smooth .entry)) (now (desired .entry)) (now (at .entry)) (now (link .entry)) n p in (now (t .exit) ≡ createdTangents r (now (h .entry)) (now (pos .entry)) (now (normals .entry)) (now («face_normals» .entry)) (now (refs .entry)) (entriesOf (now (entries .entry)) (now (values .entry))) (now (t .entry)) (not (eqb old 0)) n p) × (now (fixed .exit) ≡ whenAccepted r (replicate n 0) (now (fixed .entry))) × (now (flat .exit) ≡ whenAccepted r (replicate n 0) (now (flat .entry))) × (now (smooth .exit) ≡ whenAccepted r (replicate n zero) (now (smooth .entry))) × (now (desired .exit) ≡ whenAccepted r (replicate n zero) (now (desired .entry))) × (now (at .exit) ≡ whenAccepted r (replicate p 0) (now (at .entry))) × (now (link .exit) ≡ whenAccepted r (replicate n 0) (now (link .entry))) × (now (answer .exit) ≡ putChecked (now (answer .entry)) r)) ⌝ }
+    ensures { λ _. ⌜ (let r = checkCreate (asHalfedges (now (h .entry))) (now (pos .entry)) (now (normals .entry)) (now («face_normals» .entry)) (now (refs .entry)) (now (entries .entry)) (now (values .entry)) (now (t .entry)) (now (fixed .entry)) (now (flat .entry)) (now (smooth .entry)) (now (desired .entry)) (now (at .entry)) (now (link .entry)) n p in (now (t .exit) ≡ createdTangents r (asHalfedges (now (h .entry))) (now (pos .entry)) (now (normals .entry)) (now («face_normals» .entry)) (now (refs .entry)) (entriesOf (now (entries .entry)) (now (values .entry))) (now (t .entry)) (not (eqb old 0)) n p) × (now (fixed .exit) ≡ whenAccepted r (replicate n 0) (now (fixed .entry))) × (now (flat .exit) ≡ whenAccepted r (replicate n 0) (now (flat .entry))) × (now (smooth .exit) ≡ whenAccepted r (replicate n zero) (now (smooth .entry))) × (now (desired .exit) ≡ whenAccepted r (replicate n zero) (now (desired .entry))) × (now (at .exit) ≡ whenAccepted r (replicate p 0) (now (at .entry))) × (now (link .exit) ≡ whenAccepted r (replicate n 0) (now (link .entry))) × (now (answer .exit) ≡ putChecked (now (answer .entry)) r)) ⌝ }
 {
     let checked = create::create_tangents(
         n,
@@ -243,7 +244,7 @@ pub extern "C" fn tangents_create_tangents_from_normals(
     first: &mut [usize],
     answer: &mut [usize],
 )
-    ensures { λ _. ⌜ (let r = checkFromNormals (now (h .entry)) (now (pos .entry)) (now (normals .entry)) (now («face_normals» .entry)) (now (refs .entry)) (now («halfedge_normals» .entry)) (now (t .entry)) (now (fixed .entry)) (now (inside .entry)) (now (current .entry)) (now (desired .entry)) (now (first .entry)) n p in (now (t .exit) ≡ tangentsFromNormals r (now (h .entry)) (now (pos .entry)) (now (normals .entry)) (now («face_normals» .entry)) (now (refs .entry)) (now («halfedge_normals» .entry)) (now (t .entry)) (not (eqb old 0)) n p) × (now (fixed .exit) ≡ whenAccepted r (replicate n 0) (now (fixed .entry))) × (now (inside .exit) ≡ whenAccepted r (replicate n 0) (now (inside .entry))) × (now (current .exit) ≡ whenAccepted r (replicate n zero) (now (current .entry))) × (now (desired .exit) ≡ whenAccepted r (replicate n zero) (now (desired .entry))) × (now (first .exit) ≡ whenAccepted r (replicate p 0) (now (first .entry))) × (now (answer .exit) ≡ putChecked (now (answer .entry)) r)) ⌝ }
+    ensures { λ _. ⌜ (let r = checkFromNormals (asHalfedges (now (h .entry))) (now (pos .entry)) (now (normals .entry)) (now («face_normals» .entry)) (now (refs .entry)) (now («halfedge_normals» .entry)) (now (t .entry)) (now (fixed .entry)) (now (inside .entry)) (now (current .entry)) (now (desired .entry)) (now (first .entry)) n p in (now (t .exit) ≡ tangentsFromNormals r (asHalfedges (now (h .entry))) (now (pos .entry)) (now (normals .entry)) (now («face_normals» .entry)) (now (refs .entry)) (now («halfedge_normals» .entry)) (now (t .entry)) (not (eqb old 0)) n p) × (now (fixed .exit) ≡ whenAccepted r (replicate n 0) (now (fixed .entry))) × (now (inside .exit) ≡ whenAccepted r (replicate n 0) (now (inside .entry))) × (now (current .exit) ≡ whenAccepted r (replicate n zero) (now (current .entry))) × (now (desired .exit) ≡ whenAccepted r (replicate n zero) (now (desired .entry))) × (now (first .exit) ≡ whenAccepted r (replicate p 0) (now (first .entry))) × (now (answer .exit) ≡ putChecked (now (answer .entry)) r)) ⌝ }
 {
     let checked = create_from_normals::create_tangents_from_normals(
         n,

@@ -7,9 +7,8 @@ use mathlib.Core.Logic.{⊎-elim}
 use mathlib.Core.List.{List}
 use mathlib.Core.Bool.{Bool, true, false, not, _&&_, Bool·beq}
 use borrow.Author.Tests.{not-true}
-use lib.IntN.{ℤ}
 use lib.Ieee.{Float}
-use Rattle.mesh.specs.Mesh.{pairedHalfedge, nextHalfedge, prevHalfedge}
+use Rattle.mesh.specs.Mesh.{pairedHalfedge, nextHalfedge, prevHalfedge, Halfedges}
 use Rattle.common.specs.Fold.{foldTo}
 use Rattle.mesh.specs.Sound.{Sound}
 use Rattle.mesh.specs.declared.Checked.{Checked}
@@ -26,7 +25,7 @@ use Rattle.validate.specs.declared.Validity.{Validity}
 
 -- ---- the fold over the halfedges below n
 
-module _ (H : List ℤ) (T : List Float) where
+module _ (H : Halfedges) (T : List Float) where
   -- all pass
   all-valid : (n : ℕ) → ((k : ℕ) → k < n → validAt H T k ≡ true) → foldTo (validSoFar H T) true n ≡ true
   unfolding foldTo
@@ -150,7 +149,7 @@ module _ (H : List ℤ) (T : List Float) where
 
 -- ---- what the lists hold at a triangle
 
-module _ {H : List ℤ} {T : List Float} {n p : ℕ} (l : Lists H T n p) where
+module _ {H : Halfedges} {T : List Float} {n p : ℕ} (l : Lists H T n p) where
   mark-in : (e : ℕ) → e < n → MarkIn H T e
   mark-in e h = record {
     inside = inside (l .sound) (l .whole) e h;

@@ -4,9 +4,8 @@ use mathlib.Core.Path.{_≡_}
 use mathlib.Core.List.{List}
 use mathlib.Core.Bool.{Bool, true, false, cond, not, _&&_, _||_, Bool·beq}
 use lib.ListN.{length}
-use lib.IntN.{ℤ}
 use lib.Ieee.{Float}
-use Rattle.mesh.specs.Mesh.{halfedgeStride, pairedHalfedge, nextHalfedge, prevHalfedge}
+use Rattle.mesh.specs.Mesh.{halfedgeStride, pairedHalfedge, nextHalfedge, prevHalfedge, Halfedges}
 use Rattle.mesh.specs.Questions.{hasLength}
 use Rattle.mesh.specs.Check as mesh
 use Rattle.mesh.specs.Check.{checkMesh, whenAccepted}
@@ -24,7 +23,7 @@ unfoldable pub noMarkedNeighbor : List Float → ℕ → Bool
 noMarkedNeighbor T e = not (isMarkedInsideQuad T (nextHalfedge e)) && not (isMarkedInsideQuad T (prevHalfedge e))
 
 -- the body of the Rust's loop at halfedge e: its pair agrees, and a marked one has no marked neighbour on either side
-unfoldable pub validAt : List ℤ → List Float → ℕ → Bool
+unfoldable pub validAt : Halfedges → List Float → ℕ → Bool
 validAt H T e =
     let inQuad = isMarkedInsideQuad T e in
     let pair = pairedHalfedge H e in
@@ -32,18 +31,18 @@ validAt H T e =
     && (not inQuad || noMarkedNeighbor T e && noMarkedNeighbor T pair)
 
 -- the halfedges before e passed, and e does
-abbrev pub validSoFar : List ℤ → List Float → Bool → ℕ → Bool
+abbrev pub validSoFar : Halfedges → List Float → Bool → ℕ → Bool
 validSoFar H T valid e = valid && validAt H T e
 
 -- `valid_tangents`: yes where there are not four numbers per halfedge, else whether every halfedge passes
-unfoldable pub validTangents : List ℤ → List Float → ℕ → Bool
+unfoldable pub validTangents : Halfedges → List Float → ℕ → Bool
 validTangents H T n = cond (hasLength (length T) n 4) (foldTo (validSoFar H T) true n) true
 
 -- ---- the call
 
 -- question 2: 3 numbers per halfedge and 3 per point; it is not asked of the tangents
-abbrev pub lengthsFit : List ℤ → List Float → ℕ → ℕ → Bool
-lengthsFit H P n p = hasLength (length H) n halfedgeStride && hasLength (length P) p 3
+abbrev pub lengthsFit : Halfedges → List Float → ℕ → ℕ → Bool
+lengthsFit H P n p = hasLength (H .numbers) n halfedgeStride && hasLength (length P) p 3
 
 -- the answer after the questions 1 to 7
 abbrev pub validityOf : Checked → Bool → Validity
@@ -51,7 +50,7 @@ validityOf Accepted valid = Valid valid
 validityOf (CheckRefused number place) valid = Refused number place
 
 -- the answer, for every input
-abbrev pub validAnswer : List ℤ → List Float → List Float → ℕ → ℕ → Validity
+abbrev pub validAnswer : Halfedges → List Float → List Float → ℕ → ℕ → Validity
 validAnswer H P T n p = validityOf (checkMesh H n p (lengthsFit H P n p)) (validTangents H T n)
 
 -- document 01's number and place of an answer, 0 for a mesh that got through; and its value: 1 for yes, 0 for no, and 0 for a refused call, which has none

@@ -3,6 +3,7 @@ use mathlib.Core.Path.{ap, _∙_}
 use mathlib.Core.List.{List}
 use lib.Ieee.{Float}
 use denote.Ref.{now}
+use Rattle.mesh.specs.Mesh.{asHalfedges}
 use Rattle.distribute.specs.Distribute.{spreadTangents}
 use Rattle.create_core.proofs.finish_tangents.Statement.{statement}
 use Rattle.create_core.proofs.finish_tangents.Tie as tie
@@ -40,7 +41,7 @@ returns c =
     let a = c .before .before .before .before .before .before .before .before .before .before .before .before .before .before .before .before .before .before .before .before .args in
     let s = c .before .before .before .before .before .before .spread-tangents in (
       s .ensures .0 .tangents-are
-          ∙ ap (λ (T : List Float). spreadTangents (now (a .h)) (now (a .pos)) (now (a .normals)) (now (a .fixed)) T (a .n) .tangents) (c .before .before .before .before .before .before .before .before .before .before .before .before .linearize-all .ensures),
+          ∙ ap (λ (T : List Float). spreadTangents (asHalfedges (now (a .h))) (now (a .pos)) (now (a .normals)) (now (a .fixed)) T (a .n) .tangents) (c .before .before .before .before .before .before .before .before .before .before .before .before .linearize-all .ensures),
       s .ensures .1,
     )
 

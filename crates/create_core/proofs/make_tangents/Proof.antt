@@ -3,6 +3,7 @@ use mathlib.Core.Path.{_∙_}
 use denote.Ref.{now}
 use Rattle.create_core.proofs.Lent.{spread-in}
 use Rattle.common.proofs.Filled.{cleared}
+use Rattle.mesh.specs.Mesh.{asHalfedges}
 use Rattle.create_core.proofs.Core.{created}
 use Rattle.create_core.proofs.make_tangents.Statement.{statement}
 use Rattle.create_core.proofs.make_tangents.Tie as tie
@@ -44,7 +45,7 @@ returns c =
     let s = c .before .before .before .before .before .before .before .before .before .before .before .before .before .before .before .before .before .before .before .before .before .before .before .before .before .before .before .before .before .before .before .before .before .before .before .before .shape-tangents in
     let f = c .before .before .before .before .before .before .before .before .before .before .before .before .before .before .before .before .before .before .before .finish-tangents in
     let r = c .before .before .before .before .before .before .before .before .clear-scratch in (
-      created (now (a .h)) (now (a .pos)) (now (a .normals)) (now (a .«face-normals»)) (now (a .refs)) (now (a .smooth)) (now (a .t)) (a .old) (a .n) (a .p) _ _ _ _ (s .ensures) (w .points) (f .ensures .0),
+      created (asHalfedges (now (a .h))) (now (a .pos)) (now (a .normals)) (now (a .«face-normals»)) (now (a .refs)) (now (a .smooth)) (now (a .t)) (a .old) (a .n) (a .p) _ _ _ _ (s .ensures) (w .points) (f .ensures .0),
       (
         cleared _ 0 _ _ (r .ensures .0) (s .kept .1 .1 .1 .1 .1 .1 .1 .1 .0 ∙ w .lists .fixed),
         (

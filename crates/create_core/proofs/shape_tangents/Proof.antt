@@ -7,6 +7,7 @@ use Rattle.create_shared.specs.Faces.{isFlat}
 use Rattle.create_shared.proofs.Flat.{flags-same}
 use mathlib.Core.Path.{ap, _∙_}
 use borrow.Author.Needs.{needs}
+use Rattle.mesh.specs.Mesh.{asHalfedges}
 use Rattle.create_core.proofs.shape_tangents.Statement.{statement}
 use Rattle.create_core.proofs.shape_tangents.Tie as tie
 
@@ -54,8 +55,8 @@ returns c =
     let f = c .before .before .before .before .before .before .before .before .before .before .before .before .before .before .before .before .before .before .before .before .before .before .before .before .before .before .before .before .before .before .before .before .first-tangents in
     let g = c .before .before .before .before .before .before .before .before .before .before .before .before .before .before .before .before .before .before .before .before .before .find-creases in
     c .before .before .before .before .shape-verts .ensures
-    ∙ shaped-is (a .h .now) (a .refs .now) (a .pos .now) (a .normals .now) (a .«face-normals» .now) (isInsideQuad (a .h .now) (a .refs .now) (a .t .now) (a .old)) (a .smooth .now) (a .n) _ _ _ _ _ _ _
-    (ap isFlat (f .ensures .0) ∙ flags-same (a .h .now) (a .refs .now) (a .n)) (g .ensures .0) (f .ensures .1) (c .before .before .before .before .before .before .before .before .before .before .before .before .before .fill-bytes .ensures) (z .pre .fixed) (g .kept .1 .1 .1 .1 .1 .0 ∙ f .kept .1 .1 .1 .1 .1 .1 .1 .1 .1 .0)
+    ∙ shaped-is (asHalfedges (a .h .now)) (a .refs .now) (a .pos .now) (a .normals .now) (a .«face-normals» .now) (isInsideQuad (asHalfedges (a .h .now)) (a .refs .now) (a .t .now) (a .old)) (a .smooth .now) (a .n) _ _ _ _ _ _ _
+    (ap isFlat (f .ensures .0) ∙ flags-same (asHalfedges (a .h .now)) (a .refs .now) (a .n)) (g .ensures .0) (f .ensures .1) (c .before .before .before .before .before .before .before .before .before .before .before .before .before .fill-bytes .ensures) (z .pre .fixed) (g .kept .1 .1 .1 .1 .1 .0 ∙ f .kept .1 .1 .1 .1 .1 .1 .1 .1 .1 .0)
 
 pub shape-tangents-spec : {M : Type 1} → statement M
 shape-tangents-spec =

@@ -2,6 +2,7 @@
 use mathlib.Core.Path.{refl, sym, ap, _∙_, subst}
 use Prim.Native.Nat.{ℕ}
 use native.Mathlib.Omega.{arith}
+use Rattle.mesh.specs.Mesh.{asHalfedges}
 use Rattle.create_shared.specs.Faces.{isFlat}
 use Rattle.create_shared.specs.Lent.{FlatIn}
 use Rattle.create_shared.proofs.Lent.{flat-in, verts-in}
@@ -13,7 +14,7 @@ use Rattle.create_creases.proofs.find_creases.Tie as tie
 add-flat-boundaries-requires : tie.Need-add-flat-boundaries-requires
 add-flat-boundaries-requires c κs =
     let z = c .before .before .before .before .before in
-    (subst (FlatIn (z .args .h .now)) (sym (z .pre .0)) (flat-in _ _ _ (z .pre .1 .sound) (z .pre .1 .whole)), z .pre .1 .smooth ∙ sym (z .pre .0))
+    (subst (FlatIn (asHalfedges (z .args .h .now))) (sym (z .pre .0)) (flat-in _ _ _ (z .pre .1 .sound) (z .pre .1 .whole)), z .pre .1 .smooth ∙ sym (z .pre .0))
 
 vert-halfedge-requires : tie.Need-vert-halfedge-requires
 vert-halfedge-requires c κs =
@@ -39,7 +40,7 @@ returns : tie.Need-returns
 returns c =
     let z = c .before .before .before .before .before .before .before .before .before .before .before .before .before .before .before .before .before .before .before .before in
     let a = z .args in
-    (c .before .before .before .before .before .before .before .before .before .before .before .before .before .before .add-flat-boundaries .ensures ∙ ap (λ (k : ℕ). smoothness (a .h .now) (a .refs .now) (isFlat (a .flat .now)) (a .smooth .now) k) (z .pre .0), c .before .before .before .before .link-creases .ensures)
+    (c .before .before .before .before .before .before .before .before .before .before .before .before .before .before .add-flat-boundaries .ensures ∙ ap (λ (k : ℕ). smoothness (asHalfedges (a .h .now)) (a .refs .now) (isFlat (a .flat .now)) (a .smooth .now) k) (z .pre .0), c .before .before .before .before .link-creases .ensures)
 
 pub find-creases-spec : {M : Type 1} → statement M
 find-creases-spec =

@@ -3,6 +3,7 @@ use Prim.Native.Nat.{_+_, _-_, _≤_}
 use mathlib.Core.Path.{_≡_, refl, _∙_}
 use native.Mathlib.Omega.{arith}
 use lib.ListN.{length}
+use Rattle.mesh.specs.Mesh.{asHalfedges}
 use Rattle.create_creases.specs.Linked.{LinkedFrom}
 use Rattle.create_creases.proofs.Creases.{creases-end, creases-all}
 use Rattle.create_creases.proofs.Lent.{lists-still}
@@ -10,7 +11,7 @@ use Rattle.create_creases.proofs.link_creases.Statement.{statement}
 use Rattle.create_creases.proofs.link_creases.Tie as tie
 
 abbrev Inv-loop : tie.InvT-loop
-Inv-loop n h smooth at₀ link₀ f₀ at link f = (f ≤ n) × (length at ≡ length at₀) × (length link ≡ length link₀) × LinkedFrom h smooth at link n f
+Inv-loop n h smooth at₀ link₀ f₀ at link f = (f ≤ n) × (length at ≡ length at₀) × (length link ≡ length link₀) × LinkedFrom (asHalfedges h) smooth at link n f
 
 abbrev μ-loop : tie.MeasureT-loop
 μ-loop n h smooth at₀ link₀ f₀ at link f = f
@@ -18,7 +19,7 @@ abbrev μ-loop : tie.MeasureT-loop
 loop-holds : tie.Need-loop-holds Inv-loop μ-loop
 loop-holds c =
     let a = c .before .before .before .args in
-    (omega arith, refl, refl, λ v l. rw (creases-end (a .h .now) (a .smooth .now) v (a .n)) (c .before .before .before .pre .1 v l))
+    (omega arith, refl, refl, λ v l. rw (creases-end (asHalfedges (a .h .now)) (a .smooth .now) v (a .n)) (c .before .before .before .pre .1 v l))
 
 sub-f : tie.Need-sub-f Inv-loop μ-loop
 sub-f c = omega arith
@@ -51,7 +52,7 @@ returns c = λ v h.
     let l = c .before .loop in
     let z : l .f ≡ 0 = omega arith in
     let i = l .inv .3 v h in
-    rw (creases-all (a .h .now) (a .smooth .now) v (a .n)) at (rw z at i)
+    rw (creases-all (asHalfedges (a .h .now)) (a .smooth .now) v (a .n)) at (rw z at i)
 
 pub link-creases-spec : {M : Type 1} → statement M
 link-creases-spec =

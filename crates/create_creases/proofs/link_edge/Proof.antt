@@ -3,6 +3,7 @@ use mathlib.Core.Path.{refl, sym, _∙_}
 use Prim.Native.Nat.{_<_}
 use native.Mathlib.Omega.{arith}
 use borrow.Author.Tests.{not-true, not-false}
+use Rattle.mesh.specs.Mesh.{asHalfedges}
 use Rattle.mesh.proofs.Accepted.{inside}
 use Rattle.create_shared.specs.Faces.{vertHalfedge}
 use Rattle.create_creases.proofs.Lent.{lists-still, halfedge-in, sides-in}
@@ -17,7 +18,7 @@ returns : tie.Need-returns
 returns c =
     let z = c .before .before .before .before .before in
     let a = z .args in
-    edge-passed (z .pre .1 .sound) (a .smooth .now) (a .f) (z .pre .0) (vertHalfedge (a .h .now) (a .n)) (a .at .now) (a .link .now)
+    edge-passed (z .pre .1 .sound) (a .smooth .now) (a .f) (z .pre .0) (vertHalfedge (asHalfedges (a .h .now)) (a .n)) (a .at .now) (a .link .now)
     (sym (c .before .is-crease .ensures) ∙ not-true (c .before .is-crease .result) (c .if1 .taken))
     (z .pre .2)
 
@@ -53,7 +54,7 @@ returns-2 c = λ v q.
     let i = p .before .before .is-crease in
     let z = p .before .before .before .before .before .before in
     let a = z .args in
-    edge-linked (z .pre .1 .sound) (a .smooth .now) (a .f) (z .pre .0) (vertHalfedge (a .h .now) (a .n))
+    edge-linked (z .pre .1 .sound) (a .smooth .now) (a .f) (z .pre .0) (vertHalfedge (asHalfedges (a .h .now)) (a .n))
     (a .at .now) (a .link .now) (l .last .1 .1 .0) (l .last .1 .1 .1 .0) (m .last .1 .1 .0) (m .last .1 .1 .1 .0)
     (p .paired-halfedge .result) refl (z .pre .1 .links) (sym (i .ensures) ∙ not-false (i .result) (p .before .if1 .left)) (p .paired-halfedge .ensures)
     (l .ensures .0) (l .ensures .1) (m .ensures .0) (m .ensures .1) (z .pre .2) v (omega (arith, q, l .kept .1 .1 .0, m .kept .1 .1 .0))

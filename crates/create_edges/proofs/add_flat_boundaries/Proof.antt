@@ -5,13 +5,14 @@ use native.Mathlib.Omega.{arith}
 use lib.ListN.{length}
 use Rattle.common.specs.Fold.{foldTo}
 use Rattle.common.proofs.Fold.{fold-none, fold-turn}
+use Rattle.mesh.specs.Mesh.{asHalfedges}
 use Rattle.create_shared.specs.Faces.{isFlat}
 use Rattle.create_edges.specs.Smoothness.{addFlatBoundary, smoothness}
 use Rattle.create_edges.proofs.add_flat_boundaries.Statement.{statement}
 use Rattle.create_edges.proofs.add_flat_boundaries.Tie as tie
 
 abbrev Inv-loop : tie.InvT-loop
-Inv-loop h refs flat smooth₀ e₀ smooth e = (e ≤ length flat) × (length smooth ≡ length smooth₀) × (smooth ≡ foldTo (addFlatBoundary h refs (isFlat flat)) smooth₀ e)
+Inv-loop h refs flat smooth₀ e₀ smooth e = (e ≤ length flat) × (length smooth ≡ length smooth₀) × (smooth ≡ foldTo (addFlatBoundary (asHalfedges h) refs (isFlat flat)) smooth₀ e)
 
 abbrev μ-loop : tie.MeasureT-loop
 μ-loop h refs flat smooth₀ e₀ smooth e = length flat - e

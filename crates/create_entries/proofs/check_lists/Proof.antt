@@ -1,8 +1,10 @@
 -- `create_entries::check_lists` meets its contract: the code is the definition. Assumes nothing.
+use Rattle.mesh.specs.Mesh.{asHalfedges}
 use Rattle.create_entries.proofs.check_lists.Statement.{statement}
 use Rattle.create_entries.proofs.check_lists.Tie as tie
 
 returns : tie.Need-returns
+unfolding asHalfedges
 returns c =
     simp (
       c .check-passed .ensures,

@@ -48,6 +48,7 @@ use denote.Triple.Table.{entered, cited}
 use denote.Triple.Walked.{Stays, stay-none-slice, stay-none, gave-slice, walkOf, goes-none-slice, goes-none, goes-gave-slice, Walks, ends-at, walked, walk-meets}
 use denote.Exit.{yes}
 use Rattle.float.specs.Ops.{zero}
+use Rattle.mesh.specs.Mesh.{asHalfedges}
 use Rattle.mesh.specs.Check.{whenAccepted, Values}
 use Rattle.mesh.specs.declared.Checked.{Checked}
 use Rattle.mesh.specs.declared.Checked.the-variants.{Accepted, Refused}
@@ -248,18 +249,18 @@ module _ {M : Type 1} (𝓤 : URA M) (H : Heap 𝓤) (A : Atoms 𝓤) (W : Given
       use1 W (raw (Check 𝓤 H A at-mem run .pre (to-check passed u))) (plus-nothing 𝓤 _) $ done !
 
   abbrev SaidCheck : Passed → Checked → Type 0
-  SaidCheck passed c = c ≡ found (h .now) (pos .now) (nor .now) (fno .now) (ref .now) (sh .now) (t .now) (fix .now) (fla .now) fs (des .now) (ats .now) (lin .now) n p passed
+  SaidCheck passed c = c ≡ found (asHalfedges (h .now)) (pos .now) (nor .now) (fno .now) (ref .now) (sh .now) (t .now) (fix .now) (fla .now) fs (des .now) (ats .now) (lin .now) n p passed
 
   said-check : (passed : Passed) (c : Checked) → ent 𝓤 (ensured 𝓤 H A f-check.ended (f-check.clauses 𝓤 H A at-mem run) check-lfts (check-args passed) tt c) (fact 𝓤 (SaidCheck passed c))
   said-check passed c = exE 𝓤 _ (λ ws. snd∗ 𝓤 (sem 𝓤 H A (lasts f-check.ended check-lfts (check-args passed) ws)) (fact 𝓤 (SaidCheck passed c)))
 
   -- the answer
   abbrev Answered : Checked → Type 0
-  Answered c = c ≡ answer (h .now) (pos .now) (nor .now) (fno .now) (ref .now) (sh .now) (t .now) (fix .now) (fla .now) fs (des .now) (ats .now) (lin .now) n p
+  Answered c = c ≡ answer (asHalfedges (h .now)) (pos .now) (nor .now) (fno .now) (ref .now) (sh .now) (t .now) (fix .now) (fla .now) fs (des .now) (ats .now) (lin .now) n p
 
   -- where it is that the call is accepted, the entries name halfedges
   named-inside : Answered Accepted → EntriesIn (sh .now) (length fs)
-  named-inside e = subst (EntriesIn (sh .now)) (sym (given (h .now) (pos .now) (nor .now) (fno .now) (ref .now) (sh .now) (t .now) (fix .now) (fla .now) fs (des .now) (ats .now) (lin .now) n p e .smooth)) (inside (h .now) (pos .now) (nor .now) (fno .now) (ref .now) (sh .now) (t .now) (fix .now) (fla .now) fs (des .now) (ats .now) (lin .now) n p e)
+  named-inside e = subst (EntriesIn (sh .now)) (sym (given (asHalfedges (h .now)) (pos .now) (nor .now) (fno .now) (ref .now) (sh .now) (t .now) (fix .now) (fla .now) fs (des .now) (ats .now) (lin .now) n p e .smooth)) (inside (asHalfedges (h .now)) (pos .now) (nor .now) (fno .now) (ref .now) (sh .now) (t .now) (fix .now) (fla .now) fs (des .now) (ats .now) (lin .now) n p e)
 
   -- ---- `smooth` is lent again, for the lifetime ν and under the name δ, and comes back holding zs
   abbrev Lent : ℕ → GName → Item 𝓤
@@ -305,10 +306,10 @@ module _ {M : Type 1} (𝓤 : URA M) (H : Heap 𝓤) (A : Atoms 𝓤) (W : Given
   MakeTokens = ‵ (flft κ0 q0) ⊛ ‵ (flft κ1 q1) ⊛ ‵ (flft κ2 q2) ⊛ ‵ (flft κ3 q3) ⊛ ‵ (flft κ4 q4) ⊛ ‵ (flft κ6 q6) ⊛ ‵ (flft κ7 q7) ⊛ ‵ (flft κ8 q8) ⊛ ‵ (flft κ9 q9) ⊛ ‵ (flft κ10 q10) ⊛ ‵ (flft κ11 q11) ⊛ ‵ (flft κ12 q12) ⊛ ‵ ftrue
 
   abbrev Accepting : List Float → Type 0
-  Accepting zs = Lists (h .now) (pos .now) (nor .now) (fno .now) (t .now) (fix .now) (fla .now) zs (des .now) (ats .now) (lin .now) n p
+  Accepting zs = Lists (asHalfedges (h .now)) (pos .now) (nor .now) (fno .now) (t .now) (fix .now) (fla .now) zs (des .now) (ats .now) (lin .now) n p
 
   accepting : Answered Accepted → (zs : List Float) → length zs ≡ length fs → Accepting zs
-  accepting e zs same = given (h .now) (pos .now) (nor .now) (fno .now) (ref .now) (sh .now) (t .now) (fix .now) (fla .now) fs (des .now) (ats .now) (lin .now) n p e .lists same
+  accepting e zs same = given (asHalfedges (h .now)) (pos .now) (nor .now) (fno .now) (ref .now) (sh .now) (t .now) (fix .now) (fla .now) fs (des .now) (ats .now) (lin .now) n p e .lists same
 
   goes-make : (zs : List Float) → Accepting zs → ent 𝓤 (⋆ 𝓤 H A (ReadTokens ∷ Read ∷ Written ∷ Scratch zs ∷ ‵ (flft κ9 q9) ∷ [])) (mean 𝓤 H A (raw (Make 𝓤 H A at-mem run .pre (to-make zs)) ⊛ Read))
   goes-make zs lists =
@@ -321,7 +322,7 @@ module _ {M : Type 1} (𝓤 : URA M) (H : Heap 𝓤) (A : Atoms 𝓤) (W : Given
   MakeLasts zs = Lasts f-make.ended make-lfts (make-args zs)
 
   abbrev SaidMake : (zs : List Float) → MakeLasts zs → Type 0
-  SaidMake zs ws = (ws .1 .1 .1 .1 .1 .1 .1 .1 .0 ≡ createFilled (h .now) (pos .now) (nor .now) (fno .now) (ref .now) zs (t .now) old n p) × ((ws .1 .1 .1 .1 .1 .1 .1 .1 .1 .0 ≡ replicate n 0) × ((ws .1 .1 .1 .1 .1 .1 .1 .1 .1 .1 .0 ≡ replicate n 0) × ((ws .1 .1 .1 .1 .1 .1 .1 .1 .1 .1 .1 .0 ≡ replicate n zero) × ((ws .1 .1 .1 .1 .1 .1 .1 .1 .1 .1 .1 .1 .0 ≡ replicate n zero) × ((ws .1 .1 .1 .1 .1 .1 .1 .1 .1 .1 .1 .1 .1 .0 ≡ replicate p 0) × (ws .1 .1 .1 .1 .1 .1 .1 .1 .1 .1 .1 .1 .1 .1 .0 ≡ replicate n 0))))))
+  SaidMake zs ws = (ws .1 .1 .1 .1 .1 .1 .1 .1 .0 ≡ createFilled (asHalfedges (h .now)) (pos .now) (nor .now) (fno .now) (ref .now) zs (t .now) old n p) × ((ws .1 .1 .1 .1 .1 .1 .1 .1 .1 .0 ≡ replicate n 0) × ((ws .1 .1 .1 .1 .1 .1 .1 .1 .1 .1 .0 ≡ replicate n 0) × ((ws .1 .1 .1 .1 .1 .1 .1 .1 .1 .1 .1 .0 ≡ replicate n zero) × ((ws .1 .1 .1 .1 .1 .1 .1 .1 .1 .1 .1 .1 .0 ≡ replicate n zero) × ((ws .1 .1 .1 .1 .1 .1 .1 .1 .1 .1 .1 .1 .1 .0 ≡ replicate p 0) × (ws .1 .1 .1 .1 .1 .1 .1 .1 .1 .1 .1 .1 .1 .1 .0 ≡ replicate n 0))))))
 
   said-make : (zs : List Float) (r : Unit {0}) → ent 𝓤 (ensured 𝓤 H A f-make.ended (f-make.clauses 𝓤 H A at-mem run) make-lfts (make-args zs) tt r)
       (mean 𝓤 H A (some (λ (ws : MakeLasts zs). ‵ (lasts f-make.ended make-lfts (make-args zs) ws) ⊛ raw (fact 𝓤 (SaidMake zs ws)))))
@@ -333,7 +334,7 @@ module _ {M : Type 1} (𝓤 : URA M) (H : Heap 𝓤) (A : Atoms 𝓤) (W : Given
   left-lists T′ X′ F′ S′ D′ C′ L′ = (‵ (finally f64 (t .name) T′), (length T′, length (t .now))) ∷ (‵ (finally u8 (fix .name) X′), (length X′, length (fix .now))) ∷ (‵ (finally u8 (fla .name) F′), (length F′, length (fla .now))) ∷ (‵ (finally f64 γf S′), (length S′, length fs)) ∷ (‵ (finally f64 (des .name) D′), (length D′, length (des .now))) ∷ (‵ (finally usize (ats .name) C′), (length C′, length (ats .now))) ∷ (‵ (finally usize (lin .name) L′), (length L′, length (lin .now))) ∷ []
 
   abbrev Left : Checked → List Float → List ℕ → List ℕ → List Float → List Float → List ℕ → List ℕ → Type 0
-  Left r T′ X′ F′ S′ D′ C′ L′ = (r ≡ answer (h .now) (pos .now) (nor .now) (fno .now) (ref .now) (sh .now) (t .now) (fix .now) (fla .now) fs (des .now) (ats .now) (lin .now) n p) × ((T′ ≡ tangentsAfter r (h .now) (pos .now) (nor .now) (fno .now) (ref .now) (sh .now) (t .now) old n p) × ((X′ ≡ whenAccepted r (replicate n 0) (fix .now)) × ((F′ ≡ whenAccepted r (replicate n 0) (fla .now)) × ((S′ ≡ whenAccepted r (replicate n zero) fs) × ((D′ ≡ whenAccepted r (replicate n zero) (des .now)) × ((C′ ≡ whenAccepted r (replicate p 0) (ats .now)) × ((L′ ≡ whenAccepted r (replicate n 0) (lin .now)) × Values (answer (h .now) (pos .now) (nor .now) (fno .now) (ref .now) (sh .now) (t .now) (fix .now) (fla .now) fs (des .now) (ats .now) (lin .now) n p) r)))))))
+  Left r T′ X′ F′ S′ D′ C′ L′ = (r ≡ answer (asHalfedges (h .now)) (pos .now) (nor .now) (fno .now) (ref .now) (sh .now) (t .now) (fix .now) (fla .now) fs (des .now) (ats .now) (lin .now) n p) × ((T′ ≡ tangentsAfter r (asHalfedges (h .now)) (pos .now) (nor .now) (fno .now) (ref .now) (sh .now) (t .now) old n p) × ((X′ ≡ whenAccepted r (replicate n 0) (fix .now)) × ((F′ ≡ whenAccepted r (replicate n 0) (fla .now)) × ((S′ ≡ whenAccepted r (replicate n zero) fs) × ((D′ ≡ whenAccepted r (replicate n zero) (des .now)) × ((C′ ≡ whenAccepted r (replicate p 0) (ats .now)) × ((L′ ≡ whenAccepted r (replicate n 0) (lin .now)) × Values (answer (asHalfedges (h .now)) (pos .now) (nor .now) (fno .now) (ref .now) (sh .now) (t .now) (fix .now) (fla .now) fs (des .now) (ats .now) (lin .now) n p) r)))))))
 
   exits : (r : Checked) (T′ : List Float) (X′ F′ : List ℕ) (S′ D′ : List Float) (C′ L′ : List ℕ) → Is Ck r (val r ∷ []) → Lengths-are 𝓤 (left-lists T′ X′ F′ S′ D′ C′ L′) → Left r T′ X′ F′ S′ D′ C′ L′
       → ent 𝓤 (⋆ 𝓤 H A (MakeTokens ∷ ‵ (flft κ5 q5) ∷ Read ∷ Sharp ∷ alone 𝓤 (left-lists T′ X′ F′ S′ D′ C′ L′) ∷ [])) (Post (val r))
@@ -368,7 +369,7 @@ module _ {M : Type 1} (𝓤 : URA M) (H : Heap 𝓤) (A : Atoms 𝓤) (W : Given
   accepts : Answered Accepted → (zs : List Float) → SaidSmooth zs → (ws : MakeLasts zs) → SaidMake zs ws → Is Ck Accepted (val Accepted ∷ []) → length zs ≡ length fs
       → ent 𝓤 (⋆ 𝓤 H A (MakeTokens ∷ ‵ (lasts f-make.ended make-lfts (make-args zs) ws) ∷ Read ∷ ‵ (flft κ5 q5) ∷ Sharp ∷ [])) (Post (val Accepted))
   accepts e zs smooth ws said is same =
-      let made-here = made (h .now) (pos .now) (nor .now) (fno .now) (ref .now) (sh .now) (t .now) old n p (given (h .now) (pos .now) (nor .now) (fno .now) (ref .now) (sh .now) (t .now) (fix .now) (fla .now) fs (des .now) (ats .now) (lin .now) n p e .sound) (inside (h .now) (pos .now) (nor .now) (fno .now) (ref .now) (sh .now) (t .now) (fix .now) (fla .now) fs (des .now) (ats .now) (lin .now) n p e) (given (h .now) (pos .now) (nor .now) (fno .now) (ref .now) (sh .now) (t .now) (fix .now) (fla .now) fs (des .now) (ats .now) (lin .now) n p e .smooth) smooth (said .0) in
+      let made-here = made (asHalfedges (h .now)) (pos .now) (nor .now) (fno .now) (ref .now) (sh .now) (t .now) old n p (given (asHalfedges (h .now)) (pos .now) (nor .now) (fno .now) (ref .now) (sh .now) (t .now) (fix .now) (fla .now) fs (des .now) (ats .now) (lin .now) n p e .sound) (inside (asHalfedges (h .now)) (pos .now) (nor .now) (fno .now) (ref .now) (sh .now) (t .now) (fix .now) (fla .now) fs (des .now) (ats .now) (lin .now) n p e) (given (asHalfedges (h .now)) (pos .now) (nor .now) (fno .now) (ref .now) (sh .now) (t .now) (fix .now) (fla .now) fs (des .now) (ats .now) (lin .now) n p e .smooth) smooth (said .0) in
       qed W (MakeTokens ∷ ‵ (lasts f-make.ended make-lfts (make-args zs) ws) ∷ Read ∷ ‵ (flft κ5 q5) ∷ Sharp ∷ []) ∵
       move ! (1 ∷ []) $ use1 W (lengths-said 𝓤 8 (made-lists zs ws)) (id⊢ 𝓤 _) $ use1 W (given₁ (Lengths-are 𝓤 (made-lists zs ws)) (alone 𝓤 (made-lists zs ws))) (hears-lengths 𝓤 H A W 8 (made-lists zs ws)) $ learn ! (λ l.
       move ! (1 ∷ 3 ∷ 2 ∷ 4 ∷ 0 ∷ []) $ by ! (exits Accepted (ws .1 .1 .1 .1 .1 .1 .1 .1 .0) (ws .1 .1 .1 .1 .1 .1 .1 .1 .1 .0) (ws .1 .1 .1 .1 .1 .1 .1 .1 .1 .1 .0) (ws .1 .1 .1 .1 .1 .1 .1 .1 .1 .1 .1 .0) (ws .1 .1 .1 .1 .1 .1 .1 .1 .1 .1 .1 .1 .0) (ws .1 .1 .1 .1 .1 .1 .1 .1 .1 .1 .1 .1 .1 .0) (ws .1 .1 .1 .1 .1 .1 .1 .1 .1 .1 .1 .1 .1 .1 .0) is (l .0, (l .1 .0, (l .1 .1 .0, (l .1 .1 .1 .0 ∙ same, (l .1 .1 .1 .1 .0, (l .1 .1 .1 .1 .1 .0, (l .1 .1 .1 .1 .1 .1 .0, tt))))))) (e, (made-here, (said .1 .0, (said .1 .1 .0, (said .1 .1 .1 .0, (said .1 .1 .1 .1 .0, (said .1 .1 .1 .1 .1 .0, (said .1 .1 .1 .1 .1 .1, values-same e))))))))))
@@ -473,7 +474,7 @@ module _ {M : Type 1} (𝓤 : URA M) (H : Heap 𝓤) (A : Atoms 𝓤) (W : Given
         peeks ! Ck (Is Ck) (shows 𝓤 H A Ck) r2 (u2 ∷ []) (λ is2. drop ! $ lands-frame ! 7 (os1 u1) refl dec tt (EL.lawful Ch.the-type Ch′.the-laws 𝓤 H A W tt .typed r2 (u2 ∷ []) is2 .0) $
         let told : u2 ∷ [] ≡ val r2 ∷ [] = EL.tells Ch.the-type Ch′.the-laws r2 (u2 ∷ []) is2 in
         rewrite ! 7 (λ (v : Val). ‵ (Frame 𝓤 H E (stored (os1 u1) 17 v))) (ap only told) refl $
-        by ! (rest E dec u1 r2 (subst (Is Ck r2) told is2) (is-answer (h .now) (pos .now) (nor .now) (fno .now) (ref .now) (sh .now) (t .now) (fix .now) (fla .now) fs (des .now) (ats .now) (lin .now) n p r1 e1 r2 e2)))))))))))
+        by ! (rest E dec u1 r2 (subst (Is Ck r2) told is2) (is-answer (asHalfedges (h .now)) (pos .now) (nor .now) (fno .now) (ref .now) (sh .now) (t .now) (fix .now) (fla .now) fs (des .now) (ats .now) (lin .now) n p r1 e1 r2 e2)))))))))))
 
 module _ {M : Type 1} (𝓤 : URA M) (H : Heap 𝓤) (A : Atoms 𝓤) (W : Given 𝓤 H A) (at-mem : Memory → SProp 𝓤) (run : Routine → Fun 𝓤) where
   create-entries-walks : (C : Calls 𝓤 H) (Λ : Loops 𝓤 H) → FmC 𝓤 H (W .laws) C → Triple 𝓤 (C #scan) (Scan 𝓤 H A at-mem run) → Triple 𝓤 (C #check-lists) (Check 𝓤 H A at-mem run) → Triple 𝓤 (C #sharp-smoothness) (Smooth 𝓤 H A at-mem run) → Triple 𝓤 (C #make-tangents) (Make 𝓤 H A at-mem run)

@@ -5,6 +5,7 @@ use Rattle.create_shared.specs.Faces.{isFlat}
 use Rattle.create_shared.specs.Lent.{flatFlags}
 use Rattle.create_shared.proofs.Flat.{flags-same}
 use mathlib.Core.Path.{_≡_, ap, _∙_}
+use Rattle.mesh.specs.Mesh.{asHalfedges}
 use Rattle.create_initial.proofs.first_tangents.Statement.{statement}
 use Rattle.create_initial.proofs.first_tangents.Tie as tie
 
@@ -30,8 +31,8 @@ returns : tie.Need-returns
 returns c =
     let z = c .before .before .before .before .before .before .before .before .before .before .before .before .before .before .before .before .before .before .before .before in
     let f = c .before .before .before .before .before .before .before .before .before .before .before .before .flat-faces in
-    let q : f .last .1 .1 .0 ≡ flatFlags (z .args .h .now) (z .args .refs .now) (z .args .n) = f .ensures ∙ ap (flatFlags (z .args .h .now) (z .args .refs .now)) (z .pre .1) in
-    (q, first-is (z .pre .0) (z .args .refs .now) (f .last .1 .1 .0) (c .before .before .before .before .before .before .before .vert-flat-face .last .1 .1 .1 .0) (f .kept .1 .1 .0 ∙ z .pre .1) (c .before .before .before .before .before .before .before .vert-flat-face .ensures) (z .args .old) _ (ap isFlat q ∙ flags-same (z .args .h .now) (z .args .refs .now) (z .args .n)) (c .before .before .put-first-tangents .ensures))
+    let q : f .last .1 .1 .0 ≡ flatFlags (asHalfedges (z .args .h .now)) (z .args .refs .now) (z .args .n) = f .ensures ∙ ap (flatFlags (asHalfedges (z .args .h .now)) (z .args .refs .now)) (z .pre .1) in
+    (q, first-is (z .pre .0) (z .args .refs .now) (f .last .1 .1 .0) (c .before .before .before .before .before .before .before .vert-flat-face .last .1 .1 .1 .0) (f .kept .1 .1 .0 ∙ z .pre .1) (c .before .before .before .before .before .before .before .vert-flat-face .ensures) (z .args .old) _ (ap isFlat q ∙ flags-same (asHalfedges (z .args .h .now)) (z .args .refs .now) (z .args .n)) (c .before .before .put-first-tangents .ensures))
 
 pub first-tangents-spec : {M : Type 1} → statement M
 first-tangents-spec =

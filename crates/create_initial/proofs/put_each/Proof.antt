@@ -12,13 +12,14 @@ use native.Mathlib.Omega.{arith}
 use mathlib.Core.Path.{_≡_, refl, sym, _∙_}
 use mathlib.Core.Bool.{true}
 use Prim.Native.Nat.{ℕ, _-_, _≤_}
+use Rattle.mesh.specs.Mesh.{asHalfedges}
 use Rattle.create_initial.proofs.put_each.Statement.{statement}
 use Rattle.create_initial.proofs.put_each.Tie as tie
 
 abbrev Inv-loop : tie.InvT-loop
 Inv-loop n h refs pos normals face-normals at t₀ e₀ t e =
     (e ≤ n) × (length t ≡ length t₀)
-    × (t ≡ foldTo (putFirstTangent h pos normals face-normals (isInsideQuad h refs t₀ true) (faceAt at)) t₀ e)
+    × (t ≡ foldTo (putFirstTangent (asHalfedges h) pos normals face-normals (isInsideQuad (asHalfedges h) refs t₀ true) (faceAt at)) t₀ e)
     × ((x : ℕ) → e ≤ x → weightAt t x ≡ weightAt t₀ x)
 
 abbrev μ-loop : tie.MeasureT-loop
@@ -41,7 +42,7 @@ loop-again c =
     let a = c .before .before .before .before .before .before .before .before .before .before .before .args in
     let l = c .before .before .before .before .before .loop in
     let p = c .before .before .put-first-tangent in
-    let t = first-turn (a .h .now) (a .refs .now) (a .pos .now) (a .normals .now) (a .«face-normals» .now) true (faceAt (a .at .now)) (a .t .now) (l .t) (p .last .1 .1 .1 .1 .1 .1 .1 .0) (l .e) (l .inv .2) (l .inv .3) (p .ensures) in
+    let t = first-turn (asHalfedges (a .h .now)) (a .refs .now) (a .pos .now) (a .normals .now) (a .«face-normals» .now) true (faceAt (a .at .now)) (a .t .now) (l .t) (p .last .1 .1 .1 .1 .1 .1 .1 .0) (l .e) (l .inv .2) (l .inv .3) (p .ensures) in
     (omega arith, p .kept .1 .1 .1 .1 .1 .1 .1 .0 ∙ l .inv .1, t .0, t .1)
 
 same-length : tie.Need-same-length Inv-loop μ-loop

@@ -4,6 +4,7 @@ use mathlib.Core.Path.{_≡_, ap}
 use mathlib.Core.Bool.{false}
 use borrow.Author.Needs.{needs}
 use borrow.Author.Tests.{not-true, not-false}
+use Rattle.mesh.specs.Mesh.{asHalfedges}
 use Rattle.mesh.proofs.Accepted.{inside}
 use Rattle.smoothing.specs.declared.TwoTangents.{TwoTangents}
 use Rattle.smoothing.specs.Inner.{putEdge}
@@ -40,7 +41,7 @@ unfolding putEdge edgeTangents
 returns-2 c =
     let z = c .before .before .before .before .before .before .before .before .before .before .before .before .before .before .before .before .before .before .args in
     let tangents = c .before .before .before .before .before .before .before .before .before .edge-tangents in
-    let first = firstAt (z .h .now) (z .pos .now) (z .normals .now) (z .«face-normals» .now) (z .refs .now) (z .at .now) (z .t .now) false in
+    let first = firstAt (asHalfedges (z .h .now)) (z .pos .now) (z .normals .now) (z .«face-normals» .now) (z .refs .now) (z .at .now) (z .t .now) false in
     let pair = c .before .before .before .before .before .before .before .before .paired-halfedge in
     let here : tangents .result .here ≡ first (z .e) = ap (λ (t : TwoTangents). t .here) (tangents .ensures) in
     let there : tangents .result .there ≡ first (pair .result) = rw (pair .ensures) (ap (λ (t : TwoTangents). t .there) (tangents .ensures)) in

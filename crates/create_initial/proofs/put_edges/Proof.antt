@@ -6,6 +6,7 @@ use mathlib.Core.Bool.{false}
 use lib.ListN.{length}
 use Rattle.common.specs.Fold.{foldTo}
 use Rattle.common.proofs.Fold.{fold-none}
+use Rattle.mesh.specs.Mesh.{asHalfedges}
 use Rattle.smoothing.specs.Lists.{putTangent}
 use Rattle.smoothing.specs.Inner.{putEdge}
 use Rattle.create_initial.specs.Lent.{firstAt}
@@ -17,7 +18,7 @@ use Rattle.create_initial.proofs.put_edges.Tie as tie
 abbrev Inv-loop : tie.InvT-loop
 Inv-loop n h refs pos normals face-normals at t₀ e₀ t e =
     (e ≤ n) × (length t ≡ length t₀)
-    × (t ≡ foldTo (putEdge putTangent h (firstAt h pos normals face-normals refs at t₀ false)) t₀ e)
+    × (t ≡ foldTo (putEdge putTangent (asHalfedges h) (firstAt (asHalfedges h) pos normals face-normals refs at t₀ false)) t₀ e)
 
 abbrev μ-loop : tie.MeasureT-loop
 μ-loop n h refs pos normals face-normals at t₀ e₀ t e = n - e
@@ -39,7 +40,7 @@ loop-again c =
     let a = c .before .before .before .before .before .before .before .before .before .before .before .args in
     let l = c .before .before .before .before .before .loop in
     let p = c .before .before .put-edge in
-    (omega arith, p .kept .1 .1 .1 .1 .1 .1 .1 .0 ∙ l .inv .1, edge-turn (a .h .now) (a .refs .now) (a .pos .now) (a .normals .now) (a .«face-normals» .now) (a .at .now) (a .t .now) (l .t) (p .last .1 .1 .1 .1 .1 .1 .1 .0) (l .e) (l .inv .2) (p .ensures))
+    (omega arith, p .kept .1 .1 .1 .1 .1 .1 .1 .0 ∙ l .inv .1, edge-turn (asHalfedges (a .h .now)) (a .refs .now) (a .pos .now) (a .normals .now) (a .«face-normals» .now) (a .at .now) (a .t .now) (l .t) (p .last .1 .1 .1 .1 .1 .1 .1 .0) (l .e) (l .inv .2) (p .ensures))
 
 same-length : tie.Need-same-length Inv-loop μ-loop
 same-length c = c .before .loop .inv .1

@@ -7,6 +7,7 @@ use lib.IntN.{ℤ}
 use lib.ListN.{length, replicate, length-replicate}
 use Rattle.common.specs.Fold.{foldTo}
 use Rattle.common.proofs.Fold.{fold-none, fold-turn}
+use Rattle.mesh.specs.Mesh.{Halfedges, asHalfedges}
 use Rattle.create_shared.specs.Faces.{markFlat}
 use Rattle.create_shared.specs.Lent.{FlatIn, flatFlags}
 use Rattle.create_shared.proofs.Flat.{flat-filled}
@@ -14,7 +15,7 @@ use Rattle.create_shared.proofs.Lent.{flat-still}
 use Rattle.create_shared.proofs.flat_faces.Statement.{statement}
 use Rattle.create_shared.proofs.flat_faces.Tie as tie
 
-ended : (H R : List ℤ) (F F₀ : List ℕ) (n t : ℕ) → FlatIn H n → F₀ ≡ replicate n 0 → t ≤ length F₀ / 3 → length F₀ / 3 ≤ t → F ≡ foldTo (markFlat H R) F₀ t → F ≡ flatFlags H R n
+ended : (H : Halfedges) (R : List ℤ) (F F₀ : List ℕ) (n t : ℕ) → FlatIn H n → F₀ ≡ replicate n 0 → t ≤ length F₀ / 3 → length F₀ / 3 ≤ t → F ≡ foldTo (markFlat H R) F₀ t → F ≡ flatFlags H R n
 ended H R F F₀ n t w e a b f =
     let q : length F₀ ≡ n = ap length e ∙ length-replicate n 0 in
     let r : t ≡ n / 3 = omega arith in
@@ -22,7 +23,7 @@ ended H R F F₀ n t w e a b f =
     g ∙ flat-filled H R n w
 
 abbrev Inv-loop : tie.InvT-loop
-Inv-loop h refs flat₀ t₀ flat t = (t ≤ length flat₀ / 3) × (length flat ≡ length flat₀) × (flat ≡ foldTo (markFlat h refs) flat₀ t)
+Inv-loop h refs flat₀ t₀ flat t = (t ≤ length flat₀ / 3) × (length flat ≡ length flat₀) × (flat ≡ foldTo (markFlat (asHalfedges h) refs) flat₀ t)
 
 abbrev μ-loop : tie.MeasureT-loop
 μ-loop h refs flat₀ t₀ flat t = length flat₀ / 3 - t
@@ -37,7 +38,7 @@ mark-flat-requires : tie.Need-mark-flat-requires Inv-loop μ-loop
 mark-flat-requires c κs =
     let a = c .before .before .before .before .before .before .before .before .args in
     let l = c .before .before .loop in
-    flat-still (a .h .now) (l .t * 3 + 2) (length (a .flat .now)) _ (l .inv .1 ∙ c .before .before .before .before .before .fill-bytes .kept .0) (omega (arith, c .before .before .before .before .before .fill-bytes .kept .0)) (c .before .before .before .before .before .before .before .before .pre)
+    flat-still (asHalfedges (a .h .now)) (l .t * 3 + 2) (length (a .flat .now)) _ (l .inv .1 ∙ c .before .before .before .before .before .fill-bytes .kept .0) (omega (arith, c .before .before .before .before .before .fill-bytes .kept .0)) (c .before .before .before .before .before .before .before .before .pre)
 
 add-t : tie.Need-add-t Inv-loop μ-loop
 add-t c = omega arith
@@ -57,7 +58,7 @@ returns : tie.Need-returns Inv-loop μ-loop
 returns c =
     let a = c .before .before .before .before .before .before .before .args in
     let l = c .before .loop in
-    ended (a .h .now) (a .refs .now) (l .flat) (c .before .before .before .before .fill-bytes .last .0) (length (a .flat .now)) (l .t) (c .before .before .before .before .before .before .before .pre) (c .before .before .before .before .fill-bytes .ensures) (l .inv .0) (omega arith) (l .inv .2)
+    ended (asHalfedges (a .h .now)) (a .refs .now) (l .flat) (c .before .before .before .before .fill-bytes .last .0) (length (a .flat .now)) (l .t) (c .before .before .before .before .before .before .before .pre) (c .before .before .before .before .fill-bytes .ensures) (l .inv .0) (omega arith) (l .inv .2)
 
 pub flat-faces-spec : {M : Type 1} → statement M
 flat-faces-spec =

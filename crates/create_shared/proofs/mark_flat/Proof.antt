@@ -8,6 +8,7 @@ use lib.ListN.{length, set, length-set}
 use borrow.Author.Tests.{le-ltb, lt-ltb}
 use borrow.Author.Needs.{needs}
 use Rattle.common.specs.Fold.{foldTo}
+use Rattle.mesh.specs.Mesh.{Halfedges, asHalfedges}
 use Rattle.create_shared.specs.Faces.{faceNeighbors, markNeighbor, markFlat}
 use Rattle.create_shared.proofs.Lent.{flat-still}
 use Rattle.create_shared.proofs.mark_flat.Statement.{statement}
@@ -26,17 +27,17 @@ slice-write-flat c = search needs
 mark-neighbor-requires : tie.Need-mark-neighbor-requires
 mark-neighbor-requires c κs =
     let a = c .before .before .before .before .args in
-    flat-still (a .h .now) (a .t * 3 + 0) (length (a .flat .now)) _ (length-set (a .flat .now) (a .t) 1) (omega (arith, c .before .before .before .before .pre .0)) (c .before .before .before .before .pre .1)
+    flat-still (asHalfedges (a .h .now)) (a .t * 3 + 0) (length (a .flat .now)) _ (length-set (a .flat .now) (a .t) 1) (omega (arith, c .before .before .before .before .pre .0)) (c .before .before .before .before .pre .1)
 
 mark-neighbor-requires-2 : tie.Need-mark-neighbor-requires-2
 mark-neighbor-requires-2 c κs =
     let a = c .before .before .before .before .before .before .before .before .args in
-    flat-still (a .h .now) (a .t * 3 + 1) (length (a .flat .now)) _ (c .before .before .before .mark-neighbor .kept .1 .1 .0 ∙ length-set (a .flat .now) (a .t) 1) (omega (arith, c .before .before .before .before .before .before .before .before .pre .0)) (c .before .before .before .before .before .before .before .before .pre .1)
+    flat-still (asHalfedges (a .h .now)) (a .t * 3 + 1) (length (a .flat .now)) _ (c .before .before .before .mark-neighbor .kept .1 .1 .0 ∙ length-set (a .flat .now) (a .t) 1) (omega (arith, c .before .before .before .before .before .before .before .before .pre .0)) (c .before .before .before .before .before .before .before .before .pre .1)
 
 mark-neighbor-requires-3 : tie.Need-mark-neighbor-requires-3
 mark-neighbor-requires-3 c κs =
     let a = c .before .before .before .before .before .before .before .before .before .before .before .before .args in
-    flat-still (a .h .now) (a .t * 3 + 2) (length (a .flat .now)) _ (c .before .before .before .mark-neighbor2 .kept .1 .1 .0 ∙ c .before .before .before .before .before .before .before .mark-neighbor .kept .1 .1 .0 ∙ length-set (a .flat .now) (a .t) 1) (omega (arith, c .before .before .before .before .before .before .before .before .before .before .before .before .pre .0)) (c .before .before .before .before .before .before .before .before .before .before .before .before .pre .1)
+    flat-still (asHalfedges (a .h .now)) (a .t * 3 + 2) (length (a .flat .now)) _ (c .before .before .before .mark-neighbor2 .kept .1 .1 .0 ∙ c .before .before .before .before .before .before .before .mark-neighbor .kept .1 .1 .0 ∙ length-set (a .flat .now) (a .t) 1) (omega (arith, c .before .before .before .before .before .before .before .before .before .before .before .before .pre .0)) (c .before .before .before .before .before .before .before .before .before .before .before .before .pre .1)
 
 same-length : tie.Need-same-length
 same-length c =
@@ -44,14 +45,14 @@ same-length c =
     c .before .before .mark-neighbor3 .kept .1 .1 .0 ∙ c .before .before .before .before .before .before .mark-neighbor2 .kept .1 .1 .0 ∙ c .before .before .before .before .before .before .before .before .before .before .mark-neighbor .kept .1 .1 .0 ∙ length-set (a .flat .now) (a .t) 1
 
 -- three neighbors in a row are the fold
-marked : (H R : List ℤ) (F F₁ F₂ F₃ : List ℕ) (t r : ℕ) → 1 < r → r ≡ faceNeighbors H R t → F₁ ≡ markNeighbor H R t (set F t 1) 0 → F₂ ≡ markNeighbor H R t F₁ 1 → F₃ ≡ markNeighbor H R t F₂ 2 → F₃ ≡ markFlat H R F t
+marked : (H : Halfedges) (R : List ℤ) (F F₁ F₂ F₃ : List ℕ) (t r : ℕ) → 1 < r → r ≡ faceNeighbors H R t → F₁ ≡ markNeighbor H R t (set F t 1) 0 → F₂ ≡ markNeighbor H R t F₁ 1 → F₃ ≡ markNeighbor H R t F₂ 2 → F₃ ≡ markFlat H R F t
 unfolding markFlat foldTo
 marked H R F F₁ F₂ F₃ t r l e a b d = rw (← e, lt-ltb 1 r l) (d ∙ rw (b, a))
 
 returns-2 : tie.Need-returns-2
 returns-2 c =
     let a = c .before .before .before .before .before .before .before .before .before .before .before .before .before .before .before .args in
-    marked (a .h .now) (a .refs .now) (a .flat .now) _ _ _ (a .t) _
+    marked (asHalfedges (a .h .now)) (a .refs .now) (a .flat .now) _ _ _ (a .t) _
     (c .before .before .before .before .before .before .before .before .before .before .before .before .if1 .left)
     (c .before .before .before .before .before .before .before .before .before .before .before .before .before .face-neighbors .ensures)
     (c .before .before .before .before .before .before .before .before .before .before .mark-neighbor .ensures)

@@ -12,17 +12,18 @@ use Rattle.create_shared.specs.Lent.{faceOf}
 use Rattle.create_shared.specs.declared.FlatFace.{FlatFace}
 use Rattle.create_shared.specs.declared.FlatFace.the-variants.{NoFace}
 use Rattle.common.proofs.Filled.{filled-at}
+use Rattle.mesh.specs.Mesh.{Halfedges, asHalfedges}
 use Rattle.create_shared.proofs.Lent.{verts-still}
 use Rattle.create_shared.proofs.Codes.{face-none}
 use Rattle.create_shared.proofs.vert_flat_face.Statement.{statement}
 use Rattle.create_shared.proofs.vert_flat_face.Tie as tie
 
-ended : (H R : List ℤ) (F : List ℕ) (f : FlatFace) (v e : ℕ) → e ≡ length F → f ≡ foldTo (vertFaceAt H R (isFlat F) v) NoFace e → f ≡ vertFlatFace H R (isFlat F) (length F) v
+ended : (H : Halfedges) (R : List ℤ) (F : List ℕ) (f : FlatFace) (v e : ℕ) → e ≡ length F → f ≡ foldTo (vertFaceAt H R (isFlat F) v) NoFace e → f ≡ vertFlatFace H R (isFlat F) (length F) v
 unfolding vertFlatFace
 ended H R F f v e q p = p ∙ rw q
 
 abbrev Inv-loop : tie.InvT-loop
-Inv-loop h refs flat at₀ e₀ at e = (e ≤ length flat) × (length at ≡ length at₀) × ((v : ℕ) → v < length at₀ → faceOf (getD at v 0) ≡ foldTo (vertFaceAt h refs (isFlat flat) v) NoFace e)
+Inv-loop h refs flat at₀ e₀ at e = (e ≤ length flat) × (length at ≡ length at₀) × ((v : ℕ) → v < length at₀ → faceOf (getD at v 0) ≡ foldTo (vertFaceAt (asHalfedges h) refs (isFlat flat) v) NoFace e)
 
 abbrev μ-loop : tie.MeasureT-loop
 μ-loop h refs flat at₀ e₀ at e = length flat - e
@@ -37,7 +38,7 @@ vert-face-at-requires : tie.Need-vert-face-at-requires Inv-loop μ-loop
 vert-face-at-requires c κs =
     let a = c .before .before .before .before .before .before .before .before .before .args in
     let l = c .before .before .loop in
-    (omega arith, verts-still (a .h .now) (length (a .flat .now)) (length (a .at .now)) _ (l .inv .1 ∙ c .before .before .before .before .before .fill-numbers .kept .0) (c .before .before .before .before .before .before .before .before .before .pre))
+    (omega arith, verts-still (asHalfedges (a .h .now)) (length (a .flat .now)) (length (a .at .now)) _ (l .inv .1 ∙ c .before .before .before .before .before .fill-numbers .kept .0) (c .before .before .before .before .before .before .before .before .before .pre))
 
 add-e : tie.Need-add-e Inv-loop μ-loop
 add-e c = omega arith
@@ -57,7 +58,7 @@ returns : tie.Need-returns Inv-loop μ-loop
 returns c = λ v h.
     let a = c .before .before .before .before .before .before .before .before .args in
     let l = c .before .loop in
-    ended (a .h .now) (a .refs .now) (a .flat .now) _ v (l .e) (omega arith) (l .inv .2 v (rw (c .before .before .before .before .fill-numbers .kept .0) h))
+    ended (asHalfedges (a .h .now)) (a .refs .now) (a .flat .now) _ v (l .e) (omega arith) (l .inv .2 v (rw (c .before .before .before .before .fill-numbers .kept .0) h))
 
 pub vert-flat-face-spec : {M : Type 1} → statement M
 vert-flat-face-spec =

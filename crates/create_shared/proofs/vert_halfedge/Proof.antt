@@ -4,12 +4,11 @@ use native.Mathlib.Omega.{arith}
 use mathlib.Core.Path.{refl, sym, _∙_, _≡_}
 use mathlib.Core.List.{List}
 use mathlib.Core.Bool.{Bool, true, false, not}
-use lib.IntN.{ℤ}
 use lib.Dec.{eqb}
 use lib.ListN.{set, length-set, length, getD}
 use lib.Seq.{getD-set-same, getD-set-other}
 use borrow.Author.Tests.{eqb-true, eqb-false}
-use Rattle.mesh.specs.Mesh.{startVert}
+use Rattle.mesh.specs.Mesh.{startVert, Halfedges, asHalfedges}
 use Rattle.mesh.proofs.Lowest.{lowest-start, lowest-yes, lowest-no, lowest-end}
 use Rattle.mesh.specs.Lowest.{lowestFrom}
 use Rattle.create_shared.specs.Faces.{vertHalfedge, startsElsewhere}
@@ -18,7 +17,7 @@ use Rattle.create_shared.proofs.vert_halfedge.Statement.{statement}
 use Rattle.create_shared.proofs.vert_halfedge.Tie as tie
 
 -- one halfedge further down
-first-put : (H : List ℤ) (n : ℕ) (L : List ℕ) (u e v : ℕ) → 0 < e → e ≤ n → v < length L → u ≡ startVert H (e - 1) → getD L v 0 ≡ lowestFrom (startsElsewhere H v) (n - e) e → getD (set L u (e - 1)) v 0 ≡ lowestFrom (startsElsewhere H v) (n - (e - 1)) (e - 1)
+first-put : (H : Halfedges) (n : ℕ) (L : List ℕ) (u e v : ℕ) → 0 < e → e ≤ n → v < length L → u ≡ startVert H (e - 1) → getD L v 0 ≡ lowestFrom (startsElsewhere H v) (n - e) e → getD (set L u (e - 1)) v 0 ≡ lowestFrom (startsElsewhere H v) (n - (e - 1)) (e - 1)
 first-put H n L u e v p le l s i = go (eqb u v) refl
   where
     below : e - 1 < n
@@ -36,7 +35,7 @@ first-put H n L u e v p le l s i = go (eqb u v) refl
         getD-set-other L u v (e - 1) 0 (λ w. eqb-false u v q (sym w)) ∙ i ∙ sym (rw k at m)
 
 abbrev Inv-loop : tie.InvT-loop
-Inv-loop h at₀ n e₀ at e = (e ≤ n) × (length at ≡ length at₀) × ((v : ℕ) → v < length at₀ → getD at v 0 ≡ lowestFrom (startsElsewhere h v) (n - e) e)
+Inv-loop h at₀ n e₀ at e = (e ≤ n) × (length at ≡ length at₀) × ((v : ℕ) → v < length at₀ → getD at v 0 ≡ lowestFrom (startsElsewhere (asHalfedges h) v) (n - e) e)
 
 abbrev μ-loop : tie.MeasureT-loop
 μ-loop h at₀ n e₀ at e = e
@@ -47,7 +46,7 @@ fill-numbers-requires c κs = tt
 loop-holds : tie.Need-loop-holds Inv-loop μ-loop
 loop-holds c =
     let n = c .before .before .before .before .before .args .n in
-    (omega arith, refl, λ v l. filled-at (c .before .before .fill-numbers .last .0) (length (c .before .before .before .before .before .args .at .now)) n 0 v (c .before .before .fill-numbers .ensures) l ∙ sym (lowest-end (startsElsewhere (c .before .before .before .before .before .args .h .now) v) n n (omega arith)))
+    (omega arith, refl, λ v l. filled-at (c .before .before .fill-numbers .last .0) (length (c .before .before .before .before .before .args .at .now)) n 0 v (c .before .before .fill-numbers .ensures) l ∙ sym (lowest-end (startsElsewhere (asHalfedges (c .before .before .before .before .before .args .h .now)) v) n n (omega arith)))
 
 sub-e : tie.Need-sub-e Inv-loop μ-loop
 sub-e c = omega arith
@@ -68,7 +67,7 @@ loop-again : tie.Need-loop-again Inv-loop μ-loop
 loop-again c =
     let l = c .before .before .loop in
     let a = c .before .before .before .before .before .before .before .before .args in
-    (omega arith, simp length-set (l .inv .1), λ v h. first-put (a .h .now) (a .n) (l .at) (c .start-vert .result) (l .e) v (omega arith) (omega arith) (omega arith) (c .start-vert .ensures) (l .inv .2 v h))
+    (omega arith, simp length-set (l .inv .1), λ v h. first-put (asHalfedges (a .h .now)) (a .n) (l .at) (c .start-vert .result) (l .e) v (omega arith) (omega arith) (omega arith) (c .start-vert .ensures) (l .inv .2 v h))
 
 same-length : tie.Need-same-length Inv-loop μ-loop
 same-length c = c .before .loop .inv .1 ∙ c .before .before .before .before .fill-numbers .kept .0

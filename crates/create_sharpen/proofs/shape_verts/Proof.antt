@@ -10,13 +10,14 @@ use Rattle.create_creases.specs.Linked.{pairsAt}
 use native.Mathlib.Omega.{arith}
 use mathlib.Core.Path.{_≡_, refl, sym, _∙_}
 use Prim.Native.Nat.{_-_, _≤_}
+use Rattle.mesh.specs.Mesh.{asHalfedges}
 use Rattle.create_sharpen.proofs.shape_verts.Statement.{statement}
 use Rattle.create_sharpen.proofs.shape_verts.Tie as tie
 
 abbrev Inv-loop : tie.InvT-loop
 Inv-loop n h pos flat smooth at link t₀ fixed₀ v₀ t fixed v =
     (v ≤ length at) × (length t ≡ length t₀) × (length fixed ≡ length fixed₀)
-    × (tangentsOf t fixed ≡ foldTo (shapeVert h pos (isFlat flat) n (pairsAt h smooth n)) (tangentsOf t₀ fixed₀) v)
+    × (tangentsOf t fixed ≡ foldTo (shapeVert (asHalfedges h) pos (isFlat flat) n (pairsAt (asHalfedges h) smooth n)) (tangentsOf t₀ fixed₀) v)
 
 abbrev μ-loop : tie.MeasureT-loop
 μ-loop n h pos flat smooth at link t₀ fixed₀ v₀ t fixed v = length at - v

@@ -1,4 +1,5 @@
 -- `create_sharpen::sharpen_meeting` meets its contract: a walk once round a vertex cycle. The invariant: what is left of the fold gives the whole. Assumes nothing.
+use Rattle.mesh.specs.Mesh.{asHalfedges}
 use Rattle.mesh.proofs.Accepted.{inside}
 use Rattle.create_shared.proofs.Lent.{flat-in, flat-still}
 use Rattle.create_sharpen.specs.Sharpen.{sharpenMeetingAt, sharpenMeeting}
@@ -18,11 +19,11 @@ use Rattle.create_sharpen.proofs.sharpen_meeting.Tie as tie
 
 abbrev Inv-loop : tie.InvT-loop
 Inv-loop n h flat t₀ first mean current₀ t current =
-    Walking (nextAround h) n (isAt first) n first current × (length t ≡ length t₀)
-    × (foldl (sharpenMeetingAt h (isFlat flat) mean) t (cycleFrom (nextAround h) n first current) ≡ foldl (sharpenMeetingAt h (isFlat flat) mean) t₀ (vertexCycle h n first))
+    Walking (nextAround (asHalfedges h)) n (isAt first) n first current × (length t ≡ length t₀)
+    × (foldl (sharpenMeetingAt (asHalfedges h) (isFlat flat) mean) t (cycleFrom (nextAround (asHalfedges h)) n first current) ≡ foldl (sharpenMeetingAt (asHalfedges h) (isFlat flat) mean) t₀ (vertexCycle (asHalfedges h) n first))
 
 abbrev μ-loop : tie.MeasureT-loop
-μ-loop n h flat t₀ first mean current₀ t current = stepsLeft (nextAround h) (isAt first) n current
+μ-loop n h flat t₀ first mean current₀ t current = stepsLeft (nextAround (asHalfedges h)) (isAt first) n current
 
 loop-holds : tie.Need-loop-holds Inv-loop μ-loop
 loop-holds c = let pre = c .before .before .pre in (around-start (next-permutes (pre .1 .tangents .sound)) (le-refl _) (pre .0), refl, refl)
@@ -51,7 +52,7 @@ loop-again c =
     let Q = next-permutes (c .before .before .before .before .before .before .before .before .before .pre .1 .tangents .sound) in (
       around-step Q (l .inv .0) (c .before .next-around .ensures) (c .if1 .left),
       m .kept .1 .1 .0 ∙ l .inv .1,
-      around-fold-step Q (l .inv .0) (c .before .next-around .ensures) (sharpenMeetingAt (a .h .now) (isFlat (a .flat .now)) (a .mean)) (l .t) (l .inv .2) (m .ensures) (c .if1 .left),
+      around-fold-step Q (l .inv .0) (c .before .next-around .ensures) (sharpenMeetingAt (asHalfedges (a .h .now)) (isFlat (a .flat .now)) (a .mean)) (l .t) (l .inv .2) (m .ensures) (c .if1 .left),
     )
 
 same-length : tie.Need-same-length Inv-loop μ-loop
@@ -63,7 +64,7 @@ returns c =
     let m = c .before .before .before .before .sharpen-meeting-at in
     let l = c .before .before .before .before .before .before .loop in
     let a = c .before .before .before .before .before .before .before .before .before .args in
-    around-fold-stop (next-permutes (c .before .before .before .before .before .before .before .before .before .pre .1 .tangents .sound)) (l .inv .0) (c .before .next-around .ensures) (sharpenMeetingAt (a .h .now) (isFlat (a .flat .now)) (a .mean)) (l .t) (l .inv .2) (m .ensures) (c .if1 .taken)
+    around-fold-stop (next-permutes (c .before .before .before .before .before .before .before .before .before .pre .1 .tangents .sound)) (l .inv .0) (c .before .next-around .ensures) (sharpenMeetingAt (asHalfedges (a .h .now)) (isFlat (a .flat .now)) (a .mean)) (l .t) (l .inv .2) (m .ensures) (c .if1 .taken)
 
 pub sharpen-meeting-spec : {M : Type 1} → statement M
 sharpen-meeting-spec =

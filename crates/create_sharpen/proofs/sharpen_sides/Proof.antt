@@ -1,4 +1,5 @@
 -- `create_sharpen::sharpen_sides` meets its contract: a walk once round a vertex cycle. The invariant: what is left of the fold gives the whole. Assumes nothing.
+use Rattle.mesh.specs.Mesh.{asHalfedges}
 use Rattle.mesh.proofs.Accepted.{inside}
 use Rattle.create_sharpen.specs.Sharpen.{Sides, sidesOf, sharpenSide, sharpenSides}
 use Rattle.create_shared.proofs.Makings.{tangent-in}
@@ -16,11 +17,11 @@ use Rattle.create_sharpen.proofs.sharpen_sides.Tie as tie
 
 abbrev Inv-loop : tie.InvT-loop
 Inv-loop n h t₀ first second between beyond s₀ current₀ t s current =
-    Walking (nextAround h) n (isAt first) n first current × (length t ≡ length t₀)
-    × (foldl (sharpenSide first second beyond) (sidesOf t s) (cycleFrom (nextAround h) n first current) ≡ foldl (sharpenSide first second beyond) (sidesOf t₀ between) (vertexCycle h n first))
+    Walking (nextAround (asHalfedges h)) n (isAt first) n first current × (length t ≡ length t₀)
+    × (foldl (sharpenSide first second beyond) (sidesOf t s) (cycleFrom (nextAround (asHalfedges h)) n first current) ≡ foldl (sharpenSide first second beyond) (sidesOf t₀ between) (vertexCycle (asHalfedges h) n first))
 
 abbrev μ-loop : tie.MeasureT-loop
-μ-loop n h t₀ first second between beyond s₀ current₀ t s current = stepsLeft (nextAround h) (isAt first) n current
+μ-loop n h t₀ first second between beyond s₀ current₀ t s current = stepsLeft (nextAround (asHalfedges h)) (isAt first) n current
 
 loop-holds : tie.Need-loop-holds Inv-loop μ-loop
 loop-holds c = let pre = c .before .pre in (around-start (next-permutes (pre .1 .sound)) (le-refl _) (pre .0), refl, refl)

@@ -10,25 +10,26 @@ use Rattle.distribute.proofs.Accepted.{lists-of}
 use Rattle.distribute.proofs.Order.{any-order}
 use Rattle.distribute.proofs.Values.{values-of}
 use borrow.Author.Needs.{needs}
+use Rattle.mesh.specs.Mesh.{asHalfedges}
 use Rattle.distribute.proofs.distribute_tangents.Statement.{statement}
 use Rattle.distribute.proofs.distribute_tangents.Tie as tie
 
 demand-3 : (s : tie.Start) (after : List Float) (r : Spreading)
-    → r ≡ distributeTangents (now (s .args .h)) (now (s .args .pos)) (now (s .args .normals)) (now (s .args .fixed)) (now (s .args .t)) (now (s .args .current)) (now (s .args .desired)) (s .args .n) (s .args .p)
-    → after ≡ tangentsAfter (now (s .args .h)) (now (s .args .pos)) (now (s .args .normals)) (now (s .args .fixed)) (now (s .args .t)) (now (s .args .current)) (now (s .args .desired)) (s .args .n) (s .args .p)
-    → AnyOrder (now (s .args .h)) (now (s .args .pos)) (now (s .args .normals)) (now (s .args .fixed)) (now (s .args .t)) (now (s .args .current)) (now (s .args .desired)) (s .args .n) (s .args .p) after r
-demand-3 s after r = any-order (now (s .args .h)) (now (s .args .pos)) (now (s .args .normals)) (now (s .args .fixed)) (now (s .args .t)) (now (s .args .current)) (now (s .args .desired)) (s .args .n) (s .args .p)
+    → r ≡ distributeTangents (asHalfedges (now (s .args .h))) (now (s .args .pos)) (now (s .args .normals)) (now (s .args .fixed)) (now (s .args .t)) (now (s .args .current)) (now (s .args .desired)) (s .args .n) (s .args .p)
+    → after ≡ tangentsAfter (asHalfedges (now (s .args .h))) (now (s .args .pos)) (now (s .args .normals)) (now (s .args .fixed)) (now (s .args .t)) (now (s .args .current)) (now (s .args .desired)) (s .args .n) (s .args .p)
+    → AnyOrder (asHalfedges (now (s .args .h))) (now (s .args .pos)) (now (s .args .normals)) (now (s .args .fixed)) (now (s .args .t)) (now (s .args .current)) (now (s .args .desired)) (s .args .n) (s .args .p) after r
+demand-3 s after r = any-order (asHalfedges (now (s .args .h))) (now (s .args .pos)) (now (s .args .normals)) (now (s .args .fixed)) (now (s .args .t)) (now (s .args .current)) (now (s .args .desired)) (s .args .n) (s .args .p)
 
 -- number, place, looked and turned of the answer
 values : (s : tie.Start) {r : Spreading} → let a = s .args in
-    r ≡ distributeTangents (now (a .h)) (now (a .pos)) (now (a .normals)) (now (a .fixed)) (now (a .t)) (now (a .current)) (now (a .desired)) (a .n) (a .p)
-    → Values (checkLists (now (a .h)) (now (a .pos)) (now (a .normals)) (now (a .fixed)) (now (a .t)) (now (a .current)) (now (a .desired)) (a .n) (a .p)) (floatSteps (now (a .h)) (now (a .pos)) (now (a .normals)) (now (a .fixed)) (a .n)) (spreadTangents (now (a .h)) (now (a .pos)) (now (a .normals)) (now (a .fixed)) (now (a .t)) (a .n)) r
+    r ≡ distributeTangents (asHalfedges (now (a .h))) (now (a .pos)) (now (a .normals)) (now (a .fixed)) (now (a .t)) (now (a .current)) (now (a .desired)) (a .n) (a .p)
+    → Values (checkLists (asHalfedges (now (a .h))) (now (a .pos)) (now (a .normals)) (now (a .fixed)) (now (a .t)) (now (a .current)) (now (a .desired)) (a .n) (a .p)) (floatSteps (asHalfedges (now (a .h))) (now (a .pos)) (now (a .normals)) (now (a .fixed)) (a .n)) (spreadTangents (asHalfedges (now (a .h))) (now (a .pos)) (now (a .normals)) (now (a .fixed)) (now (a .t)) (a .n)) r
 values s =
     let a = s .args in
     values-of
-    (floatSteps (now (a .h)) (now (a .pos)) (now (a .normals)) (now (a .fixed)) (a .n))
-    (spreadTangents (now (a .h)) (now (a .pos)) (now (a .normals)) (now (a .fixed)) (now (a .t)) (a .n))
-    (checkLists (now (a .h)) (now (a .pos)) (now (a .normals)) (now (a .fixed)) (now (a .t)) (now (a .current)) (now (a .desired)) (a .n) (a .p))
+    (floatSteps (asHalfedges (now (a .h))) (now (a .pos)) (now (a .normals)) (now (a .fixed)) (a .n))
+    (spreadTangents (asHalfedges (now (a .h))) (now (a .pos)) (now (a .normals)) (now (a .fixed)) (now (a .t)) (a .n))
+    (checkLists (asHalfedges (now (a .h))) (now (a .pos)) (now (a .normals)) (now (a .fixed)) (now (a .t)) (now (a .current)) (now (a .desired)) (a .n) (a .p))
 
 returns : tie.Need-returns
 returns c =
@@ -40,7 +41,7 @@ returns c =
 spread-tangents-requires : tie.Need-spread-tangents-requires
 spread-tangents-requires c κs =
     let a = c .before .before .before .before .before .before .before .before .before .before .before .before .before .before .before .args in
-    lists-of (now (a .h)) (now (a .pos)) (now (a .normals)) (now (a .fixed)) (now (a .t)) (now (a .current)) (now (a .desired)) (a .n) (a .p)
+    lists-of (asHalfedges (now (a .h))) (now (a .pos)) (now (a .normals)) (now (a .fixed)) (now (a .t)) (now (a .current)) (now (a .desired)) (a .n) (a .p)
     (sym (c .before .before .before .before .before .check-lists .ensures) ∙ c .before .before .before .enum-told .given .1)
 
 returns-2 : tie.Need-returns-2

@@ -1,8 +1,10 @@
 -- `distribute::lengths_fit` meets its contract.
+use Rattle.mesh.specs.Mesh.{asHalfedges}
 use Rattle.distribute.proofs.lengths_fit.Statement.{statement}
 use Rattle.distribute.proofs.lengths_fit.Tie as tie
 
 returns : tie.Need-returns
+unfolding asHalfedges
 returns c =
     rw (
       c .before .has-length7 .ensures,

@@ -3,7 +3,7 @@ use mathlib.Core.Path.{_≡_, refl, _∙_}
 use Prim.Native.Nat.{_-_, _*_, _≤_}
 use native.Mathlib.Omega.{arith}
 use lib.ListN.{length}
-use Rattle.mesh.specs.Mesh.{maxHalfedges}
+use Rattle.mesh.specs.Mesh.{maxHalfedges, asHalfedges}
 use Rattle.distribute_steps.specs.FloatSteps.{floatSteps}
 use Rattle.distribute.proofs.Pass.{PassAt, pass-begin, pass-next, pass-done}
 use Rattle.distribute.proofs.spread_all.Statement.{statement}
@@ -13,7 +13,7 @@ abbrev Inv-loop : tie.InvT-loop
 Inv-loop n p h pos normals fixed t₀ current₀ desired₀ counts₀ start₀ t current desired counts start =
     (start ≤ n) × (length t ≡ length t₀) × (length current ≡ length current₀) × (length desired ≡ length desired₀)
     × ((counts .looked ≤ start * maxHalfedges) × (counts .turned ≤ start * maxHalfedges))
-    × PassAt (floatSteps h pos normals fixed n) t₀ start t counts
+    × PassAt (floatSteps (asHalfedges h) pos normals fixed n) t₀ start t counts
 
 abbrev μ-loop : tie.MeasureT-loop
 μ-loop n p h pos normals fixed t₀ current₀ desired₀ counts₀ start₀ t current desired counts start = n - start

@@ -4,6 +4,7 @@ use mathlib.Core.List.{[]}
 use native.Mathlib.Omega.{arith}
 use lib.ListN.{length}
 use denote.Ref.{now}
+use Rattle.mesh.specs.Mesh.{asHalfedges}
 use Rattle.mesh.proofs.Accepted.{inside}
 use Rattle.distribute_spread.specs.Steps.{Lawful}
 use Rattle.smoothing.specs.Lists.{tangentAt}
@@ -19,14 +20,14 @@ use Rattle.distribute_walks.proofs.first_walk.Tie as tie
 
 abbrev Inv-loop : tie.InvT-loop
 Inv-loop n p h pos normals fixed t current₀ desired₀ start approx carried₀ first looked₀ here₀ current desired carried looked here =
-    FirstGoing (floatSteps h pos normals fixed n) t start looked₀ (begin h pos start (tangentAt t start)) here looked (carried .count) (gatheredOf current desired carried)
+    FirstGoing (floatSteps (asHalfedges h) pos normals fixed n) t start looked₀ (begin (asHalfedges h) pos start (tangentAt t start)) here looked (carried .count) (gatheredOf current desired carried)
     × (length current ≡ length current₀)
     × (length desired ≡ length desired₀)
 
 abbrev μ-loop : tie.MeasureT-loop
-μ-loop n p h pos normals fixed t current₀ desired₀ start approx carried₀ first looked₀ here₀ current desired carried looked here = firstLeft (floatSteps h pos normals fixed n) t here
+μ-loop n p h pos normals fixed t current₀ desired₀ start approx carried₀ first looked₀ here₀ current desired carried looked here = firstLeft (floatSteps (asHalfedges h) pos normals fixed n) t here
 
-abbrev laws : (s : tie.Start Inv-loop μ-loop) → Lawful (floatSteps (now (s .args .h)) (now (s .args .pos)) (now (s .args .normals)) (now (s .args .fixed)) (s .args .n))
+abbrev laws : (s : tie.Start Inv-loop μ-loop) → Lawful (floatSteps (asHalfedges (now (s .args .h))) (now (s .args .pos)) (now (s .args .normals)) (now (s .args .fixed)) (s .args .n))
 laws s = lawful (s .pre .0 .sound) (now (s .args .pos)) (now (s .args .normals)) (now (s .args .fixed))
 
 point-at-requires : tie.Need-point-at-requires Inv-loop μ-loop
@@ -46,7 +47,7 @@ loop-holds : tie.Need-loop-holds Inv-loop μ-loop
 loop-holds c =
     let p = c .before .before .before .before .before .before .before .before .before .before .before .before .pre in
     let a = c .before .before .before .before .before .before .before .before .before .before .before .before .args in (
-      first-going (laws (c .before .before .before .before .before .before .before .before .before .before .before .before)) (p .1 .0) (p .1 .1) (c .before .before .begin .ensures .0 _ _ ∙ ap (begin (now (a .h)) (now (a .pos)) (a .start)) (c .before .before .before .tangent-at .ensures)) (c .before .before .begin .ensures .1),
+      first-going (laws (c .before .before .before .before .before .before .before .before .before .before .before .before)) (p .1 .0) (p .1 .1) (c .before .before .begin .ensures .0 _ _ ∙ ap (begin (asHalfedges (now (a .h))) (now (a .pos)) (a .start)) (c .before .before .before .tangent-at .ensures)) (c .before .before .begin .ensures .1),
       refl,
       refl,
     )
@@ -70,7 +71,7 @@ gather-at-requires c κs =
       look = record {
         tangent-in = omega (arith, p .0 .tangents, below);
         edge = edge-from (p .0 .sound) (p .0 .whole) (p .0 .positions) _ _ (p .1 .0) below;
-        first-is = begin-directions (now (a .h)) (now (a .pos)) (now (a .t)) [] [] (a .start) (c .before .before .before .before .before .before .begin .result) (rw (c .before .before .before .before .before .before .before .tangent-at .ensures) at (c .before .before .before .before .before .before .begin .ensures .0 [] []));
+        first-is = begin-directions (asHalfedges (now (a .h))) (now (a .pos)) (now (a .t)) [] [] (a .start) (c .before .before .before .before .before .before .begin .result) (rw (c .before .before .before .before .before .before .before .tangent-at .ensures) at (c .before .before .before .before .before .before .begin .ensures .0 [] []));
       };
       current-in = omega (arith, room, inv .1, p .0 .current);
       desired-in = omega (arith, room, inv .2, p .0 .desired);

@@ -6,6 +6,7 @@ use native.Mathlib.Omega.{arith}
 use lib.ListN.{length}
 use lib.Ieee.{Float}
 use denote.Ref.{now}
+use Rattle.mesh.specs.Mesh.{asHalfedges}
 use Rattle.mesh.specs.Sound.{Sound}
 use Rattle.mesh.proofs.Accepted.{inside}
 use Rattle.cycles.specs.Cycles.{nextAround}
@@ -21,14 +22,14 @@ use Rattle.distribute_walks.proofs.second_walk.Tie as tie
 
 abbrev Inv-walk : tie.InvT-walk
 Inv-walk n p h fixed t₀ current desired₀ start by here₀ i₀ t desired here i =
-    (s : Sound h n p)
+    (s : Sound (asHalfedges h) n p)
     × ((P N : List Float) (k : Counts) (places : List ℕ)
     → SecondGoing (lawful s P N fixed) t₀ start (by .count) (planOf current desired₀ by 0) t here i (planOf current desired by i) k places)
     × (length t ≡ length t₀)
     × (length desired ≡ length desired₀)
 
 abbrev μ-walk : tie.MeasureT-walk
-μ-walk n p h fixed t₀ current desired₀ start by here₀ i₀ t desired here i = stepsLeft (nextAround h) (isFixed fixed) (suc n) here
+μ-walk n p h fixed t₀ current desired₀ start by here₀ i₀ t desired here i = stepsLeft (nextAround (asHalfedges h)) (isFixed fixed) (suc n) here
 
 abbrev none : Counts
 none = record { looked = 0; turned = 0 }

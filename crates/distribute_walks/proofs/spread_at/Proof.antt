@@ -6,6 +6,7 @@ use borrow.Author.Tests.{not-true, not-false}
 use lib.Seq.{length-take-le}
 use lib.Ieee.{Float}
 use denote.Ref.{now}
+use Rattle.mesh.specs.Mesh.{asHalfedges}
 use Rattle.distribute_spread.specs.Steps.{Steps}
 use Rattle.distribute_spread.specs.Spread.{Found}
 use Rattle.distribute_steps.specs.FloatSteps.{floatSteps}
@@ -17,10 +18,10 @@ use Rattle.distribute_walks.proofs.spread_at.Statement.{statement}
 use Rattle.distribute_walks.proofs.spread_at.Tie as tie
 
 abbrev steps : tie.Start → Steps
-steps s = floatSteps (now (s .args .h)) (now (s .args .pos)) (now (s .args .normals)) (now (s .args .fixed)) (s .args .n)
+steps s = floatSteps (asHalfedges (now (s .args .h))) (now (s .args .pos)) (now (s .args .normals)) (now (s .args .fixed)) (s .args .n)
 
 abbrev found : (s : tie.Start) → List Float → List Float → Ended → Found (steps s)
-found s C D r = foundOf (now (s .args .h)) (now (s .args .pos)) (now (s .args .normals)) (now (s .args .fixed)) (s .args .n) C D r
+found s C D r = foundOf (asHalfedges (now (s .args .h))) (now (s .args .pos)) (now (s .args .normals)) (now (s .args .fixed)) (s .args .n) C D r
 
 returns : tie.Need-returns
 returns c = (at-none (steps (c .before .before .before .before .before .before .before .before .before)) (now (c .before .before .before .before .before .before .before .before .before .args .t)) (c .before .before .before .before .before .before .before .before .before .args .start) (c .before .before .before .before .before .before .before .before .before .args .counts) (sym (c .before .is-start .ensures) ∙ not-true _ (c .if1 .taken)), omega arith)

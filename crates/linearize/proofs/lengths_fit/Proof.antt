@@ -1,8 +1,10 @@
 -- `linearize::lengths_fit` meets its contract. Assumes nothing.
+use Rattle.mesh.specs.Mesh.{asHalfedges}
 use Rattle.linearize.proofs.lengths_fit.Statement.{statement}
 use Rattle.linearize.proofs.lengths_fit.Tie as tie
 
 returns : tie.Need-returns
+unfolding asHalfedges
 returns c = simp (← c .before .before .before .before .has-length .ensures, ← c .before .before .before .has-length2 .ensures, ← c .before .before .both .ensures, ← c .before .has-length3 .ensures, ← c .both2 .ensures)
 
 pub lengths-fit-spec : {M : Type 1} → statement M

@@ -5,13 +5,14 @@ use mathlib.Core.Path.{_≡_, refl, sym, _∙_}
 use lib.ListN.{length}
 use Rattle.common.specs.Fold.{foldTo}
 use Rattle.common.proofs.Fold.{fold-none, fold-next}
+use Rattle.mesh.specs.Mesh.{asHalfedges}
 use Rattle.smoothing.proofs.Edges.{edge-in, quad-in}
 use Rattle.linearize.specs.Linearize.{linearizeAt, linearizeFlatTangents}
 use Rattle.linearize.proofs.linearize_all.Statement.{statement}
 use Rattle.linearize.proofs.linearize_all.Tie as tie
 
 abbrev Inv-loop : tie.InvT-loop
-Inv-loop n p h pos t₀ e₀ t e = (e ≤ n) × (length t ≡ length t₀) × (t ≡ foldTo (linearizeAt h pos) t₀ e)
+Inv-loop n p h pos t₀ e₀ t e = (e ≤ n) × (length t ≡ length t₀) × (t ≡ foldTo (linearizeAt (asHalfedges h) pos) t₀ e)
 
 abbrev μ-loop : tie.MeasureT-loop
 μ-loop n p h pos t₀ e₀ t e = n - e

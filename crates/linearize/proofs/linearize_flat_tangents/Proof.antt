@@ -2,13 +2,14 @@
 use borrow.Author.Needs.{needs}
 use mathlib.Core.Path.{_≡_, sym, _∙_}
 use denote.Ref.{now}
+use Rattle.mesh.specs.Mesh.{asHalfedges}
 use Rattle.mesh.proofs.Values.{values-same}
 use Rattle.linearize.specs.Linearize.{linearizeAnswer}
 use Rattle.linearize.proofs.Laws.{accepted-lists}
 use Rattle.linearize.proofs.linearize_flat_tangents.Statement.{statement}
 use Rattle.linearize.proofs.linearize_flat_tangents.Tie as tie
 
-answer : (c : tie.After-check-mesh) → let a = c .before .before .before .before .before .args in c .check-mesh .result ≡ linearizeAnswer (now (a .h)) (now (a .pos)) (now (a .t)) (a .n) (a .p)
+answer : (c : tie.After-check-mesh) → let a = c .before .before .before .before .before .args in c .check-mesh .result ≡ linearizeAnswer (asHalfedges (now (a .h))) (now (a .pos)) (now (a .t)) (a .n) (a .p)
 answer c = rw (← c .before .lengths-fit .ensures) (c .check-mesh .ensures)
 
 same-length : tie.Need-same-length

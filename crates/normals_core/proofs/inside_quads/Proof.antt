@@ -5,6 +5,7 @@ use mathlib.Core.Path.{_≡_, refl, sym, _∙_}
 use lib.ListN.{length}
 use Rattle.common.specs.Fold.{foldTo}
 use Rattle.common.proofs.Fold.{fold-none, fold-turn}
+use Rattle.mesh.specs.Mesh.{asHalfedges}
 use Rattle.normals_core.specs.Flags.{insideQuadStep}
 use Rattle.normals_core.proofs.Flags.{inside-ended}
 use Rattle.normals_core.proofs.Lent.{flag-in}
@@ -13,7 +14,7 @@ use Rattle.normals_core.proofs.inside_quads.Tie as tie
 
 abbrev Inv-loop : tie.InvT-loop
 Inv-loop n h refs t old inside₀ e₀ inside e =
-    (e ≤ n) × (length inside ≡ length inside₀) × (inside ≡ foldTo (insideQuadStep h refs t old) inside₀ e)
+    (e ≤ n) × (length inside ≡ length inside₀) × (inside ≡ foldTo (insideQuadStep (asHalfedges h) refs t old) inside₀ e)
 
 abbrev μ-loop : tie.MeasureT-loop
 μ-loop n h refs t old inside₀ e₀ inside e = n - e

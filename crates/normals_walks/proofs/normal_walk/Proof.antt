@@ -10,6 +10,7 @@ use Rattle.normals_state.specs.Carried.{halfedgeNormal}
 use Rattle.normals_state.specs.Packed.{stateOf}
 use Rattle.normals_state.specs.declared.CycleState.{CycleState}
 use Rattle.normals_state.proofs.Lent.{here-in, next-in, here-face-in, next-face-in}
+use Rattle.mesh.specs.Mesh.{Halfedges, asHalfedges}
 use Rattle.mesh.proofs.Accepted.{inside}
 use Rattle.cycles.proofs.Around.{next-permutes}
 use Rattle.cycles.proofs.Loops.{Walking, around-start, around-step, around-less, around-fold-step, around-fold-stop}
@@ -21,7 +22,6 @@ use Rattle.normals_state.specs.declared.HalfedgeNormal.{HalfedgeNormal}
 use Prim.Native.Nat.{ℕ, _<_}
 use native.Mathlib.Omega.{arith}
 use lib.ListN.{length}
-use lib.IntN.{ℤ}
 use lib.Ieee.{Float}
 use native.Mathlib.Nat.{le-refl}
 use mathlib.Core.List.{List, foldl}
@@ -35,7 +35,7 @@ unfolding halfedgeNormal
 unit-is U G e q = rw q refl
 
 -- a step at halfedge e by the carried normals, that of e and that of x
-module _ {H : List ℤ} {P A U G : List Float} {Q X : List ℕ} {T : List Float} {n : ℕ} (w : StepIn H P A U G Q T X n) (inside : ℕ → Bool) (m : Walk) {e : ℕ} (l : e < n) where
+module _ {H : Halfedges} {P A U G : List Float} {Q X : List ℕ} {T : List Float} {n : ℕ} (w : StepIn H P A U G Q T X n) (inside : ℕ → Bool) (m : Walk) {e : ℕ} (l : e < n) where
   stepped : {m′ : Walk} {here next : HalfedgeNormal} {x : ℕ} → length (m .tangents) ≡ length T → here ≡ halfedgeNormal U G e → next ≡ halfedgeNormal U G x → x ≡ nextAround H e → m′ ≡ normalStepOf H P A inside here next m e → m′ ≡ normalStep H P A G inside m e
   stepped h p q r d =
       let k = w .lists .state .missing in
@@ -43,12 +43,12 @@ module _ {H : List ℤ} {P A U G : List Float} {Q X : List ℕ} {T : List Float}
 
 abbrev Inv-loop : tie.InvT-loop
 Inv-loop n h pos face-normals face-units halfedge-normals inside t₀ fixed₀ e state₀ here₀ current₀ t fixed state here current =
-    Walking (nextAround h) n (isAt e) n e current × (length t ≡ length t₀) × (length fixed ≡ length fixed₀) × StateIn n (stateOf state)
+    Walking (nextAround (asHalfedges h)) n (isAt e) n e current × (length t ≡ length t₀) × (length fixed ≡ length fixed₀) × StateIn n (stateOf state)
     × (here ≡ halfedgeNormal face-units halfedge-normals current)
-    × (foldl (normalStep h pos face-normals halfedge-normals (isInside inside)) (walkOf t fixed (stateOf state)) (cycleFrom (nextAround h) n e current) ≡ foldl (normalStep h pos face-normals halfedge-normals (isInside inside)) (walkOf t₀ fixed₀ startState) (vertexCycle h n e))
+    × (foldl (normalStep (asHalfedges h) pos face-normals halfedge-normals (isInside inside)) (walkOf t fixed (stateOf state)) (cycleFrom (nextAround (asHalfedges h)) n e current) ≡ foldl (normalStep (asHalfedges h) pos face-normals halfedge-normals (isInside inside)) (walkOf t₀ fixed₀ startState) (vertexCycle (asHalfedges h) n e))
 
 abbrev μ-loop : tie.MeasureT-loop
-μ-loop n h pos face-normals face-units halfedge-normals inside t₀ fixed₀ e state₀ here₀ current₀ t fixed state here current = stepsLeft (nextAround h) (isAt e) n current
+μ-loop n h pos face-normals face-units halfedge-normals inside t₀ fixed₀ e state₀ here₀ current₀ t fixed state here current = stepsLeft (nextAround (asHalfedges h)) (isAt e) n current
 
 start-state-requires : tie.Need-start-state-requires Inv-loop μ-loop
 start-state-requires c κs = tt
@@ -65,7 +65,7 @@ loop-holds c =
       refl,
       subst (StateIn (z .args .n)) (sym q) state-start,
       c .halfedge-normal .ensures,
-      ap (λ (s : CycleState). foldl (normalStep (z .args .h .now) (z .args .pos .now) (z .args .face-normals .now) (z .args .halfedge-normals .now) (isInside (z .args .inside .now))) (walkOf (z .args .t .now) (z .args .fixed .now) s) (vertexCycle (z .args .h .now) (z .args .n) (z .args .e))) q,
+      ap (λ (s : CycleState). foldl (normalStep (asHalfedges (z .args .h .now)) (z .args .pos .now) (z .args .face-normals .now) (z .args .halfedge-normals .now) (isInside (z .args .inside .now))) (walkOf (z .args .t .now) (z .args .fixed .now) s) (vertexCycle (asHalfedges (z .args .h .now)) (z .args .n) (z .args .e))) q,
     )
 
 next-around-requires : tie.Need-next-around-requires Inv-loop μ-loop
@@ -102,9 +102,9 @@ loop-again c =
       around-step Q (l .inv .0) x (c .if1 .left),
       m .kept .1 .1 .1 .1 .1 .0 ∙ l .inv .1,
       m .kept .1 .1 .1 .1 .1 .1 .0 ∙ l .inv .2,
-      state-after (l .inv .0 .below) (a .h .now) (a .pos .now) (a .face-normals .now) (a .halfedge-normals .now) (isInside (a .inside .now)) (walkOf (l .t) (l .fixed) (stateOf (l .state))) done (l .inv .3),
+      state-after (l .inv .0 .below) (asHalfedges (a .h .now)) (a .pos .now) (a .face-normals .now) (a .halfedge-normals .now) (isInside (a .inside .now)) (walkOf (l .t) (l .fixed) (stateOf (l .state))) done (l .inv .3),
       g,
-      around-fold-step Q (l .inv .0) x (normalStep (a .h .now) (a .pos .now) (a .face-normals .now) (a .halfedge-normals .now) (isInside (a .inside .now))) (walkOf (l .t) (l .fixed) (stateOf (l .state))) (l .inv .5) done (c .if1 .left),
+      around-fold-step Q (l .inv .0) x (normalStep (asHalfedges (a .h .now)) (a .pos .now) (a .face-normals .now) (a .halfedge-normals .now) (isInside (a .inside .now))) (walkOf (l .t) (l .fixed) (stateOf (l .state))) (l .inv .5) done (c .if1 .left),
     )
 
 unpack-requires : tie.Need-unpack-requires Inv-loop μ-loop
@@ -126,8 +126,8 @@ returns c =
     let Q = next-permutes (w .lists .state .missing .sound) in
     let done = stepped w (isInside (a .inside .now)) (walkOf (l .t) (l .fixed) (stateOf (l .state))) (l .inv .0 .below) (l .inv .1) (l .inv .4) (c .before .before .before .before .before .before .before .before .before .normal-after .ensures) x (c .before .before .before .before .before .before .normal-step .ensures) in
     rw (c .unpack .ensures) (
-      around-fold-stop Q (l .inv .0) x (normalStep (a .h .now) (a .pos .now) (a .face-normals .now) (a .halfedge-normals .now) (isInside (a .inside .now))) (walkOf (l .t) (l .fixed) (stateOf (l .state))) (l .inv .5) done (c .before .if1 .taken),
-      state-after (l .inv .0 .below) (a .h .now) (a .pos .now) (a .face-normals .now) (a .halfedge-normals .now) (isInside (a .inside .now)) (walkOf (l .t) (l .fixed) (stateOf (l .state))) done (l .inv .3),
+      around-fold-stop Q (l .inv .0) x (normalStep (asHalfedges (a .h .now)) (a .pos .now) (a .face-normals .now) (a .halfedge-normals .now) (isInside (a .inside .now))) (walkOf (l .t) (l .fixed) (stateOf (l .state))) (l .inv .5) done (c .before .if1 .taken),
+      state-after (l .inv .0 .below) (asHalfedges (a .h .now)) (a .pos .now) (a .face-normals .now) (a .halfedge-normals .now) (isInside (a .inside .now)) (walkOf (l .t) (l .fixed) (stateOf (l .state))) done (l .inv .3),
     )
 
 pub normal-walk-spec : {M : Type 1} → statement M

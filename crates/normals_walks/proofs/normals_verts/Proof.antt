@@ -9,13 +9,14 @@ use lib.ListN.{length}
 use native.Mathlib.Omega.{arith}
 use mathlib.Core.Path.{_≡_, refl, sym, _∙_}
 use Prim.Native.Nat.{_-_, _≤_}
+use Rattle.mesh.specs.Mesh.{asHalfedges}
 use Rattle.normals_walks.proofs.normals_verts.Statement.{statement}
 use Rattle.normals_walks.proofs.normals_verts.Tie as tie
 
 abbrev Inv-loop : tie.InvT-loop
 Inv-loop n h pos normals face-normals face-units halfedge-normals inside vert-halfedge t₀ fixed₀ v₀ t fixed v =
     (v ≤ length vert-halfedge) × (length t ≡ length t₀) × (length fixed ≡ length fixed₀)
-    × (tangentsOf t fixed ≡ foldTo (normalsVert h pos normals face-normals halfedge-normals (isInside inside) n) (tangentsOf t₀ fixed₀) v)
+    × (tangentsOf t fixed ≡ foldTo (normalsVert (asHalfedges h) pos normals face-normals halfedge-normals (isInside inside) n) (tangentsOf t₀ fixed₀) v)
 
 abbrev μ-loop : tie.MeasureT-loop
 μ-loop n h pos normals face-normals face-units halfedge-normals inside vert-halfedge t₀ fixed₀ v₀ t fixed v = length vert-halfedge - v

@@ -3,6 +3,7 @@ use Rattle.normals_walks.specs.Walks.{vertNormalWalk}
 use Rattle.normals_steps.specs.Steps.{vertNormalStep}
 use Rattle.smoothing.proofs.Edges.{faces-in}
 use Rattle.create_shared.proofs.Makings.{tangent-in}
+use Rattle.mesh.specs.Mesh.{asHalfedges}
 use Rattle.mesh.proofs.Accepted.{inside}
 use Rattle.cycles.proofs.Around.{next-permutes}
 use Rattle.cycles.proofs.Loops.{Walking, around-start, around-step, around-less, around-fold-step, around-fold-stop}
@@ -18,11 +19,11 @@ use Rattle.normals_walks.proofs.vert_normal_walk.Tie as tie
 
 abbrev Inv-loop : tie.InvT-loop
 Inv-loop n h pos face-normals normal t₀ e current₀ t current =
-    Walking (nextAround h) n (isAt e) n e current × (length t ≡ length t₀)
-    × (foldl (vertNormalStep h pos face-normals normal) t (cycleFrom (nextAround h) n e current) ≡ foldl (vertNormalStep h pos face-normals normal) t₀ (vertexCycle h n e))
+    Walking (nextAround (asHalfedges h)) n (isAt e) n e current × (length t ≡ length t₀)
+    × (foldl (vertNormalStep (asHalfedges h) pos face-normals normal) t (cycleFrom (nextAround (asHalfedges h)) n e current) ≡ foldl (vertNormalStep (asHalfedges h) pos face-normals normal) t₀ (vertexCycle (asHalfedges h) n e))
 
 abbrev μ-loop : tie.MeasureT-loop
-μ-loop n h pos face-normals normal t₀ e current₀ t current = stepsLeft (nextAround h) (isAt e) n current
+μ-loop n h pos face-normals normal t₀ e current₀ t current = stepsLeft (nextAround (asHalfedges h)) (isAt e) n current
 
 loop-holds : tie.Need-loop-holds Inv-loop μ-loop
 loop-holds c = let pre = c .before .before .before .pre in (around-start (next-permutes (pre .1 .tangents .sound)) (le-refl _) (pre .0), refl, refl)
@@ -47,7 +48,7 @@ loop-again c =
     let Q = next-permutes (c .before .before .before .before .before .before .before .before .before .before .pre .1 .tangents .sound) in (
       around-step Q (l .inv .0) (c .before .next-around .ensures) (c .if1 .left),
       m .kept .1 .1 .1 .1 .0 ∙ l .inv .1,
-      around-fold-step Q (l .inv .0) (c .before .next-around .ensures) (vertNormalStep (a .h .now) (a .pos .now) (a .face-normals .now) (a .normal)) (l .t) (l .inv .2) (m .ensures) (c .if1 .left),
+      around-fold-step Q (l .inv .0) (c .before .next-around .ensures) (vertNormalStep (asHalfedges (a .h .now)) (a .pos .now) (a .face-normals .now) (a .normal)) (l .t) (l .inv .2) (m .ensures) (c .if1 .left),
     )
 
 same-length : tie.Need-same-length Inv-loop μ-loop
@@ -59,7 +60,7 @@ returns c =
     let m = c .before .before .before .before .vert-normal-step in
     let l = c .before .before .before .before .before .before .loop in
     let a = c .before .before .before .before .before .before .before .before .before .before .args in
-    around-fold-stop (next-permutes (c .before .before .before .before .before .before .before .before .before .before .pre .1 .tangents .sound)) (l .inv .0) (c .before .next-around .ensures) (vertNormalStep (a .h .now) (a .pos .now) (a .face-normals .now) (a .normal)) (l .t) (l .inv .2) (m .ensures) (c .if1 .taken)
+    around-fold-stop (next-permutes (c .before .before .before .before .before .before .before .before .before .before .pre .1 .tangents .sound)) (l .inv .0) (c .before .next-around .ensures) (vertNormalStep (asHalfedges (a .h .now)) (a .pos .now) (a .face-normals .now) (a .normal)) (l .t) (l .inv .2) (m .ensures) (c .if1 .taken)
 
 pub vert-normal-walk-spec : {M : Type 1} → statement M
 vert-normal-walk-spec =

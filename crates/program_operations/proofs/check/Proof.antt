@@ -5,6 +5,7 @@ use mathlib.Core.Path.{_≡_}
 use Rattle.validate.specs.Validate.{validAnswer}
 use Rattle.little_endian.proofs.Fronts.{front}
 use lib.ListN.{take}
+use Rattle.mesh.specs.Mesh.{asHalfedges}
 use Rattle.program_operations.proofs.Shown.{check-shows}
 use borrow.Author.Needs.{needs}
 use Rattle.program_operations.proofs.check.Statement.{statement}
@@ -38,7 +39,7 @@ returns : tie.Need-returns
 returns c =
     let a = c .before .before .before .before .before .before .before .args in
     let v = c .before .valid-tangents in
-    let H = take (3 * a .n) (a .h .now) in
+    let H = asHalfedges (take (3 * a .n) (a .h .now)) in
     let P = take (3 * a .p) (a .pos .now) in
     let T = take (4 * a .n) (a .t .now) in
     let answer : v .result ≡ validAnswer H P T (a .n) (a .p) = v .ensures .0 in

@@ -5,6 +5,7 @@ use Prim.Native.Nat.{_*_}
 use lib.ListN.{take, drop}
 use lib.Seq.{length-take-le}
 use Rattle.little_endian.proofs.Fronts.{front}
+use Rattle.mesh.specs.Mesh.{asHalfedges}
 use Rattle.program_operations.proofs.Shown.{spread-shows, spread-tangents, spread-scratch}
 use borrow.Author.Needs.{needs}
 use Rattle.program_operations.proofs.spread.Statement.{statement}
@@ -69,7 +70,7 @@ returns c =
     let a = c .before .before .before .before .before .before .before .before .before .before .before .before .before .before .before .before .before .before .before .before .before .args in
     let i = c .before .before .before .before .before .before .before .before .before .before .before .before .before .before .before .before .before .before .before .before .before .pre in
     let d = c .before .before .before .before .before .before .before .distribute-tangents in
-    let H = take (3 * a .n) (a .h .now) in
+    let H = asHalfedges (take (3 * a .n) (a .h .now)) in
     let P = take (3 * a .p) (a .pos .now) in
     let N = take (3 * a .p) (a .normals .now) in
     let F = take (a .n) (a .flags .now) in

@@ -1,6 +1,7 @@
 -- `program_operations::straighten` meets its contract: the part of the tangents that was lent comes back in front of the rest. Assumes nothing.
 use native.Mathlib.Omega.{arith}
 use mathlib.Core.Path.{_≡_, _∙_}
+use Rattle.mesh.specs.Mesh.{asHalfedges}
 use Rattle.program_operations.specs.Operations.{straightenTangents}
 use Prim.Native.Nat.{_*_}
 use lib.ListN.{take, drop}
@@ -45,7 +46,7 @@ returns : tie.Need-returns
 returns c =
     let a = c .before .before .before .before .before .before .before .before .before .args in
     let l = c .before .before .before .linearize-flat-tangents in
-    let H = take (3 * a .n) (a .h .now) in
+    let H = asHalfedges (take (3 * a .n) (a .h .now)) in
     let P = take (3 * a .p) (a .pos .now) in
     let T = take (4 * a .n) (a .t .now) in
     let after = l .last .1 .1 .1 .1 .0 in

@@ -1,4 +1,5 @@
 -- `replay_mesh_faces::asked_flat` is safe and ends: only an accepted mesh is passed on. Assumes nothing.
+use Rattle.mesh.specs.Mesh.{asHalfedges}
 use Rattle.replay_mesh_faces.proofs.Lent.{asked}
 use mathlib.Core.Path.{sym, _∙_}
 use borrow.Author.Needs.{needs}
@@ -24,7 +25,8 @@ returns : tie.Need-returns
 returns c = search needs
 
 flat-all-requires : tie.Need-flat-all-requires
-flat-all-requires c κs = asked _ _ _ _ (c .before .before .before .before .before .has-length .ensures) (sym (c .before .before .before .before .check-mesh .ensures) ∙ c .before .before .enum-told .given .1)
+unfolding asHalfedges
+flat-all-requires c κs = asked (asHalfedges _) _ _ _ (c .before .before .before .before .before .has-length .ensures) (sym (c .before .before .before .before .check-mesh .ensures) ∙ c .before .before .enum-told .given .1)
 
 same-length : tie.Need-same-length
 same-length c = search needs

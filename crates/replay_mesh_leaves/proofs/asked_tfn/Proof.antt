@@ -1,11 +1,13 @@
 -- `replay_mesh_leaves::asked_tfn` is safe and ends: only an accepted mesh is passed on. Assumes nothing.
 use mathlib.Core.Path.{sym, _∙_}
 use borrow.Author.Needs.{needs}
+use Rattle.mesh.specs.Mesh.{asHalfedges}
 use Rattle.replay_mesh_leaves.proofs.Lent.{normal-lists}
 use Rattle.replay_mesh_leaves.proofs.asked_tfn.Statement.{statement}
 use Rattle.replay_mesh_leaves.proofs.asked_tfn.Tie as tie
 
 tfn-all-requires : tie.Need-tfn-all-requires
+unfolding asHalfedges
 tfn-all-requires c κs =
     let k = c .before .before in
     let m = k .before .before .before in

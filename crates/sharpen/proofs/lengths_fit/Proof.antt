@@ -1,8 +1,10 @@
 -- `sharpen::lengths_fit` meets its contract: the code is the definition. Assumes nothing.
+use Rattle.mesh.specs.Mesh.{asHalfedges}
 use Rattle.sharpen.proofs.lengths_fit.Statement.{statement}
 use Rattle.sharpen.proofs.lengths_fit.Tie as tie
 
 returns : tie.Need-returns
+unfolding asHalfedges
 returns c = simp (← c .before .before .before .before .before .before .has-length .ensures, ← c .before .before .before .before .before .has-length2 .ensures, ← c .before .before .before .before .both .ensures, ← c .before .before .before .has-length3 .ensures, ← c .before .before .has-length4 .ensures, ← c .before .both2 .ensures, ← c .both3 .ensures)
 
 pub lengths-fit-spec : {M : Type 1} → statement M

@@ -5,6 +5,7 @@ use mathlib.Core.Path.{_≡_, refl, sym, ap, _∙_}
 use lib.ListN.{length}
 use denote.Ref.{now}
 use Rattle.common.proofs.Fold.{fold-none, fold-turn}
+use Rattle.mesh.specs.Mesh.{asHalfedges}
 use Rattle.sharpen.specs.Crease.{isCrease}
 use Rattle.sharpen.specs.Entries.{Entries, entriesIn, listEdges}
 use Rattle.sharpen.proofs.Listed.{entries-twice}
@@ -15,7 +16,7 @@ use Rattle.sharpen.proofs.list_edges.Tie as tie
 abbrev Inv-loop : tie.InvT-loop
 Inv-loop n p h normals limit smooth halfedges₀ smoothness₀ entries₀ e₀ halfedges smoothness entries e =
     (e ≤ n) × (length halfedges ≡ length halfedges₀) × (length smoothness ≡ length smoothness₀)
-    × (entriesIn halfedges smoothness entries ≡ listEdges h (isCrease h normals limit) smooth (entriesIn halfedges₀ smoothness₀ 0) e)
+    × (entriesIn halfedges smoothness entries ≡ listEdges (asHalfedges h) (isCrease (asHalfedges h) normals limit) smooth (entriesIn halfedges₀ smoothness₀ 0) e)
 
 abbrev μ-loop : tie.MeasureT-loop
 μ-loop n p h normals limit smooth halfedges₀ smoothness₀ entries₀ e₀ halfedges smoothness entries e = n - e
@@ -30,7 +31,7 @@ list-edge-requires c κs =
     let s = t .before .before .before .before .before in
     let a = s .args in
     edge-fits _ _ _ _ _ _ (s .pre) (a .limit) (l .e) (t .loop-test .taken)
-    (ap (λ (x : Entries). x .count) (l .inv .3) ∙ entries-twice (now (a .halfedges)) (now (a .smoothness)) (now (a .h)) (isCrease (now (a .h)) (now (a .normals)) (a .limit)) (a .smooth) (l .e))
+    (ap (λ (x : Entries). x .count) (l .inv .3) ∙ entries-twice (now (a .halfedges)) (now (a .smoothness)) (asHalfedges (now (a .h))) (isCrease (asHalfedges (now (a .h))) (now (a .normals)) (a .limit)) (a .smooth) (l .e))
     (l .inv .1)
     (l .inv .2)
 

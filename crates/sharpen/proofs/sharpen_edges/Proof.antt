@@ -4,6 +4,7 @@ use native.Mathlib.Omega.{arith}
 use mathlib.Core.Path.{_≡_, refl, sym, ap, ap₂, _∙_}
 use borrow.Author.Needs.{needs}
 use denote.Ref.{now}
+use Rattle.mesh.specs.Mesh.{asHalfedges}
 use Rattle.mesh.specs.Check.{checkMesh}
 use Rattle.mesh.specs.Check as mesh
 use Rattle.sharpen.specs.Crease.{minRadians, isCrease}
@@ -18,22 +19,22 @@ use Rattle.sharpen.proofs.sharpen_edges.Statement.{statement}
 use Rattle.sharpen.proofs.sharpen_edges.Tie as tie
 
 -- what the questions answer
-answer : (c : tie.After-check-mesh) → let a = c .before .before .before .before .before .before .before .args in c .check-mesh .result ≡ checkLists (now (a .h)) (now (a .normals)) (now (a .halfedges)) (now (a .smoothness)) (a .n) (a .p)
+answer : (c : tie.After-check-mesh) → let a = c .before .before .before .before .before .before .before .args in c .check-mesh .result ≡ checkLists (asHalfedges (now (a .h))) (now (a .normals)) (now (a .halfedges)) (now (a .smoothness)) (a .n) (a .p)
 answer c =
     let a = c .before .before .before .before .before .before .before .args in
-    c .check-mesh .ensures ∙ ap (checkMesh (now (a .h)) (a .n) (a .p)) (c .before .lengths-fit .ensures)
+    c .check-mesh .ensures ∙ ap (checkMesh (asHalfedges (now (a .h))) (a .n) (a .p)) (c .before .lengths-fit .ensures)
 
 -- number, place, entries and tally of the answer
 values : (s : tie.Start) {r : Listing} → let a = s .args in
-    r ≡ sharpenEdges (now (a .h)) (now (a .normals)) (a .angle) (a .smooth) (now (a .halfedges)) (now (a .smoothness)) (a .n) (a .p)
-    → Values (checkLists (now (a .h)) (now (a .normals)) (now (a .halfedges)) (now (a .smoothness)) (a .n) (a .p)) (creases (now (a .h)) (now (a .normals)) (a .angle) (a .smooth) (now (a .halfedges)) (now (a .smoothness)) (a .n)) (creaseTally (now (a .h)) (now (a .normals)) (a .angle) (a .n)) r
+    r ≡ sharpenEdges (asHalfedges (now (a .h))) (now (a .normals)) (a .angle) (a .smooth) (now (a .halfedges)) (now (a .smoothness)) (a .n) (a .p)
+    → Values (checkLists (asHalfedges (now (a .h))) (now (a .normals)) (now (a .halfedges)) (now (a .smoothness)) (a .n) (a .p)) (creases (asHalfedges (now (a .h))) (now (a .normals)) (a .angle) (a .smooth) (now (a .halfedges)) (now (a .smoothness)) (a .n)) (creaseTally (asHalfedges (now (a .h))) (now (a .normals)) (a .angle) (a .n)) r
 values s e =
     let a = s .args in
     values-of
-    (creases (now (a .h)) (now (a .normals)) (a .angle) (a .smooth) (now (a .halfedges)) (now (a .smoothness)) (a .n))
-    (creaseTally (now (a .h)) (now (a .normals)) (a .angle) (a .n))
-    (entries-twice (now (a .halfedges)) (now (a .smoothness)) (now (a .h)) (isCrease (now (a .h)) (now (a .normals)) (minRadians (a .angle))) (a .smooth) (a .n))
-    (checkLists (now (a .h)) (now (a .normals)) (now (a .halfedges)) (now (a .smoothness)) (a .n) (a .p))
+    (creases (asHalfedges (now (a .h))) (now (a .normals)) (a .angle) (a .smooth) (now (a .halfedges)) (now (a .smoothness)) (a .n))
+    (creaseTally (asHalfedges (now (a .h))) (now (a .normals)) (a .angle) (a .n))
+    (entries-twice (now (a .halfedges)) (now (a .smoothness)) (asHalfedges (now (a .h))) (isCrease (asHalfedges (now (a .h))) (now (a .normals)) (minRadians (a .angle))) (a .smooth) (a .n))
+    (checkLists (asHalfedges (now (a .h))) (now (a .normals)) (now (a .halfedges)) (now (a .smoothness)) (a .n) (a .p))
     e
 
 returns : tie.Need-returns
@@ -59,7 +60,7 @@ returns-2 c =
     let k = m .before .before .before in
     let a = k .before .before .before .before .before .before .before .args in
     let accepted = sym (answer k) ∙ m .before .enum-told .given .1 in
-    let H = now (a .h) in
+    let H = asHalfedges (now (a .h)) in
     let A = now (a .normals) in
     let E = now (a .halfedges) in
     let S = now (a .smoothness) in

@@ -1,7 +1,7 @@
 -- `smoothing::tangents_from_normals` meets its contract: the length and the edge's normal are those of both halfedges. Assumes nothing.
 use mathlib.Core.Path.{_≡_, ap}
 use borrow.Author.Needs.{needs}
-use Rattle.mesh.specs.Mesh.{pairedHalfedge}
+use Rattle.mesh.specs.Mesh.{pairedHalfedge, asHalfedges}
 use Rattle.smoothing.specs.declared.EdgeVecs.{EdgeVecs}
 use Rattle.smoothing.specs.Edges.{edgeVec}
 use Rattle.smoothing.specs.Inner.{edgeVecs, tangentsFromNormals}
@@ -29,7 +29,7 @@ unfolding tangentsFromNormals edgeVecs
 returns c =
     let z = c .before .before .before .before .before .before .before .before in
     let edges = c .before .before .before .before .before .edge-vecs in
-    let H = z .args .h .now in
+    let H = asHalfedges (z .args .h .now) in
     let P = z .args .pos .now in
     let A = z .args .«face-normals» .now in
     let e = z .args .e in

@@ -3,18 +3,19 @@ use Prim.Native.Nat.{_+_, _-_, _%_, _≤_, _<_}
 use native.Mathlib.Omega.{arith}
 use mathlib.Core.Path.{_≡_, refl, sym, _∙_}
 use borrow.Author.Tests.{not-true, not-false}
+use Rattle.mesh.specs.Mesh.{asHalfedges}
 use Rattle.validate.proofs.Laws.{AllPassed, none-passed, three-passed, all-passed, triangle-passed, triangle-invalid, triangle-in}
 use Rattle.validate.proofs.all_valid.Statement.{statement}
 use Rattle.validate.proofs.all_valid.Tie as tie
 
 abbrev Inv-loop : tie.InvT-loop
-Inv-loop n p h t e₀ e = (e ≤ n) × (e % 3 ≡ 0) × AllPassed h t e
+Inv-loop n p h t e₀ e = (e ≤ n) × (e % 3 ≡ 0) × AllPassed (asHalfedges h) t e
 
 abbrev μ-loop : tie.MeasureT-loop
 μ-loop n p h t e₀ e = n - e
 
 loop-holds : tie.Need-loop-holds Inv-loop μ-loop
-loop-holds c = (omega arith, refl, none-passed _ _)
+loop-holds c = (omega arith, refl, none-passed (asHalfedges (c .before .args .h .now)) (c .before .args .t .now))
 
 -- a whole triangle is left
 whole : (c : tie.In-loop Inv-loop μ-loop) → c .before .loop .e + 2 < c .before .before .before .args .n
@@ -30,10 +31,11 @@ returns c =
 
 loop-again : tie.Need-loop-again Inv-loop μ-loop
 loop-again c =
-    let l = c .before .before .before .loop in (
+    let l = c .before .before .before .loop in
+    let H = asHalfedges (c .before .before .before .before .before .args .h .now) in (
       omega (arith, whole (c .before .before)),
       omega (arith, l .inv .1),
-      three-passed _ _ (l .e) (l .inv .2) (triangle-passed _ _ (l .e) (l .inv .1) (sym (c .before .triangle-valid .ensures) ∙ not-false _ (c .if1 .left))),
+      three-passed H _ (l .e) (l .inv .2) (triangle-passed H _ (l .e) (l .inv .1) (sym (c .before .triangle-valid .ensures) ∙ not-false _ (c .if1 .left))),
     )
 
 returns-2 : tie.Need-returns-2 Inv-loop μ-loop

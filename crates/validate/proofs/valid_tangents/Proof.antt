@@ -2,9 +2,8 @@
 use mathlib.Core.Path.{_≡_, sym, _∙_}
 use mathlib.Core.Bool.{Bool}
 use borrow.Author.Tests.{eqb-true}
-use lib.ListN.{length}
 use denote.Ref.{now}
-use Rattle.mesh.specs.Mesh.{halfedgeStride}
+use Rattle.mesh.specs.Mesh.{halfedgeStride, asHalfedges}
 use Rattle.mesh.specs.Questions.{hasLength}
 use Rattle.mesh.specs.Check.{checkMesh}
 use Rattle.mesh.specs.declared.Checked.{Checked}
@@ -16,10 +15,10 @@ use Rattle.validate.proofs.valid_tangents.Statement.{statement}
 use Rattle.validate.proofs.valid_tangents.Tie as tie
 
 abbrev questions : tie.After-check-mesh → Checked
-questions c = let a = c .before .before .before .before .args in checkMesh (now (a .h)) (a .n) (a .p) (lengthsFit (now (a .h)) (now (a .pos)) (a .n) (a .p))
+questions c = let a = c .before .before .before .before .args in checkMesh (asHalfedges (now (a .h))) (a .n) (a .p) (lengthsFit (asHalfedges (now (a .h))) (now (a .pos)) (a .n) (a .p))
 
 abbrev marks : tie.After-check-mesh → Bool
-marks c = let a = c .before .before .before .before .args in validTangents (now (a .h)) (now (a .t)) (a .n)
+marks c = let a = c .before .before .before .before .args in validTangents (asHalfedges (now (a .h))) (now (a .t)) (a .n)
 
 answer : (c : tie.After-check-mesh) → c .check-mesh .result ≡ questions c
 answer c = rw (← c .before .lengths-fit .ensures) (c .check-mesh .ensures)
@@ -35,7 +34,7 @@ marks-valid-requires c κs =
     let k = c .before .before in
     let a = k .before .before .before .before .args in
     let q = accepted _ _ _ _ (sym (answer k) ∙ c .enum-told .given .1) in
-    (q .1, eqb-true _ _ (and-true (hasLength (length (now (a .h))) (a .n) halfedgeStride) _ (q .0) .0))
+    (q .1, eqb-true _ _ (and-true (hasLength (asHalfedges (now (a .h)) .numbers) (a .n) halfedgeStride) _ (q .0) .0))
 
 returns-2 : tie.Need-returns-2
 returns-2 c =

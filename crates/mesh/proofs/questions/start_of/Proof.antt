@@ -1,9 +1,11 @@
 -- `mesh::questions::start_of` meets its contract.
 use native.Mathlib.Omega.{arith}
+use Rattle.mesh.specs.Mesh.{asHalfedges}
 use Rattle.mesh.proofs.questions.start_of.Statement.{statement}
 use Rattle.mesh.proofs.questions.start_of.Tie as tie
 
 returns : tie.Need-returns
+unfolding asHalfedges
 returns c = c .field .ensures
 
 pub start-of-spec : {M : Type 1} → statement M

@@ -11,7 +11,7 @@ use lib.Signed.{mag}
 use denote.Ref.{now}
 use mir.Syntax.{w32}
 use mir.Val.{ofZ}
-use Rattle.mesh.specs.Mesh.{halfedgeStride, numberAt, indexOf, field, startVert, endVert, pairedHalfedge}
+use Rattle.mesh.specs.Mesh.{halfedgeStride, numberAt, indexOf, field, startVert, endVert, pairedHalfedge, asHalfedges}
 use Rattle.mesh.specs.Inside.{noIndex}
 use Rattle.mesh.specs.All.{halfedgeHolds}
 use Rattle.mesh.proofs.Signed.{read, index-bits}
@@ -25,22 +25,23 @@ compared H e k x y f g h q = rw (← q) (index-bits x y f g h)
 
 -- ---- the tests in turn
 
-end : (c : tie.After-number-in) → eqb (endVert (now (c .before .args .h)) (c .before .args .e)) (indexOf (c .before .args .b)) ≡ eqb (ofZ w32 (c .number-in .result)) (ofZ w32 (c .before .args .b))
+end : (c : tie.After-number-in) → eqb (endVert (asHalfedges (now (c .before .args .h))) (c .before .args .e)) (indexOf (c .before .args .b)) ≡ eqb (ofZ w32 (c .number-in .result)) (ofZ w32 (c .before .args .b))
+unfolding asHalfedges
 end c =
     let s = c .before in
     compared (now (s .args .h)) (s .args .e) 1 (c .number-in .result) (s .args .b) (c .number-in .ok) (s .fits .b .sfits) (s .pre .3) (c .number-in .ensures)
 
-named : (c : tie.After-number-in2) → pairedHalfedge (now (c .before .before .before .args .h)) (c .before .before .before .args .e) ≡ indexOf (c .number-in2 .result)
-unfolding field
+named : (c : tie.After-number-in2) → pairedHalfedge (asHalfedges (now (c .before .before .before .args .h))) (c .before .before .before .args .e) ≡ indexOf (c .number-in2 .result)
+unfolding asHalfedges field
 named c = ap indexOf (sym (c .number-in2 .ensures))
 
-below : (c : tie.After-is-below) → ltb (pairedHalfedge (now (c .before .before .before .before .args .h)) (c .before .before .before .before .args .e)) (c .before .before .before .before .args .n) ≡ c .is-below .result
+below : (c : tie.After-is-below) → ltb (pairedHalfedge (asHalfedges (now (c .before .before .before .before .args .h))) (c .before .before .before .before .args .e)) (c .before .before .before .before .args .n) ≡ c .is-below .result
 below c = rw (named (c .before)) (sym (rw (read (c .before .number-in2 .result) (c .before .number-in2 .ok)) at (c .is-below .ensures)))
 
-pair-below : (c : tie.Else2) → pairedHalfedge (now (c .before .before .before .before .before .args .h)) (c .before .before .before .before .before .args .e) < c .before .before .before .before .before .args .n
+pair-below : (c : tie.Else2) → pairedHalfedge (asHalfedges (now (c .before .before .before .before .before .args .h))) (c .before .before .before .before .before .args .e) < c .before .before .before .before .before .args .n
 pair-below c = ltb-true _ _ (below (c .before) ∙ not-false _ (c .if2 .left))
 
-pair-is : (c : tie.After-index-of) → c .index-of .result ≡ pairedHalfedge (now (c .before .before .before .before .before .before .args .h)) (c .before .before .before .before .before .before .args .e)
+pair-is : (c : tie.After-index-of) → c .index-of .result ≡ pairedHalfedge (asHalfedges (now (c .before .before .before .before .before .before .args .h))) (c .before .before .before .before .before .before .args .e)
 pair-is c =
     let k = c .before .before .before in
     c .index-of .ensures ∙ ap indexOf (read (k .number-in2 .result) (k .number-in2 .ok)) ∙ sym (named k)
@@ -48,13 +49,14 @@ pair-is c =
 within : (c : tie.After-index-of) → ltb (c .index-of .result) (c .before .before .before .before .before .before .args .n) ≡ true
 within c = rw (pair-is c) (below (c .before .before) ∙ not-false _ (c .before .if2 .left))
 
-back : (c : tie.After-number-in3) → eqb (pairedHalfedge (now (c .before .before .before .before .before .before .before .args .h)) (c .before .index-of .result)) (c .before .before .before .before .before .before .before .args .e) ≡ eqb (ofZ w32 (c .number-in3 .result)) (c .before .before .before .before .before .before .before .args .e)
-unfolding indexOf
+back : (c : tie.After-number-in3) → eqb (pairedHalfedge (asHalfedges (now (c .before .before .before .before .before .before .before .args .h))) (c .before .index-of .result)) (c .before .before .before .before .before .before .before .args .e) ≡ eqb (ofZ w32 (c .number-in3 .result)) (c .before .before .before .before .before .before .before .args .e)
+unfolding asHalfedges indexOf
 back c =
     let s = c .before .before .before .before .before .before .before in
     compared (now (s .args .h)) (c .before .index-of .result) 2 (c .number-in3 .result) (pos (s .args .e)) (c .number-in3 .ok) (omega (arith, s .pre)) (omega (arith, s .pre)) (c .number-in3 .ensures)
 
-start : (c : tie.After-number-in4) → eqb (startVert (now (c .before .before .before .before .before .before .before .before .before .args .h)) (c .before .before .before .index-of .result)) (indexOf (c .before .before .before .before .before .before .before .before .before .args .b)) ≡ eqb (ofZ w32 (c .number-in4 .result)) (ofZ w32 (c .before .before .before .before .before .before .before .before .before .args .b))
+start : (c : tie.After-number-in4) → eqb (startVert (asHalfedges (now (c .before .before .before .before .before .before .before .before .before .args .h))) (c .before .before .before .index-of .result)) (indexOf (c .before .before .before .before .before .before .before .before .before .args .b)) ≡ eqb (ofZ w32 (c .number-in4 .result)) (ofZ w32 (c .before .before .before .before .before .before .before .before .before .args .b))
+unfolding asHalfedges
 start c =
     let s = c .before .before .before .before .before .before .before .before .before in
     compared (now (s .args .h)) (c .before .before .before .index-of .result) 0 (c .number-in4 .result) (s .args .b) (c .number-in4 .ok) (s .fits .b .sfits) (s .pre .3) (c .number-in4 .ensures)

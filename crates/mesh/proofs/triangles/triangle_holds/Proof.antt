@@ -11,7 +11,7 @@ use lib.Signed.{mag}
 use denote.Ref.{now}
 use mir.Syntax.{w32}
 use mir.Val.{toZ, ofZ}
-use Rattle.mesh.specs.Mesh.{halfedgeStride, numberAt, indexOf, field, startVert}
+use Rattle.mesh.specs.Mesh.{halfedgeStride, numberAt, indexOf, field, startVert, asHalfedges}
 use Rattle.mesh.specs.Inside.{noIndex}
 use Rattle.mesh.specs.All.{halfedgeHolds, triangleHolds}
 use Rattle.common.proofs.Tests.{and-true}
@@ -20,31 +20,31 @@ use Rattle.mesh.proofs.triangles.triangle_holds.Statement.{statement}
 use Rattle.mesh.proofs.triangles.triangle_holds.Tie as tie
 
 -- a start, read as x and passed on
-passed : (H : List ℤ) (e : ℕ) (x : ℤ) → mag x < 2 ^ 31 → x ≡ numberAt H e halfedgeStride 0 → indexOf (toZ w32 (ofZ w32 x)) ≡ startVert H e
-unfolding field
+passed : (H : List ℤ) (e : ℕ) (x : ℤ) → mag x < 2 ^ 31 → x ≡ numberAt H e halfedgeStride 0 → indexOf (toZ w32 (ofZ w32 x)) ≡ startVert (asHalfedges H) e
+unfolding asHalfedges field
 passed H e x f q = ap indexOf (read x f ∙ q)
 
 -- ---- the tests in turn
 
-first : (c : tie.After-number-in) → indexOf (toZ w32 (ofZ w32 (c .number-in .result))) ≡ startVert (now (c .before .args .h)) (c .before .args .e)
+first : (c : tie.After-number-in) → indexOf (toZ w32 (ofZ w32 (c .number-in .result))) ≡ startVert (asHalfedges (now (c .before .args .h))) (c .before .args .e)
 first c = let s = c .before in passed (now (s .args .h)) (s .args .e) (c .number-in .result) (c .number-in .ok) (c .number-in .ensures)
 
-second : (c : tie.After-number-in2) → indexOf (toZ w32 (ofZ w32 (c .number-in2 .result))) ≡ startVert (now (c .before .before .args .h)) (c .before .before .args .e + 1)
+second : (c : tie.After-number-in2) → indexOf (toZ w32 (ofZ w32 (c .number-in2 .result))) ≡ startVert (asHalfedges (now (c .before .before .args .h))) (c .before .before .args .e + 1)
 second c = let s = c .before .before in passed (now (s .args .h)) (s .args .e + 1) (c .number-in2 .result) (c .number-in2 .ok) (c .number-in2 .ensures)
 
-third : (c : tie.After-number-in3) → indexOf (toZ w32 (ofZ w32 (c .number-in3 .result))) ≡ startVert (now (c .before .before .before .args .h)) (c .before .before .before .args .e + 2)
+third : (c : tie.After-number-in3) → indexOf (toZ w32 (ofZ w32 (c .number-in3 .result))) ≡ startVert (asHalfedges (now (c .before .before .before .args .h))) (c .before .before .before .args .e + 2)
 third c = let s = c .before .before .before in passed (now (s .args .h)) (s .args .e + 2) (c .number-in3 .result) (c .number-in3 .ok) (c .number-in3 .ensures)
 
-points : (c : tie.After-are-points) → ltb (startVert (now (c .before .before .before .before .args .h)) (c .before .before .before .before .args .e)) (c .before .before .before .before .args .p) && (ltb (startVert (now (c .before .before .before .before .args .h)) (c .before .before .before .before .args .e + 1)) (c .before .before .before .before .args .p) && ltb (startVert (now (c .before .before .before .before .args .h)) (c .before .before .before .before .args .e + 2)) (c .before .before .before .before .args .p)) ≡ c .are-points .result
+points : (c : tie.After-are-points) → ltb (startVert (asHalfedges (now (c .before .before .before .before .args .h))) (c .before .before .before .before .args .e)) (c .before .before .before .before .args .p) && (ltb (startVert (asHalfedges (now (c .before .before .before .before .args .h))) (c .before .before .before .before .args .e + 1)) (c .before .before .before .before .args .p) && ltb (startVert (asHalfedges (now (c .before .before .before .before .args .h))) (c .before .before .before .before .args .e + 2)) (c .before .before .before .before .args .p)) ≡ c .are-points .result
 points c = sym (rw (first (c .before .before .before), second (c .before .before), third (c .before)) at (c .are-points .ensures))
 
-here : (c : tie.After-halfedge-holds) → halfedgeHolds (now (c .before .before .before .before .before .before .args .h)) (c .before .before .before .before .before .before .args .n) (c .before .before .before .before .before .before .args .e) (startVert (now (c .before .before .before .before .before .before .args .h)) (c .before .before .before .before .before .before .args .e)) (startVert (now (c .before .before .before .before .before .before .args .h)) (c .before .before .before .before .before .before .args .e + 1)) ≡ c .halfedge-holds .result
+here : (c : tie.After-halfedge-holds) → halfedgeHolds (asHalfedges (now (c .before .before .before .before .before .before .args .h))) (c .before .before .before .before .before .before .args .n) (c .before .before .before .before .before .before .args .e) (startVert (asHalfedges (now (c .before .before .before .before .before .before .args .h))) (c .before .before .before .before .before .before .args .e)) (startVert (asHalfedges (now (c .before .before .before .before .before .before .args .h))) (c .before .before .before .before .before .before .args .e + 1)) ≡ c .halfedge-holds .result
 here c = sym (rw (first (c .before .before .before .before .before), second (c .before .before .before .before)) at (c .halfedge-holds .ensures))
 
-next : (c : tie.After-halfedge-holds2) → halfedgeHolds (now (c .before .before .before .before .before .before .before .before .args .h)) (c .before .before .before .before .before .before .before .before .args .n) (c .before .before .before .before .before .before .before .before .args .e + 1) (startVert (now (c .before .before .before .before .before .before .before .before .args .h)) (c .before .before .before .before .before .before .before .before .args .e + 1)) (startVert (now (c .before .before .before .before .before .before .before .before .args .h)) (c .before .before .before .before .before .before .before .before .args .e + 2)) ≡ c .halfedge-holds2 .result
+next : (c : tie.After-halfedge-holds2) → halfedgeHolds (asHalfedges (now (c .before .before .before .before .before .before .before .before .args .h))) (c .before .before .before .before .before .before .before .before .args .n) (c .before .before .before .before .before .before .before .before .args .e + 1) (startVert (asHalfedges (now (c .before .before .before .before .before .before .before .before .args .h))) (c .before .before .before .before .before .before .before .before .args .e + 1)) (startVert (asHalfedges (now (c .before .before .before .before .before .before .before .before .args .h))) (c .before .before .before .before .before .before .before .before .args .e + 2)) ≡ c .halfedge-holds2 .result
 next c = sym (rw (second (c .before .before .before .before .before .before), third (c .before .before .before .before .before)) at (c .halfedge-holds2 .ensures))
 
-last : (c : tie.After-halfedge-holds3) → halfedgeHolds (now (c .before .before .before .before .before .before .before .before .before .before .args .h)) (c .before .before .before .before .before .before .before .before .before .before .args .n) (c .before .before .before .before .before .before .before .before .before .before .args .e + 2) (startVert (now (c .before .before .before .before .before .before .before .before .before .before .args .h)) (c .before .before .before .before .before .before .before .before .before .before .args .e + 2)) (startVert (now (c .before .before .before .before .before .before .before .before .before .before .args .h)) (c .before .before .before .before .before .before .before .before .before .before .args .e)) ≡ c .halfedge-holds3 .result
+last : (c : tie.After-halfedge-holds3) → halfedgeHolds (asHalfedges (now (c .before .before .before .before .before .before .before .before .before .before .args .h))) (c .before .before .before .before .before .before .before .before .before .before .args .n) (c .before .before .before .before .before .before .before .before .before .before .args .e + 2) (startVert (asHalfedges (now (c .before .before .before .before .before .before .before .before .before .before .args .h))) (c .before .before .before .before .before .before .before .before .before .before .args .e + 2)) (startVert (asHalfedges (now (c .before .before .before .before .before .before .before .before .before .before .args .h))) (c .before .before .before .before .before .before .before .before .before .before .args .e)) ≡ c .halfedge-holds3 .result
 last c = sym (rw (third (c .before .before .before .before .before .before .before), first (c .before .before .before .before .before .before .before .before .before)) at (c .halfedge-holds3 .ensures))
 
 -- ---- the returns
@@ -74,7 +74,7 @@ returns-4 c =
 indices : (c : tie.Else1) → (indexOf (toZ w32 (ofZ w32 (c .before .before .before .before .number-in .result))) < noIndex) × (indexOf (toZ w32 (ofZ w32 (c .before .before .before .number-in2 .result))) < noIndex) × (indexOf (toZ w32 (ofZ w32 (c .before .before .number-in3 .result))) < noIndex)
 indices c =
     let s = c .before .before .before .before .before in
-    let H = now (s .args .h) in
+    let H = asHalfedges (now (s .args .h)) in
     let all = points (c .before) ∙ not-false _ (c .if1 .left) in
     let q = and-true (ltb (startVert H (s .args .e)) (s .args .p)) _ all in
     let r = and-true (ltb (startVert H (s .args .e + 1)) (s .args .p)) (ltb (startVert H (s .args .e + 2)) (s .args .p)) (q .1) in (
