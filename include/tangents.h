@@ -1,11 +1,12 @@
 /* The unit's calls for C: `rt staticlib tangents_c` makes target/staticlib/libtangents_c.a. docs/CALLS.md says more of each.
  *
  * n is the number of halfedges and p the number of points, at most 65,535 each. A list is a pointer and its length in elements;
- * lists that are written must not overlap any other. h has start, end and pair of each halfedge (3 n), pos three numbers for
- * each point (3 p), t the tangents (4 n: x, y, z and the weight).
+ * lists that are written must not overlap any other. h has start, end, pair and row (the Rust's prop_vert) of each halfedge
+ * (4 n); making from normals alone reads the row, in other calls it may be any number. pos has three numbers for each point
+ * (3 p), t the tangents (4 n: x, y, z and the weight).
  *
- * Every call answers through `answer`, four numbers: the number of the first question of document 01 that the mesh does not
- * meet (0 if it is accepted), its lowest place, and the two numbers of an accepted call. A shorter list gets as many as it
+ * Every call answers through `answer`, four numbers: the number of the first question of documents 01 and 02 that the mesh does
+ * not meet (0 if it is accepted), its lowest place, and the two numbers of an accepted call. A shorter list gets as many as it
  * holds. A refused call writes nothing else. */
 #ifndef TANGENTS_H
 #define TANGENTS_H
@@ -50,16 +51,17 @@ void tangents_create_tangents(size_t n, size_t p, const int32_t *h, size_t h_len
                               double *desired, size_t desired_len, size_t *at, size_t at_len, size_t *link, size_t link_len,
                               size_t *answer, size_t answer_len);
 
-/* Making from normals: as above, with halfedge_normals, three numbers for each halfedge, for the entries. Of the scratch lists
- * first has a place for each point, each other one for each halfedge; they hold zeros afterwards. Writes t. */
+/* Making from normals: as above, with rows, three numbers for each row and any number of rows, for the entries: the normal of a
+ * halfedge is that of its row. A length of rows that is no multiple of 3 is refused with 2; a row that is not in the list (no
+ * negative one is) with 12 and the lowest such halfedge, asked after 7 and before 8. Of the scratch lists first has a place for
+ * each point, each other one for each halfedge; they hold zeros afterwards. Writes t. */
 void tangents_create_tangents_from_normals(size_t n, size_t p, const int32_t *h, size_t h_len, const double *pos,
                                            size_t pos_len, const double *normals, size_t normals_len,
                                            const double *face_normals, size_t face_normals_len, const int32_t *refs,
-                                           size_t refs_len, const double *halfedge_normals, size_t halfedge_normals_len,
-                                           size_t old, double *t, size_t t_len, uint8_t *fixed, size_t fixed_len,
-                                           uint8_t *inside, size_t inside_len, double *current, size_t current_len,
-                                           double *desired, size_t desired_len, size_t *first, size_t first_len,
-                                           size_t *answer, size_t answer_len);
+                                           size_t refs_len, const double *rows, size_t rows_len, size_t old, double *t,
+                                           size_t t_len, uint8_t *fixed, size_t fixed_len, uint8_t *inside, size_t inside_len,
+                                           double *current, size_t current_len, double *desired, size_t desired_len,
+                                           size_t *first, size_t first_len, size_t *answer, size_t answer_len);
 
 #ifdef __cplusplus
 }

@@ -7,9 +7,9 @@ Each input is a valid one, or one with bits flipped, bytes inserted, dropped or 
 record left out or doubled, or other numbers in its mesh, or random bytes. The program must end by itself within ten seconds with status 0
 and write one answer of document 01's form, and nothing else. The refusals are compared with a plain reading of document 01 (the records in
 make_replay_inputs.py, the questions here), and so is the mark check. Of tangents only the form is checked: the halfedge count, the numbers
-in order, 16 digits, one not-a-number, and for spreading the last line. With --valgrind the program runs under valgrind, and any error that
-it reports is a failure. Prints how many answers of each kind there were. An input whose answer is wrong is written to fuzz-SEED-NUMBER.bin, and the
-script ends with status 1.
+in order, 16 digits, one not-a-number, and for spreading the last line. An input whose records are accepted is put again with other rows,
+and must get the same answer. With --valgrind the program runs under valgrind, and any error that it reports is a failure. Prints how many
+answers of each kind there were. An input whose answer is wrong is written to fuzz-SEED-NUMBER.bin, and the script ends with status 1.
 """
 import collections, os, random, re, select, signal, struct, sys
 from make_replay_inputs import record, records_refusal
@@ -28,6 +28,11 @@ def float_bits(rng):
     if rng.random() < 0.05:
         return rng.getrandbits(64)
     return struct.unpack("<Q", struct.pack("<d", rng.choice((1, 1, 1, 1e300, 1e-300)) * rng.uniform(-3, 3)))[0]
+
+
+def row(rng, e):
+    """A row for halfedge e; the program reads none."""
+    return rng.choice((e, -1, -2, -(2**31), 2**31 - 1, 65536, rng.randrange(8)))
 
 
 def mesh(rng):
@@ -49,19 +54,19 @@ def mesh(rng):
             rng.shuffle(there)
             for x, y in zip(here, there):
                 pairs[x], pairs[y] = y, x
-    return points, [x for t in zip(starts, ends, pairs) for x in t]
+    return points, [x for e, t in enumerate(zip(starts, ends, pairs)) for x in (*t, row(rng, e))]
 
 
 def bodies(rng):
     """The bodies of the records of a valid input."""
     operation = rng.choice((1, 2, 2, 3))
     points, he = mesh(rng)
-    n = len(he) // 3
+    n = len(he) // 4
     tan = [float_bits(rng) for _ in range(4 * n)]
     for e in range(n):
         if rng.random() < 0.15:
-            tan[4 * e + 3] = tan[4 * he[3 * e + 2] + 3] = MARK
-    out = [bytes([operation]), struct.pack("<HH", points, n), struct.pack("<%dQ" % (3 * points), *[float_bits(rng) for _ in range(3 * points)]), struct.pack("<%di" % (3 * n), *he), struct.pack("<%dQ" % (4 * n), *tan)]
+            tan[4 * e + 3] = tan[4 * he[4 * e + 2] + 3] = MARK
+    out = [bytes([operation]), struct.pack("<HH", points, n), struct.pack("<%dQ" % (3 * points), *[float_bits(rng) for _ in range(3 * points)]), struct.pack("<%di" % (4 * n), *he), struct.pack("<%dQ" % (4 * n), *tan)]
     if operation == 2:
         out += [struct.pack("<%dQ" % (3 * points), *[float_bits(rng) for _ in range(3 * points)]), bytes(rng.randint(0, 1) for _ in range(n))]
     return out
@@ -73,17 +78,17 @@ def joined(parts):
 
 def exchanged(body, rng):
     """The halfedges with two of them in each other's place: their pairs still name them, but the triangles are broken."""
-    he = [list(x) for x in struct.iter_unpack("<3i", body)]
+    he = [list(x) for x in struct.iter_unpack("<4i", body)]
     a, b = rng.sample(range(len(he)), 2)
     to = {a: b, b: a}
     he[a], he[b] = he[b], he[a]
-    return b"".join(struct.pack("<3i", s, e, to.get(pair, pair)) for s, e, pair in he)
+    return b"".join(struct.pack("<4i", s, e, to.get(pair, pair), r) for s, e, pair, r in he)
 
 
 def damaged_mesh(rng):
     """A valid input with other numbers in its halfedges or flags."""
     parts = bodies(rng)
-    if len(parts[3]) > 12 and rng.random() < 0.3:
+    if len(parts[3]) > 16 and rng.random() < 0.3:
         parts[3] = exchanged(parts[3], rng)
         return joined(parts)
     for _ in range(rng.randint(1, 2)):
@@ -93,7 +98,7 @@ def damaged_mesh(rng):
             parts[6] = bytes(flags)
         elif parts[3]:
             he = list(struct.unpack("<%di" % (len(parts[3]) // 4), parts[3]))
-            he[rng.randrange(len(he))] = rng.choice((-1, -2, -2**31, 2**31 - 1, 65536, 65535, 8, 3, 2, 1, 0, len(he) // 3, len(he) // 3 - 1))
+            he[rng.randrange(len(he))] = rng.choice((-1, -2, -2**31, 2**31 - 1, 65536, 65535, 8, 3, 2, 1, 0, len(he) // 4, len(he) // 4 - 1))
             parts[3] = struct.pack("<%di" % len(he), *he)
     return joined(parts)
 
@@ -101,10 +106,10 @@ def damaged_mesh(rng):
 def other_counts(rng):
     """Other counts, with bodies that fit them or not."""
     parts = bodies(rng)
-    points, n = (rng.choice((0, 1, 2, 3, 4, 6, 7, 9, 1488, 65535, rng.randrange(65536))) for _ in range(2))
+    points, n = (rng.choice((0, 1, 2, 3, 4, 6, 7, 9, 1362, 1364, 65535, rng.randrange(65536))) for _ in range(2))
     parts[1] = struct.pack("<HH", points, n)
-    if rng.random() < 0.6 and 24 * points + 44 * n < 60000:
-        sizes = [24 * points, 12 * n, 32 * n, 24 * points, n]
+    if rng.random() < 0.6 and 24 * points + 48 * n < 60000:
+        sizes = [24 * points, 16 * n, 32 * n, 24 * points, n]
         parts[2:] = [(b * (size // max(len(b), 1) + 1) + bytes(size))[:size] for b, size in zip(parts[2:], sizes)]
     return joined(parts)
 
@@ -156,6 +161,15 @@ def long_input(rng):
     return data + bytes(rng.choice((65535, 65536, 65537)) - len(data))
 
 
+def other_rows(data, rng):
+    """An input whose records are accepted, with other rows."""
+    points, n = struct.unpack_from("<HH", data, 13)
+    out = bytearray(data)
+    for e in range(n):
+        struct.pack_into("<i", out, 29 + 24 * points + 16 * e + 12, row(rng, e))
+    return bytes(out)
+
+
 def one_input(rng):
     x = rng.random()
     if x < 0.3:
@@ -183,7 +197,7 @@ def questions(operation, points, n, he, flags):
     """The number and place of the first question of a call that is answered no, or None. Every list has its length."""
     if n % 3 or n > 65535 or points > 65535:
         return 1, 0
-    start, end, pair = he[0::3], he[1::3], he[2::3]
+    start, end, pair = he[0::4], he[1::4], he[2::4]
     asked = [(3, lambda e: 0 <= start[e] < points and 0 <= end[e] < points), (4, lambda e: 0 <= pair[e] < n), (5, lambda e: pair[pair[e]] == e),
              (6, lambda e: start[e] != end[e] and start[pair[e]] == end[e] and end[pair[e]] == start[e]), (7, lambda e: start[e + 1 if e % 3 < 2 else e - 2] == end[e])]
     if operation == 2:
@@ -198,7 +212,7 @@ def questions(operation, points, n, he, flags):
 def marks_valid(n, he, tan):
     marked = [tan[4 * e + 3] == MARK for e in range(n)]
     alone = [not marked[e - e % 3 + (e + 1) % 3] and not marked[e - e % 3 + (e + 2) % 3] for e in range(n)]
-    return all(marked[e] == marked[he[3 * e + 2]] and (not marked[e] or alone[e] and alone[he[3 * e + 2]]) for e in range(n))
+    return all(marked[e] == marked[he[4 * e + 2]] and (not marked[e] or alone[e] and alone[he[4 * e + 2]]) for e in range(n))
 
 
 def right(data, out):
@@ -207,8 +221,8 @@ def right(data, out):
     if refusal is None:
         points, n = struct.unpack_from("<HH", data, 13)
         he_at = 23 + 24 * points + 6
-        he = struct.unpack_from("<%di" % (3 * n), data, he_at)
-        tan = struct.unpack_from("<%dQ" % (4 * n), data, he_at + 12 * n + 6)
+        he = struct.unpack_from("<%di" % (4 * n), data, he_at)
+        tan = struct.unpack_from("<%dQ" % (4 * n), data, he_at + 16 * n + 6)
         refusal = questions(data[6], points, n, he, data[len(data) - n:])
     if refusal is not None:
         return "refused %d" % refusal[0] if out == b"refused %d %d\n" % refusal else None
@@ -271,6 +285,8 @@ def main():
         made[how] += 1
         out, status = run(words, data)
         kind = right(data, out) if status == 0 else None
+        if kind and records_refusal(data) is None and run(words, other_rows(data, rng)) != (out, 0):
+            kind = None
         answers[kind] += kind is not None
         if kind is None:
             failures += 1

@@ -9,16 +9,18 @@ What they have is counted on standard error.
 
 A case (tools/cases.py) has u32 old (1 where there are old tangents), u32 the ends of the positions, the point normals and the face
 normals in the list of floats, u32 the end of the halfedges in the list of i32; then the list of floats (positions, point normals,
-face normals, and the smoothness of the entries or the lent normals), the list of i32 (halfedges, references of the triangles), the
+face normals, and the smoothness of the entries or the row list), the list of i32 (halfedges, references of the triangles), the
 halfedges of the entries, the old tangents, and the tangents after the call.
 """
 import collections, math, random, struct, sys
-from cases import answered, counts, floats, one_nan, oracle, record, refusal, refused, signed, u32, write
+from cases import answered, counts, floats, halfedges, one_nan, oracle, record, refusal, refused, signed, text, u32, write
 
 LARGEST = 24  # halfedges of a mesh that is taken
 SMALL = 12  # and of one with no rare feature
 ACCEPTED = 4000  # cases of each making
 REFUSED = 300
+ROWS = 1050  # cases with rows of their own
+ROWS_REFUSED = 320
 RARE = 150  # cases of a feature that are taken before the others
 ROOM = {"floats": 256, "signed": 128, "sh": 64, "tan": 128, "points": 32, "bytes": 4096}  # places of the lists in the program
 LENT = "3fe0000000000000"  # a tangent's numbers where there are no old ones: 0.5
@@ -27,17 +29,21 @@ LENT = "3fe0000000000000"  # a tangent's numbers where there are no old ones: 0.
 def packed(case, answer):
     get = lambda k: case.get(k, [])
     old = "tan" in case
-    halfedges = min(int(case["counts"][1]), LARGEST)
-    lent = one_nan(get("tan")) if old else [LENT] * (4 * halfedges)
+    lent = one_nan(get("tan")) if old else [LENT] * (4 * min(int(case["counts"][1]), LARGEST))
     ends = [len(get("pos")), len(get("vn")), len(get("fn"))]
-    lists = u32(old) + b"".join(u32(sum(ends[: k + 1])) for k in range(3)) + u32(len(get("he")))
-    lists += floats(get("pos") + get("vn") + get("fn") + get("ss") + get("nrm")) + signed(get("he") + get("ref")) + counts(get("sh"))
+    lists = u32(old) + b"".join(u32(sum(ends[: k + 1])) for k in range(3)) + u32(len(halfedges(case)))
+    lists += floats(get("pos") + get("vn") + get("fn") + get("ss") + row_list(case)) + signed(halfedges(case) + get("ref")) + counts(get("sh"))
     return lists + floats(get("tan")) + floats(answer.get("tan", []) if answer else lent)
+
+
+def row_list(case):
+    """The row list: that of the case, or the lent normals of the halfedges."""
+    return case.get("prop", case.get("nrm", []))
 
 
 def fits(case):
     get = lambda k: len(case.get(k, []))
-    lists = get("pos") + get("vn") + get("fn") + get("ss") + get("nrm") <= ROOM["floats"] and get("he") + get("ref") <= ROOM["signed"]
+    lists = get("pos") + get("vn") + get("fn") + get("ss") + len(row_list(case)) <= ROOM["floats"] and len(halfedges(case)) + get("ref") <= ROOM["signed"]
     # a mesh of more points has too few places in the scratch list: it is taken where question 1 or 2 refuses it
     points = int(case["counts"][0]) <= ROOM["points"] or case.get("expect", [0, 9])[1] in ("1", "2")
     return lists and get("sh") <= ROOM["sh"] and get("tan") <= ROOM["tan"] and points
@@ -100,7 +106,7 @@ def shared_features(case, answer, m):
         out.add("several rounds at a point")
     if len(set(m.start)) < m.p:
         out.add("a point without halfedges")
-    lent = [number(x) for k in ("pos", "vn", "fn", "nrm", "tan") for x in case.get(k, [])]
+    lent = [number(x) for k in ("pos", "vn", "fn", "nrm", "prop", "tan") for x in case.get(k, [])]
     if any(math.isinf(x) for x in lent):
         out.add("an infinity")
     if any(math.isnan(x) for x in lent):
@@ -172,9 +178,47 @@ def equal_normals(a, b):
     return sum(x * y for x, y in zip(unit(a), unit(b))) > 0.9999
 
 
+def row_features(used, rows):
+    """Which rows the halfedges have, of so many."""
+    out = set()
+    if len(set(used)) < len(used):
+        out.add("a row shared")
+    if len(set(used)) < rows:
+        out.add("a row unused")
+    if rows == 1:
+        out.add("one row only")
+    if used != sorted(used):
+        out.add("rows out of order")
+    return out
+
+
+def refused_features(case):
+    """How a refused case breaks question 12, and what else it breaks."""
+    (number, place), halfedges = refusal(case), int(case["counts"][1])
+    rows, used = len(case.get("prop", [])) // 3, [int(x) for x in case.get("row", [])]
+    broken = [e for e, x in enumerate(used) if not 0 <= x < rows]
+    if number in (1, 2) or not broken:
+        return set()
+    out = {"a row broken, refused by an earlier question"} if number != 12 else set()
+    if number == 12:
+        out = {"12 at the first" if place == 0 else "12 at the last" if place == halfedges - 1 else "12 between"}
+        out.add("12, a negative row" if used[place] < 0 else "12, one past the last row" if used[place] == rows else "12, a row further past")
+        if len(broken) > 1:
+            out.add("12, several rows broken")
+        if any(int(x) < 1 for x in case.get("ref", [])[0::3]):
+            out.add("12, a mesh number broken too (8)")
+    if number == 7:
+        out.add("7 before 12")
+    return out
+
+
 def normals_features(case, m, out):
     triples = lambda k: [tuple(number(x) for x in case.get(k, [])[i : i + 3]) for i in range(0, len(case.get(k, [])), 3)]
     lent, faces = triples("nrm"), triples("fn")
+    if "prop" in case:
+        rows, used = triples("prop"), [int(x) for x in case["row"]]
+        lent = [rows[x] for x in used]
+        out |= row_features(used, len(rows))
     missing = [x == (0.0, 0.0, 0.0) for x in lent]
     if any(missing[e] and math.copysign(1, x) < 0 for e in range(m.n) for x in lent[e]):
         out.add("a normal missing, zeros of the other sign")
@@ -242,12 +286,7 @@ def changed(case, how, rnd):
     return c
 
 
-def text(cases):
-    line = lambda k, v: " ".join(map(str, [k, *v]))
-    return "\n".join("\n".join([f"case {c['op']} {c['id']}"] + [line(k, v) for k, v in c.items() if k not in ("op", "id")] + ["end"]) for c in cases)
-
-
-def chosen(pairs):
+def chosen(pairs, most=ACCEPTED):
     """So many pairs, those of the rarer features first, and what they have."""
     have, first, rest = collections.Counter(), [], []
     for c, a in pairs:
@@ -257,7 +296,7 @@ def chosen(pairs):
             first.append((c, a))
         elif int(c["counts"][1]) <= SMALL:
             rest.append((c, a))
-    taken = (first + rest)[:ACCEPTED]
+    taken = (first + rest)[:most]
     for x, k in sorted(collections.Counter(x for c, a in taken for x in features(c, a)).items()):
         print(f"{k:6} {x}", file=sys.stderr)
     return taken
@@ -274,6 +313,14 @@ def main():
         damaged = [c for c in refused("7", 4 * 18) if c["op"] == kind and fits(c)][:REFUSED]
         print("refused:", collections.Counter(refusal(c)[0] for c in damaged), file=sys.stderr)
         rest += [record(c, packed(c, None), *refusal(c)) for c in damaged]
+    pairs = [(c, a) for c, a in answered(oracle(["gen", "rows", "3", "8000"]), LARGEST) if fits(c)]
+    print("rows", file=sys.stderr)
+    accepted += [record(c, packed(c, a)) for c, a in chosen(pairs, ROWS)]
+    damaged = [c for c in refused("7", 4 * 18, "refuse-rows", "4000") if fits(c)][:ROWS_REFUSED]
+    print("refused:", collections.Counter(refusal(c)[0] for c in damaged), file=sys.stderr)
+    for x, k in sorted(collections.Counter(x for c in damaged for x in refused_features(c)).items()):
+        print(f"{k:6} {x}", file=sys.stderr)
+    rest += [record(c, packed(c, None), *refusal(c)) for c in damaged]
     assert max(map(len, accepted + rest)) <= ROOM["bytes"]
     write(accepted, rest)
 

@@ -5,16 +5,18 @@
 
 ORACLE is the checking build of the oracle (the unchanged Rust behind a text format). The pairs are the same in every run. What is
 written for an accepted input, and for the refusals 1 to 11, is the oracle's answer; the refusals 20 to 24 are worked out by
-`records_refusal` below, a plain reading of document 01.
+`records_refusal` below, a plain reading of document 01 with the rows of document 02's request 1. The oracle is not told the rows:
+the program reads none, and most of them (`rows_of`) are no row of any list.
 
 A pair is a run of numbers, little-endian: u32 the bytes of the input that are stored, u32 the bytes of the input (the others are
 zeros at its end), u32 the bytes of the output; then the stored bytes and the output.
 """
 import collections, random, struct, sys
-from cases import blocks, oracle
+from cases import blocks, oracle, with_rows
 
 OPERATIONS = {"straighten": 1, "spread": 2, "check": 3}
 LIMIT = 65536
+FAR = [-1, -2, -(2**31), 2**31 - 1, 65535, 65536]  # rows that are no point and no halfedge
 NANS = ["7ff0000000000001", "7fffffffffffffff", "fff8000000000000", "ffffffffffffffff"]
 
 
@@ -32,10 +34,22 @@ def signed(xs):
     return b"".join(struct.pack("<i", int(x)) for x in xs)
 
 
+def rows_of(case):
+    """A row for each halfedge: now and then all -1, or each the halfedge's own number; else far ones, points and halfedges mixed."""
+    points, halfedges = (int(x) for x in case["counts"])
+    rng = random.Random("%s %s %s" % (case["op"], case["id"], case["counts"]))
+    how = rng.randrange(6)
+    if how == 0:
+        return [-1] * halfedges
+    if how == 1:
+        return list(range(halfedges))
+    return [rng.choice((rng.choice(FAR), rng.randrange(points + 1), rng.randrange(halfedges + 1), -2 - e)) for e in range(halfedges)]
+
+
 def records_of(case):
     """The records of a case, in order."""
     points, halfedges = (int(x) for x in case["counts"])
-    bodies = [bytes([OPERATIONS[case["op"]]]), struct.pack("<HH", points, halfedges), floats(case["pos"]), signed(case["he"]), floats(case["tan"])]
+    bodies = [bytes([OPERATIONS[case["op"]]]), struct.pack("<HH", points, halfedges), floats(case["pos"]), signed(with_rows(case["he"], rows_of(case))), floats(case["tan"])]
     if case["op"] == "spread":
         bodies += [floats(case["vn"]), bytes(int(x) for x in case["fl"])]
     return [record(k + 1, b) for k, b in enumerate(bodies)]
@@ -68,7 +82,7 @@ def records_refusal(data):
             due = 7 if operation == 2 else 5
         if kind == 2:
             points, halfedges = struct.unpack_from("<HH", data, at + 6)
-            sizes.update({3: 24 * points, 4: 12 * halfedges, 5: 32 * halfedges, 6: 24 * points, 7: halfedges})
+            sizes.update({3: 24 * points, 4: 16 * halfedges, 5: 32 * halfedges, 6: 24 * points, 7: halfedges})
         at += 6 + length
         kind += 1
     if at != len(data):
@@ -222,6 +236,8 @@ def damaged_records(pairs, rng):
             add(before + record(kind, body + b"\0") + rest)  # a byte more, a byte less
             add(before + record(kind, body[:-1]) + rest)
             add(before + record(kind + 1, body + b"\0") + rest)  # kind before length
+            if kind == 4:  # three numbers for each halfedge, without its row
+                add(before + record(kind, b"".join(body[j : j + 12] for j in range(0, length, 16))) + rest)
             add(before + rest)  # left out
             add(before + record(kind, body) * 2 + rest)  # twice
         for operation in (0, 4, 255):
@@ -235,12 +251,12 @@ def damaged_records(pairs, rng):
 
 
 def long_inputs():
-    """Inputs about as long as they can be. No accepted one has exactly 65,536 bytes: 35 + 24 p + 44 n is odd, and 47 + 48 p + 45 n is no such number modulo 3."""
+    """Inputs about as long as they can be. No accepted one has exactly 65,536 bytes: 35 + 24 p + 48 n is odd, and 47 + 48 p + 49 n is it only where n is 17 more than a multiple of 48, which is no multiple of 3."""
     out = []
-    straighten = only(blocks(oracle(["big", "straighten", "1362", "1"]))[0])
+    straighten = only(blocks(oracle(["big", "straighten", "1254", "1"]))[0])
     straighten["tan"] = ["0000000000000000"] * len(straighten["tan"])
-    spread = only(blocks(oracle(["big", "spread", "1230", "2"]))[0])
-    for c, per_point, per_halfedge, heads in ((straighten, 24, 44, 35), (spread, 48, 45, 47)):
+    spread = only(blocks(oracle(["big", "spread", "1140", "2"]))[0])
+    for c, per_point, per_halfedge, heads in ((straighten, 24, 48, 35), (spread, 48, 49, 47)):
         points, halfedges = (int(x) for x in c["counts"])
         more = (LIMIT - heads - per_point * points - per_halfedge * halfedges) // per_point  # points without a halfedge
         c["counts"] = [points + more, halfedges]
@@ -249,10 +265,12 @@ def long_inputs():
                 c[key] += ["0000000000000000"] * (3 * more)
     pillow = [0, 1, 5, 1, 2, 4, 2, 0, 3, 0, 2, 2, 2, 1, 1, 1, 0, 0]
     three = ["0000000000000000"] * 9
-    pillows = {"op": "check", "id": "0", "counts": [3, 1482], "pos": three, "he": [x + 6 * k * (i % 3 == 2) for k in range(247) for i, x in enumerate(pillow)], "tan": ["0000000000000000"] * 4 * 1482}
+    pillows = {"op": "check", "id": "0", "counts": [3, 1362], "pos": three, "he": [x + 6 * k * (i % 3 == 2) for k in range(227) for i, x in enumerate(pillow)], "tan": ["0000000000000000"] * 4 * 1362}
     points = {"op": "straighten", "id": "0", "counts": [2729, 0], "pos": ["3ff0000000000000"] * 8187, "he": [], "tan": []}
-    halfedges = {"op": "straighten", "id": "0", "counts": [1, 1488], "pos": three[:3], "he": [0, 0, 0] * 1488, "tan": ["0000000000000000"] * 4 * 1488}
-    out += answered([straighten, spread, pillows, points, halfedges])
+    halfedges = [{"op": "straighten", "id": "0", "counts": [1, n], "pos": three[:3], "he": [0, 0, 0] * n, "tan": ["0000000000000000"] * 4 * n} for n in (1362, 1364)]
+    longest = {"op": "spread", "id": "0", "counts": [1347, 17], "pos": ["0000000000000000"] * 4041, "he": [0, 0, 0] * 17, "tan": ["0000000000000000"] * 68, "vn": ["0000000000000000"] * 4041, "fl": [1] * 17}
+    assert len(input_of(longest)) == LIMIT
+    out += answered([straighten, spread, pillows, points, *halfedges, longest])
     small = input_of({"op": "straighten", "id": "0", "counts": [3, 6], "pos": three, "he": pillow, "tan": ["0000000000000000"] * 24})
     for size in (LIMIT - 1, LIMIT, LIMIT + 1):
         data = small + bytes(size - len(small))
@@ -269,7 +287,7 @@ def main():
     few = collections.defaultdict(list)
     for data, output in broken.items():
         few[output].append((data, output))
-    records = [pair for pairs in few.values() for pair in pairs[::-(-len(pairs) // 6)]]  # at most six of each answer
+    records = [pair for pairs in few.values() for pair in pairs[::-(-len(pairs) // 12)]]  # at most twelve of each answer
     long = long_inputs()
     pairs = good + bad + records + long
     for data, output in pairs:

@@ -8,7 +8,7 @@ oracle's own random meshes, the smaller ones, and its damaged ones with the refu
 
 A case (tools/cases.py) has the operation's lists and answers: see `packed`.
 """
-from cases import answered, counts, floats, one_nan, oracle, record, refusal, refused, signed, small, u32, write
+from cases import answered, counts, floats, halfedges, one_nan, oracle, record, refusal, refused, signed, small, u32, write
 
 LARGEST = 24  # halfedges of a mesh that is taken
 ACCEPTED = 510  # cases of each operation
@@ -20,23 +20,23 @@ def packed(case, answer):
     op, get = case["op"], case.get
     if op == "straighten":
         after = answer.get("tan") if answer else one_nan(get("tan"))
-        return floats(get("pos")) + signed(get("he")) + floats(get("tan")) + floats(after)
+        return floats(get("pos")) + signed(halfedges(case)) + floats(get("tan")) + floats(after)
     if op == "check":
-        return floats(get("pos")) + signed(get("he")) + floats(get("tan")) + u32(int(answer["valid"][0]) if answer else 0)
+        return floats(get("pos")) + signed(halfedges(case)) + floats(get("tan")) + u32(int(answer["valid"][0]) if answer else 0)
     if op == "crease":
         angle, smooth = get("ang")
         listed = counts(answer["list"]) + floats(answer["smooth"]) + u32(int(answer["tally"][0])) if answer else counts([]) + floats([]) + u32(0)
-        return signed(get("he")) + floats(get("fn")) + floats([angle, smooth]) + u32(int(get("room")[0])) + listed
+        return signed(halfedges(case)) + floats(get("fn")) + floats([angle, smooth]) + u32(int(get("room")[0])) + listed
     if op == "tfn":
-        return floats(get("pos")) + signed(get("he")) + floats(get("fn")) + floats(get("nrm")) + floats(answer["tan"])
+        return floats(get("pos")) + signed(halfedges(case)) + floats(get("fn")) + floats(get("nrm")) + floats(answer["tan"])
     if op == "quad":
         old = get("tan") is not None
-        return signed(get("he")) + signed(get("ref")) + u32(old) + floats(get("tan") or []) + small(answer["inside"]) + small(answer["marked"])
+        return signed(halfedges(case)) + signed(get("ref")) + u32(old) + floats(get("tan") or []) + small(answer["inside"]) + small(answer["marked"])
     if op == "flat":
-        return signed(get("he")) + signed(get("ref")) + small(answer["flat"]) + signed(answer["vert"]) + signed(answer["first"])
+        return signed(halfedges(case)) + signed(get("ref")) + small(answer["flat"]) + signed(answer["vert"]) + signed(answer["first"])
     # the questions of the other calls: of most lists only the length is asked
-    lengths = [len(get(k) or []) for k in ("pos", "vn", "fn", "nrm", "tan")]
-    return (b"".join(u32(x) for x in lengths) + u32(get("tan") is not None) + signed(get("he")) + signed(get("ref") or []) + counts(get("sh") or [])
+    lengths = [len(get(k) or []) for k in ("pos", "vn", "fn", "prop", "tan")]
+    return (b"".join(u32(x) for x in lengths) + u32(get("tan") is not None) + signed(halfedges(case)) + signed(get("ref") or []) + counts(get("sh") or [])
             + floats(get("ss") or []) + small(get("fl") or []))
 
 

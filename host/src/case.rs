@@ -63,6 +63,44 @@ impl Block {
         let c = self.numbers("counts");
         (c[1], c[0])
     }
+
+    /// The row of a halfedge where the case has no line `row`: its own number for making from normals, else one that would show if it were read.
+    fn row_of(&self, e: usize) -> i32 {
+        let own = e as i32;
+        if self.op() == "normals" { own } else { [-1, i32::MIN, i32::MAX, 0, own + 1][e % 5] }
+    }
+
+    /// The halfedges as the unit is lent them, four numbers each: those of the line `he`, and the row. Where `he` ends within a halfedge, or there are not
+    /// as many rows as halfedges, the oracle answers 2; the list then ends within a halfedge too.
+    pub fn halfedges(&self) -> Vec<i32> {
+        let he = self.signed("he");
+        let n = he.len() / 3;
+        let rows = if self.has("row") { self.signed("row") } else { (0..n).map(|e| self.row_of(e)).collect() };
+        let mut h = Vec::with_capacity(4 * n + 3);
+        for (e, numbers) in he.chunks_exact(3).enumerate() {
+            h.extend(numbers);
+            h.push(rows.get(e).copied().unwrap_or(0));
+        }
+        h.extend(&he[3 * n..]);
+        if rows.len() != n {
+            h.push(0);
+        }
+        h
+    }
+
+    /// The row list of making from normals: the line `prop`, or `nrm`, where each halfedge's row is its own number. Where `nrm` has not three numbers per
+    /// halfedge, the oracle answers 2; the list then ends within a row.
+    pub fn rows(&self) -> Vec<f64> {
+        if self.has("prop") {
+            return self.floats("prop");
+        }
+        let mut rows = self.floats("nrm");
+        let (n, _) = self.counts();
+        if rows.len() != 3 * n && rows.len() % 3 == 0 {
+            rows.push(1.0);
+        }
+        rows
+    }
 }
 
 /// The cases, or the answers, of a text, read one at a time. One that is cut off at the text's end is left out.
@@ -106,7 +144,7 @@ fn old_tangents(c: &Block, n: usize, t: Vec<f64>) -> (bool, Vec<f64>) {
 /// The unit's answer to a case, line by line as the oracle writes it, or `None` for an operation that the unit has no call for.
 pub fn answer(c: &Block) -> Option<Result<Vec<String>, Refused>> {
     let (n, p) = c.counts();
-    let (h, pos) = (c.signed("he"), c.floats("pos"));
+    let (h, pos) = (c.halfedges(), c.floats("pos"));
     let mut t = c.floats("tan");
     Some(match c.op() {
         "straighten" => linearize_flat_tangents(n, p, &h, &pos, &mut t).map(|()| vec![hex("tan", &t)]),
@@ -144,7 +182,7 @@ pub fn answer(c: &Block) -> Option<Result<Vec<String>, Refused>> {
             let (old, mut t) = old_tangents(c, n, t);
             let mut scratch = NormalsScratch::new(n.min(1 << 20), p.min(1 << 20), 7);
             create_tangents_from_normals(
-                n, p, &h, &pos, &c.floats("vn"), &c.floats("fn"), &c.signed("ref"), &c.floats("nrm"), old, &mut t, &mut scratch,
+                n, p, &h, &pos, &c.floats("vn"), &c.floats("fn"), &c.signed("ref"), &c.rows(), old, &mut t, &mut scratch,
             )
             .map(|()| {
                 assert!(scratch.is_zero(), "scratch is left");

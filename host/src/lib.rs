@@ -1,6 +1,7 @@
 //! Safe wrappers over the unit's C functions (include/tangents.h), and the oracle's text format.
 //!
-//! Each wrapper lends slices; the unit itself asks every question about their lengths and contents, so nothing is tested here.
+//! Each wrapper lends slices; `h` has four numbers per halfedge: start, end, pair and row. The unit itself asks every question about their
+//! lengths and contents, so nothing is tested here.
 
 pub mod case;
 
@@ -35,14 +36,14 @@ mod raw {
         pub fn tangents_create_tangents_from_normals(
             n: usize, p: usize, h: *const i32, h_len: usize, pos: *const f64, pos_len: usize, normals: *const f64, normals_len: usize,
             face_normals: *const f64, face_normals_len: usize, refs: *const i32, refs_len: usize,
-            halfedge_normals: *const f64, halfedge_normals_len: usize, old: usize, t: *mut f64, t_len: usize,
+            rows: *const f64, rows_len: usize, old: usize, t: *mut f64, t_len: usize,
             fixed: *mut u8, fixed_len: usize, inside: *mut u8, inside_len: usize, current: *mut f64, current_len: usize,
             desired: *mut f64, desired_len: usize, first: *mut usize, first_len: usize, answer: *mut usize, answer_len: usize,
         );
     }
 }
 
-/// Why a call was refused: document 01's number of the question, and the lowest place that breaks it.
+/// Why a call was refused: the number of the question in documents 01 and 02, and the lowest place that breaks it.
 #[derive(Clone, Copy, Debug, PartialEq, Eq)]
 pub struct Refused {
     pub number: usize,
@@ -190,10 +191,11 @@ impl NormalsScratch {
     }
 }
 
-/// Making from normals, three numbers per halfedge: the Rust's `create_tangents_from_normals`. With `old` the tangents t hold the old ones.
+/// Making from normals: the Rust's `create_tangents_from_normals`. `rows` has three numbers per row, and each halfedge names its row. With
+/// `old` the tangents t hold the old ones.
 #[allow(clippy::too_many_arguments)]
 pub fn create_tangents_from_normals(
-    n: usize, p: usize, h: &[i32], pos: &[f64], normals: &[f64], face_normals: &[f64], refs: &[i32], halfedge_normals: &[f64], old: bool,
+    n: usize, p: usize, h: &[i32], pos: &[f64], normals: &[f64], face_normals: &[f64], refs: &[i32], rows: &[f64], old: bool,
     t: &mut [f64], scratch: &mut NormalsScratch,
 ) -> Result<(), Refused> {
     let mut answer = [0; 4];
@@ -201,7 +203,7 @@ pub fn create_tangents_from_normals(
     unsafe {
         raw::tangents_create_tangents_from_normals(
             n, p, h.as_ptr(), h.len(), pos.as_ptr(), pos.len(), normals.as_ptr(), normals.len(), face_normals.as_ptr(), face_normals.len(),
-            refs.as_ptr(), refs.len(), halfedge_normals.as_ptr(), halfedge_normals.len(), usize::from(old), t.as_mut_ptr(), t.len(),
+            refs.as_ptr(), refs.len(), rows.as_ptr(), rows.len(), usize::from(old), t.as_mut_ptr(), t.len(),
             s.fixed.as_mut_ptr(), s.fixed.len(), s.inside.as_mut_ptr(), s.inside.len(), s.current.as_mut_ptr(), s.current.len(),
             s.desired.as_mut_ptr(), s.desired.len(), s.first.as_mut_ptr(), s.first.len(), answer.as_mut_ptr(), 4,
         );

@@ -11,22 +11,22 @@ use Rattle.distribute.specs.declared.Spreading.the-variants.{Spread}
 use Rattle.distribute.specs.Distribute.{distributeTangents, tangentsAfter}
 use Rattle.cases.specs.Lines.{Value, Line, counts, tangents, _is_}
 
--- Two squares back to back: points (0,0,0), (1,0,0), (1,1,0), (0,1,0), each square with its diagonal from point 0. Start, end and pair of the halfedges 0 to 11; the round of point 0 is 0, 6, 9, 3.
+-- Two squares back to back: points (0,0,0), (1,0,0), (1,1,0), (0,1,0), each square with its diagonal from point 0. Start, end, pair and row (its own number) of the halfedges 0 to 11; the round of point 0 is 0, 6, 9, 3.
 abbrev pub square : List ℤ
 square =
     map pos
-    (0 ∷ 1 ∷ 8
-    ∷ 1 ∷ 2 ∷ 7
-    ∷ 2 ∷ 0 ∷ 3
-    ∷ 0 ∷ 2 ∷ 2
-    ∷ 2 ∷ 3 ∷ 10
-    ∷ 3 ∷ 0 ∷ 9
-    ∷ 0 ∷ 2 ∷ 11
-    ∷ 2 ∷ 1 ∷ 1
-    ∷ 1 ∷ 0 ∷ 0
-    ∷ 0 ∷ 3 ∷ 5
-    ∷ 3 ∷ 2 ∷ 4
-    ∷ 2 ∷ 0 ∷ 6
+    (0 ∷ 1 ∷ 8 ∷ 0
+    ∷ 1 ∷ 2 ∷ 7 ∷ 1
+    ∷ 2 ∷ 0 ∷ 3 ∷ 2
+    ∷ 0 ∷ 2 ∷ 2 ∷ 3
+    ∷ 2 ∷ 3 ∷ 10 ∷ 4
+    ∷ 3 ∷ 0 ∷ 9 ∷ 5
+    ∷ 0 ∷ 2 ∷ 11 ∷ 6
+    ∷ 2 ∷ 1 ∷ 1 ∷ 7
+    ∷ 1 ∷ 0 ∷ 0 ∷ 8
+    ∷ 0 ∷ 3 ∷ 5 ∷ 9
+    ∷ 3 ∷ 2 ∷ 4 ∷ 10
+    ∷ 2 ∷ 0 ∷ 6 ∷ 11
     ∷ [])
 
 abbrev pub corners : List Float

@@ -10,9 +10,11 @@ points = 3
 abbrev pub halfedges : ℕ
 halfedges = 6
 
--- start, end and pair of the halfedges 0 to 5; halfedge 0 has the pair that is handed in
+-- start, end, pair and row of the halfedges 0 to 5; halfedge 0 has the pair that is handed in, and each its own number as row
 abbrev pub halfedgeNumbers : ℕ → List ℕ
-halfedgeNumbers pair = 0 ∷ 1 ∷ pair ∷ 1 ∷ 2 ∷ 4 ∷ 2 ∷ 0 ∷ 3 ∷ 0 ∷ 2 ∷ 2 ∷ 2 ∷ 1 ∷ 1 ∷ 1 ∷ 0 ∷ 0 ∷ []
+halfedgeNumbers pair =
+    0 ∷ 1 ∷ pair ∷ 0 ∷ 1 ∷ 2 ∷ 4 ∷ 1 ∷ 2 ∷ 0 ∷ 3 ∷ 2
+    ∷ 0 ∷ 2 ∷ 2 ∷ 3 ∷ 2 ∷ 1 ∷ 1 ∷ 4 ∷ 1 ∷ 0 ∷ 0 ∷ 5 ∷ []
 
 -- the same as a mesh
 abbrev pub pillowWith : ℕ → List ℤ

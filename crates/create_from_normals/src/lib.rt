@@ -3,7 +3,6 @@
 ghost use mathlib.Core.Path.{_≡_};
 ghost use lib.ListN.{length, replicate};
 ghost use Rattle.float.specs.Ops.{zero};
-ghost use Rattle.mesh.specs.Mesh.{asHalfedges};
 ghost use Rattle.mesh.specs.Check.{whenAccepted, Values};
 ghost use Rattle.create_from_normals.specs.FromNormals.{listsFit, scratchFits, checkNormals, checkLists, tangentsAfter};
 use mesh::Checked;
@@ -17,10 +16,10 @@ fn lists_fit(
     normals: usize,
     face_normals: usize,
     refs: usize,
-    halfedge_normals: usize,
+    row_numbers: usize,
     tangents: usize,
 ) -> bool
-    ensures { λ r. ⌜ r ≡ listsFit halfedges positions normals «face_normals» refs «halfedge_normals» tangents n p ⌝ }
+    ensures { λ r. ⌜ r ≡ listsFit halfedges positions normals «face_normals» refs «row_numbers» tangents n p ⌝ }
 {
     let lists = create_shared::mesh_lists_fit(
         n,
@@ -32,7 +31,7 @@ fn lists_fit(
         refs,
     );
     common::both(
-        common::both(lists, mesh::has_length(halfedge_normals, n, 3)),
+        common::both(lists, row_numbers % 3 == 0),
         mesh::has_length(tangents, n, 4),
     )
 }
@@ -60,17 +59,19 @@ fn scratch_fits(
     common::both(angles, mesh::has_length(first.len(), p, 1))
 }
 
-// The questions 1 to 8; `lengths` is the answer to question 2.
-fn check_normals(n: usize, p: usize, h: &[i32], refs: &[i32], lengths: bool) -> Checked
-    ensures { λ r. ⌜ r ≡ checkNormals (asHalfedges (now (h .entry))) (now (refs .entry)) n p lengths ⌝ }
+// The questions 1 to 7, 12 and 8; `lengths` is the answer to question 2, `rows` how many rows there are.
+fn check_normals(n: usize, p: usize, h: &[i32], refs: &[i32], rows: usize, lengths: bool) -> Checked
+    ensures { λ r. ⌜ r ≡ checkNormals (now (h .entry)) (now (refs .entry)) rows n p lengths ⌝ }
 {
-    mesh::check_refs(mesh::check_mesh(h, n, p, lengths), refs, n)
+    let checked = mesh::check_mesh(h, n, p, lengths);
+    let checked = mesh::check_rows(checked, h, rows, n);
+    mesh::check_refs(checked, refs, n)
 }
 
 // Making from normals, for lists of any length and content. `pos` and `normals` have three numbers for each point,
-// `face_normals` and `refs` three for each triangle, `halfedge_normals` three for each halfedge: the normal of its corner, 0
-// where it is missing. With `old` the tangents t hold the old ones. Of the scratch lists `first` has a place for each point,
-// each other one for each halfedge.
+// `face_normals` and `refs` three for each triangle, `rows` three for each row: the normal of the corners whose halfedges have
+// this row, 0 where it is missing. With `old` the tangents t hold the old ones. Of the scratch lists `first` has a place for
+// each point, each other one for each halfedge.
 pub fn create_tangents_from_normals(
     n: usize,
     p: usize,
@@ -79,7 +80,7 @@ pub fn create_tangents_from_normals(
     normals: &[f64],
     face_normals: &[f64],
     refs: &[i32],
-    halfedge_normals: &[f64],
+    rows: &[f64],
     old: bool,
     t: &mut [f64],
     fixed: &mut [u8],
@@ -88,14 +89,14 @@ pub fn create_tangents_from_normals(
     desired: &mut [f64],
     first: &mut [usize],
 ) -> Checked
-    ensures answer { λ r. ⌜ r ≡ checkLists (asHalfedges (now (h .entry))) (now (pos .entry)) (now (normals .entry)) (now («face_normals» .entry)) (now (refs .entry)) (now («halfedge_normals» .entry)) (now (t .entry)) (now (fixed .entry)) (now (inside .entry)) (now (current .entry)) (now (desired .entry)) (now (first .entry)) n p ⌝ }
-    ensures tangents { λ r. ⌜ now (t .exit) ≡ tangentsAfter r (asHalfedges (now (h .entry))) (now (pos .entry)) (now (normals .entry)) (now («face_normals» .entry)) (now (refs .entry)) (now («halfedge_normals» .entry)) (now (t .entry)) old n p ⌝ }
+    ensures answer { λ r. ⌜ r ≡ checkLists (now (h .entry)) (now (pos .entry)) (now (normals .entry)) (now («face_normals» .entry)) (now (refs .entry)) (now (rows .entry)) (now (t .entry)) (now (fixed .entry)) (now (inside .entry)) (now (current .entry)) (now (desired .entry)) (now (first .entry)) n p ⌝ }
+    ensures tangents { λ r. ⌜ now (t .exit) ≡ tangentsAfter r (now (h .entry)) (now (pos .entry)) (now (normals .entry)) (now («face_normals» .entry)) (now (refs .entry)) (now (rows .entry)) (now (t .entry)) old n p ⌝ }
     ensures fixed { λ r. ⌜ now (fixed .exit) ≡ whenAccepted r (replicate n 0) (now (fixed .entry)) ⌝ }
     ensures inside { λ r. ⌜ now (inside .exit) ≡ whenAccepted r (replicate n 0) (now (inside .entry)) ⌝ }
     ensures current { λ r. ⌜ now (current .exit) ≡ whenAccepted r (replicate n zero) (now (current .entry)) ⌝ }
     ensures desired { λ r. ⌜ now (desired .exit) ≡ whenAccepted r (replicate n zero) (now (desired .entry)) ⌝ }
     ensures first { λ r. ⌜ now (first .exit) ≡ whenAccepted r (replicate p 0) (now (first .entry)) ⌝ }
-    ensures values { λ r. ⌜ Values (checkLists (asHalfedges (now (h .entry))) (now (pos .entry)) (now (normals .entry)) (now («face_normals» .entry)) (now (refs .entry)) (now («halfedge_normals» .entry)) (now (t .entry)) (now (fixed .entry)) (now (inside .entry)) (now (current .entry)) (now (desired .entry)) (now (first .entry)) n p) r ⌝ }
+    ensures values { λ r. ⌜ Values (checkLists (now (h .entry)) (now (pos .entry)) (now (normals .entry)) (now («face_normals» .entry)) (now (refs .entry)) (now (rows .entry)) (now (t .entry)) (now (fixed .entry)) (now (inside .entry)) (now (current .entry)) (now (desired .entry)) (now (first .entry)) n p) r ⌝ }
 {
     let lists = lists_fit(
         n,
@@ -105,12 +106,12 @@ pub fn create_tangents_from_normals(
         normals.len(),
         face_normals.len(),
         refs.len(),
-        halfedge_normals.len(),
+        rows.len(),
         t.len(),
     );
     let scratch = scratch_fits(n, p, fixed, inside, current, desired, first);
     let lengths = common::both(lists, scratch);
-    let checked = check_normals(n, p, h, refs, lengths);
+    let checked = check_normals(n, p, h, refs, rows.len() / 3, lengths);
     let Checked::Accepted = checked else {
         return checked;
     };
@@ -122,7 +123,7 @@ pub fn create_tangents_from_normals(
         normals,
         face_normals,
         refs,
-        halfedge_normals,
+        rows,
         old,
         t,
         fixed,

@@ -101,7 +101,7 @@ fn count(asked: &[u8], n: usize) {
         asked,
         n,
         1,
-        &[0; 196605],
+        &[0; 262140],
         &[0.0; 3],
         &[0u8; 65535],
         &mut [0.0; 262140],
@@ -111,13 +111,45 @@ fn count(asked: &[u8], n: usize) {
     );
 }
 
+// The pillow's halfedges, with this start for halfedge 2; each has its own number as row.
+fn pillow(vert: i32) -> [i32; 24] {
+    let mut h = [
+        0,
+        1,
+        5,
+        0,
+        1,
+        2,
+        4,
+        1,
+        2,
+        0,
+        3,
+        2,
+        0,
+        2,
+        2,
+        3,
+        2,
+        1,
+        1,
+        4,
+        1,
+        0,
+        0,
+        5,
+    ];
+    h[8] = vert;
+    h
+}
+
 // The pillow, with this start for halfedge 2.
 fn start(asked: &[u8], vert: i32) {
     ask(
         asked,
         6,
         3,
-        &[0, 1, 5, 1, 2, 4, vert, 0, 3, 0, 2, 2, 2, 1, 1, 1, 0, 0],
+        &pillow(vert),
         &[0.0, 0.0, 0.0, 3.0, 0.0, 0.0, 0.0, 6.0, 0.0],
         &[0u8; 6],
         &mut [0.0; 24],

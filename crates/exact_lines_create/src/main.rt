@@ -13,12 +13,44 @@ fn put(call: &[u8], asked: &[u8], checked: Checked) {
     io::write_all(STDOUT_FILENO, b"\n");
 }
 
+// The pillow's halfedges, with this start for halfedge 2; each has its own number as row.
+fn pillow(vert: i32) -> [i32; 24] {
+    let mut h = [
+        0,
+        1,
+        5,
+        0,
+        1,
+        2,
+        4,
+        1,
+        2,
+        0,
+        3,
+        2,
+        0,
+        2,
+        2,
+        3,
+        2,
+        1,
+        1,
+        4,
+        1,
+        0,
+        0,
+        5,
+    ];
+    h[8] = vert;
+    h
+}
+
 // Making from sharp edges of the pillow's lists, with so many halfedges, this start for halfedge 2, and these entries.
 fn make_sharp(n: usize, vert: i32, entries: &[usize], values: &[f64], t: &mut [f64]) -> Checked {
     create::create_tangents(
         n,
         3,
-        &[0, 1, 5, 1, 2, 4, vert, 0, 3, 0, 2, 2, 2, 1, 1, 1, 0, 0],
+        &pillow(vert),
         &[0.0, 0.0, 0.0, 3.0, 0.0, 0.0, 0.0, 6.0, 0.0],
         &[1.0, 2.0, 3.0, 1.0, 2.0, 3.0, 1.0, 2.0, 3.0],
         &[0.0, 0.0, 1.0, 0.0, 0.0, -1.0],
@@ -41,7 +73,7 @@ fn make_from_normals(n: usize, vert: i32) -> Checked {
     create_from_normals::create_tangents_from_normals(
         n,
         3,
-        &[0, 1, 5, 1, 2, 4, vert, 0, 3, 0, 2, 2, 2, 1, 1, 1, 0, 0],
+        &pillow(vert),
         &[0.0, 0.0, 0.0, 3.0, 0.0, 0.0, 0.0, 6.0, 0.0],
         &[1.0, 2.0, 3.0, 1.0, 2.0, 3.0, 1.0, 2.0, 3.0],
         &[0.0, 0.0, 1.0, 0.0, 0.0, -1.0],

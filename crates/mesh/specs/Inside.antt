@@ -1,10 +1,6 @@
 -- What the reads of an accepted mesh ask of the list of halfedges H. Only contracts inside a call name it; `inside` of proofs/Accepted.antt gives it.
 use Prim.Native.Nat.{ℕ, _+_, _*_, _≤_, _<_}
-use Rattle.mesh.specs.Mesh.{halfedgeStride, startVert, endVert, pairedHalfedge, Halfedges}
-
--- what `indexOf` gives of a negative number
-abbrev pub noIndex : ℕ
-noIndex = 4294967296
+use Rattle.mesh.specs.Mesh.{halfedgeStride, noIndex, startVert, endVert, pairedHalfedge, Halfedges}
 
 -- the numbers of halfedge e stand in the list, and none is negative
 pub record Inside (H : Halfedges) (e : ℕ) : Type 0 where

@@ -1,4 +1,4 @@
--- The mesh as flat lists: the halfedges (start, end and pair of each), three in a row a triangle, and the face references (mesh, coplanar and face number of each triangle).
+-- The mesh as flat lists: the halfedges (start, end, pair and row of each), three after each other a triangle, and the face references (mesh, coplanar and face number of each triangle).
 use Prim.Native.Nat.{ℕ, _+_, _*_, _-_, _%_}
 use mathlib.Core.List.{List}
 use mathlib.Core.Bool.{Bool, false, cond, _&&_}
@@ -15,7 +15,7 @@ maxPoints = 65535
 
 -- how many numbers a halfedge has in its list, and a face reference in its
 abbrev pub halfedgeStride : ℕ
-halfedgeStride = 3
+halfedgeStride = 4
 
 abbrev pub refStride : ℕ
 refStride = 3
@@ -24,16 +24,20 @@ refStride = 3
 unfoldable pub numberAt : List ℤ → ℕ → ℕ → ℕ → ℤ
 numberAt list e stride k = getD list (e * stride + k) (pos 0)
 
--- an i32 as the number of a point or a halfedge; a negative one is above every count
+-- what a negative number is read as: above every i32 and every count of question 1
+abbrev pub noIndex : ℕ
+noIndex = 4294967296
+
+-- an i32 as the number of a point, a halfedge or a row
 unfoldable pub indexOf : ℤ → ℕ
 indexOf (pos n) = n
-indexOf (negsuc n) = 4294967296
+indexOf (negsuc n) = noIndex
 
 -- number k of halfedge e of a list, as an index
 unfoldable pub field : List ℤ → ℕ → ℕ → ℕ
 field list e k = indexOf (numberAt list e halfedgeStride k)
 
--- The halfedges of a list as the calls read them: how many numbers the list has, and start, end and pair of halfedge e. Letter H in all definitions.
+-- The halfedges of a list as all calls read them: how many numbers the list has, and start, end and pair of halfedge e. Letter H in all definitions.
 pub record Halfedges : Type 0 where
   pub numbers : ℕ
   pub start : ℕ → ℕ
@@ -52,6 +56,10 @@ endVert H e = H .end e
 
 abbrev pub pairedHalfedge : Halfedges → ℕ → ℕ
 pairedHalfedge H e = H .pair e
+
+-- `prop_vert` of halfedge e: the row of its normal. Only making from normals reads it.
+abbrev pub propVert : List ℤ → ℕ → ℕ
+propVert list e = field list e 3
 
 -- `is_forward`: `start_vert < end_vert`. On an accepted mesh none is negative (question 3), so that the numbers stand in the order of the indices.
 abbrev pub isForward : Halfedges → ℕ → Bool

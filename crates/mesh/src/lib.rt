@@ -1,4 +1,5 @@
-// The mesh of the Rust's src/types.rs as flat lists, and the questions 1 to 11 that document 01 puts to a call.
+// The mesh of the Rust's src/types.rs as flat lists, and the questions that documents 01 and 02 put to a call: 1 to
+// 11, and 12 to making from normals.
 // The questions read lists of any length and content, and past the end a default; the other reads are of accepted meshes.
 mod questions;
 mod triangles;
@@ -12,20 +13,20 @@ ghost use mathlib.Core.List.{[]};
 ghost use mathlib.Core.Bool.{_&&_};
 ghost use Prim.Native.Nat.{_+_, _*_, _%_, _<_, _≤_, _^_};
 ghost use lib.ListN.{length};
-ghost use Rattle.mesh.specs.Mesh.{maxHalfedges, maxPoints, halfedgeStride, numberAt, field, startVert, endVert, pairedHalfedge, isForward, nextHalfedge, prevHalfedge, eqZ, refAt, sameFace, asHalfedges};
-ghost use Rattle.mesh.specs.Inside.{noIndex, Inside};
+ghost use Rattle.mesh.specs.Mesh.{maxHalfedges, maxPoints, halfedgeStride, numberAt, field, startVert, endVert, pairedHalfedge, propVert, isForward, nextHalfedge, prevHalfedge, eqZ, refAt, sameFace, asHalfedges, noIndex};
+ghost use Rattle.mesh.specs.Inside.{Inside};
 ghost use Rattle.mesh.specs.Scalar.{radiansOf};
 ghost use Rattle.mesh.specs.Questions.{hasLength, signClear, testAt};
 ghost use Rattle.mesh.specs.All.{trianglesHold, askEach};
-ghost use Rattle.mesh.specs.Check.{numberOf, placeOf, each, _then_, checkMesh, checkRefs, checkEntries, checkFlags};
+ghost use Rattle.mesh.specs.Check.{numberOf, placeOf, each, _then_, checkMesh, checkRefs, checkEntries, checkFlags, checkRows};
 
 // The limits of question 1.
 pub const MAX_HALFEDGES: usize = 65535;
 
 pub const MAX_POINTS: usize = 65535;
 
-// How many numbers a halfedge has in its list (start, end, pair), and a face reference in its (mesh, coplanar, face).
-pub const HALFEDGE_STRIDE: usize = 3;
+// How many numbers a halfedge has in its list (start, end, pair, row), and a face reference in its (mesh, coplanar, face).
+pub const HALFEDGE_STRIDE: usize = 4;
 
 pub const REF_STRIDE: usize = 3;
 
@@ -38,7 +39,7 @@ pub enum Checked {
     Refused { number: usize, place: usize },
 }
 
-// The questions 3 to 11, which are put to each place of a list.
+// The questions 3 to 12, which are put to each place of a list.
 pub enum Question {
     Points,
     Pair,
@@ -49,6 +50,7 @@ pub enum Question {
     Entry,
     Sign,
     Flag,
+    Row,
 }
 
 // Number k of item e, in a list of `stride` numbers to an item.
@@ -99,6 +101,14 @@ pub fn paired_halfedge(h: &[i32], e: usize) -> usize
     ensures { λ r. ⌜ r ≡ pairedHalfedge (asHalfedges (now (h .entry))) e ⌝ }
 {
     known_field(h, e, 2)
+}
+
+// The row of the normal of halfedge e, which making from normals alone reads.
+pub fn prop_vert(h: &[i32], e: usize) -> usize
+    requires { ⌜ (e * halfedgeStride + halfedgeStride ≤ length (now h)) × (propVert (now h) e < noIndex) ⌝ }
+    ensures { λ r. ⌜ r ≡ propVert (now (h .entry)) e ⌝ }
+{
+    known_field(h, e, 3)
 }
 
 pub fn is_forward(h: &[i32], e: usize) -> bool
@@ -329,4 +339,11 @@ pub fn check_flags(sofar: Checked, flags: &[u8], n: usize) -> Checked
     ensures { λ r. ⌜ r ≡ checkFlags sofar (now (flags .entry)) n ⌝ }
 {
     ask(sofar, 11, Question::Flag, &[], &[], &[], flags, n, 0, n)
+}
+
+// Question 12, after earlier answers: the rows of the halfedges, of which there are so many.
+pub fn check_rows(sofar: Checked, h: &[i32], rows: usize, n: usize) -> Checked
+    ensures { λ r. ⌜ r ≡ checkRows sofar (now (h .entry)) rows n ⌝ }
+{
+    ask_numbers(sofar, 12, Question::Row, h, n, rows, n)
 }

@@ -7,8 +7,7 @@ ghost use Prim.Native.Nat.{_+_, _*_, _<_, _≤_, _^_};
 ghost use mathlib.Core.Bool.{_&&_};
 ghost use lib.Dec.{ltb};
 ghost use lib.ListN.{length};
-ghost use Rattle.mesh.specs.Mesh.{maxHalfedges, maxPoints, halfedgeStride, numberAt, indexOf, asHalfedges};
-ghost use Rattle.mesh.specs.Inside.{noIndex};
+ghost use Rattle.mesh.specs.Mesh.{maxHalfedges, maxPoints, halfedgeStride, numberAt, indexOf, asHalfedges, noIndex};
 ghost use Rattle.mesh.specs.All.{halfedgeHolds, triangleHolds};
 
 // Is x the number of one of so many? The remainder, which is the count itself, shows the compiler that the limit is not

@@ -4,8 +4,9 @@ use native.Mathlib.Omega.{arith}
 use mathlib.Core.Path.{_≡_, sym, _∙_, subst}
 use mathlib.Core.List.{List}
 use lib.ListN.{length, getD}
+use lib.IntN.{ℤ}
 use lib.Ieee.{Float}
-use Rattle.mesh.specs.Mesh.{Halfedges}
+use Rattle.mesh.specs.Mesh.{Halfedges, asHalfedges}
 use Rattle.mesh.specs.Sound.{Sound}
 use Rattle.mesh.specs.Inside.{Inside}
 use Rattle.mesh.proofs.Accepted.{inside}
@@ -33,15 +34,15 @@ flag-in {n = n} w q h = record {
   below = h;
 }
 
-module _ {H : Halfedges} {P N A G T : List Float} {X Q F : List ℕ} {n : ℕ} (w : TangentLists H P N A G T X Q F n) where
-  pub inside-in : InsideIn H T Q n
+module _ {list : List ℤ} {P N A G T : List Float} {X Q F : List ℕ} {n : ℕ} (w : TangentLists list P N A G T X Q F n) where
+  pub inside-in : InsideIn (asHalfedges list) T Q n
   inside-in = record { points = length F; sound = w .sound; whole = w .whole; tangents = w .tangents; inside = w .inside }
 
   -- with lists as long, the lowest halfedge of each point in F′, and the unit vectors of the triangles' normals in U
   pub verts-lists : {T′ U : List Float} {X′ Q′ F′ : List ℕ} → UnitsIn A U n → length T′ ≡ length T → length X′ ≡ length X → length Q′ ≡ length Q → length F′ ≡ length F
-      → ((v : ℕ) → v < length F → getD F′ v 0 ≡ vertHalfedge H n v) → VertsLists H P N A U G Q′ F′ T′ X′ n
+      → ((v : ℕ) → v < length F → getD F′ v 0 ≡ vertHalfedge (asHalfedges list) n v) → VertsLists list P N A U G Q′ F′ T′ X′ n
   verts-lists u t x q f d = record {
-    sound = subst (Sound H n) (sym f) (w .sound);
+    sound = subst (Sound (asHalfedges list) n) (sym f) (w .sound);
     whole = w .whole;
     positions = omega (arith, f, w .positions);
     point-normals = omega (arith, f, w .normals);
@@ -55,10 +56,10 @@ module _ {H : Halfedges} {P N A G T : List Float} {X Q F : List ℕ} {n : ℕ} (
   }
 
 -- with the tangents T′, the fixed flags X′ and the list C′ that stand there then
-pub spread-in : {H : Halfedges} {P N A G T : List Float} {X Q : List ℕ} {C D : List Float} {F : List ℕ} {n p : ℕ} → Lists H P N A G T X Q C D F n p
-    → {T′ C′ : List Float} {X′ : List ℕ} → length T′ ≡ length T → length X′ ≡ length X → length C′ ≡ length C → SpreadLists H P N X′ T′ C′ D n p
-spread-in {H} {n = n} w t x c = record {
-  sound = subst (Sound H n) (w .points) (w .lists .sound);
+pub spread-in : {list : List ℤ} {P N A G T : List Float} {X Q : List ℕ} {C D : List Float} {F : List ℕ} {n p : ℕ} → Lists list P N A G T X Q C D F n p
+    → {T′ C′ : List Float} {X′ : List ℕ} → length T′ ≡ length T → length X′ ≡ length X → length C′ ≡ length C → SpreadLists (asHalfedges list) P N X′ T′ C′ D n p
+spread-in {list} {n = n} w t x c = record {
+  sound = subst (Sound (asHalfedges list) n) (w .points) (w .lists .sound);
   whole = w .lists .whole;
   positions = omega (arith, w .points, w .lists .positions);
   normals = omega (arith, w .points, w .lists .normals);

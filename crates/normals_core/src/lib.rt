@@ -7,6 +7,7 @@ ghost use Rattle.mesh.specs.Mesh.{asHalfedges};
 ghost use Rattle.smoothing.specs.Edges.{InsideQuadIn};
 ghost use Rattle.smoothing.specs.Inner.{putEdge};
 ghost use Rattle.create_shared.specs.Makings.{tangentsOf};
+ghost use Rattle.normals_state.specs.State.{getNormal};
 ghost use Rattle.normals_state.specs.Units.{UnitsIn};
 ghost use Rattle.distribute_walks.specs.Walks.{Lists as SpreadLists};
 ghost use Rattle.distribute.specs.Distribute.{spreadTangents};
@@ -72,15 +73,15 @@ fn normal_tangents(
     face_normals: &[f64],
     face_units: &[f64],
     refs: &[i32],
-    halfedge_normals: &[f64],
+    rows: &[f64],
     old: bool,
     t: &mut [f64],
     fixed: &mut [u8],
     inside: &mut [u8],
     first: &mut [usize],
 )
-    requires { ⌜ TangentLists (asHalfedges (now h)) (now pos) (now normals) (now «face_normals») (now «halfedge_normals») (now t) (now fixed) (now inside) (now first) n × UnitsIn (now «face_normals») (now «face_units») n ⌝ }
-    ensures { λ _. ⌜ tangentsOf (now (t .exit)) (now (fixed .exit)) ≡ normalTangents (asHalfedges (now (h .entry))) (now (pos .entry)) (now (normals .entry)) (now («face_normals» .entry)) (now (refs .entry)) (now («halfedge_normals» .entry)) (now (t .entry)) old n (length (now (first .entry))) ⌝ }
+    requires { ⌜ TangentLists (now h) (now pos) (now normals) (now «face_normals») (now rows) (now t) (now fixed) (now inside) (now first) n × UnitsIn (now «face_normals») (now «face_units») n ⌝ }
+    ensures { λ _. ⌜ tangentsOf (now (t .exit)) (now (fixed .exit)) ≡ normalTangents (asHalfedges (now (h .entry))) (now (pos .entry)) (now (normals .entry)) (now («face_normals» .entry)) (now (refs .entry)) (getNormal (now (h .entry)) (now (rows .entry))) (now (t .entry)) old n (length (now (first .entry))) ⌝ }
 {
     inside_quads(n, h, refs, t, old, inside);
     common::fill_floats(t, 0.0);
@@ -93,7 +94,7 @@ fn normal_tangents(
         normals,
         face_normals,
         face_units,
-        halfedge_normals,
+        rows,
         inside,
         first,
         t,
@@ -122,7 +123,7 @@ pub fn make_tangents(
     normals: &[f64],
     face_normals: &[f64],
     refs: &[i32],
-    halfedge_normals: &[f64],
+    rows: &[f64],
     old: bool,
     t: &mut [f64],
     fixed: &mut [u8],
@@ -131,8 +132,8 @@ pub fn make_tangents(
     desired: &mut [f64],
     first: &mut [usize],
 )
-    requires { ⌜ Lists (asHalfedges (now h)) (now pos) (now normals) (now «face_normals») (now «halfedge_normals») (now t) (now fixed) (now inside) (now current) (now desired) (now first) n p ⌝ }
-    ensures tangents { λ _. ⌜ now (t .exit) ≡ createTangentsFromNormals (asHalfedges (now (h .entry))) (now (pos .entry)) (now (normals .entry)) (now («face_normals» .entry)) (now (refs .entry)) (now («halfedge_normals» .entry)) (now (t .entry)) old n p ⌝ }
+    requires { ⌜ Lists (now h) (now pos) (now normals) (now «face_normals») (now rows) (now t) (now fixed) (now inside) (now current) (now desired) (now first) n p ⌝ }
+    ensures tangents { λ _. ⌜ now (t .exit) ≡ createTangentsFromNormals (asHalfedges (now (h .entry))) (now (pos .entry)) (now (normals .entry)) (now («face_normals» .entry)) (now (refs .entry)) (getNormal (now (h .entry)) (now (rows .entry))) (now (t .entry)) old n p ⌝ }
     ensures fixed { λ _. ⌜ now (fixed .exit) ≡ replicate n 0 ⌝ }
     ensures inside { λ _. ⌜ now (inside .exit) ≡ replicate n 0 ⌝ }
     ensures current { λ _. ⌜ now (current .exit) ≡ replicate n zero ⌝ }
@@ -148,7 +149,7 @@ pub fn make_tangents(
         face_normals,
         current,
         refs,
-        halfedge_normals,
+        rows,
         old,
         t,
         fixed,

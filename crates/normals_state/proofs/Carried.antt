@@ -60,7 +60,7 @@ normal-same a b q = rw (bits-same (a .x) (b .x) (ap (λ (v : Vec3). v .x) q), bi
 -- ---- the state after a halfedge
 
 -- U holds the unit vectors of the triangles' normals A
-pub next-state-by : {A U : List Float} {n : ℕ} → UnitsIn A U n → (H : Halfedges) (G : List Float) (s : CycleState) (e : ℕ) → e / 3 * 3 + 3 ≤ n → nextAround H e / 3 * 3 + 3 ≤ n
-    → nextState H A G s e ≡ nextStateOf s (halfedgeNormal U G e) (halfedgeNormal U G (nextAround H e)) e
+pub next-state-by : {A U : List Float} {n : ℕ} → UnitsIn A U n → (H : Halfedges) (normal : ℕ → Vec3) (s : CycleState) (e : ℕ) → e / 3 * 3 + 3 ≤ n → nextAround H e / 3 * 3 + 3 ≤ n
+    → nextState H A normal s e ≡ nextStateOf s (halfedgeNormal U normal e) (halfedgeNormal U normal (nextAround H e)) e
 unfolding nextState nextStateOf halfedgeNormal
-next-state-by w H G s e h k = rw (flat-is w G e h, flat-is w G (nextAround H e) k) refl
+next-state-by w H normal s e h k = rw (flat-is w normal e h, flat-is w normal (nextAround H e) k) refl

@@ -12,7 +12,7 @@ use Rattle.common.specs.Fold.{foldTo}
 use Rattle.smoothing.specs.Directions.{safeNormalize, equalUnits}
 use Rattle.smoothing.specs.Lists.{pointAt}
 use Rattle.smoothing.proofs.Directions.{equal-by-units}
-use Rattle.normals_state.specs.State.{getNormal, hasFaceNormal}
+use Rattle.normals_state.specs.State.{hasFaceNormal}
 use Rattle.normals_state.specs.Carried.{halfedgeNormal}
 use Rattle.normals_state.specs.Units.{UnitsIn, putUnit, putUnits}
 
@@ -80,6 +80,6 @@ module _ (A U : List Float) (n : ℕ) (whole : length U ≡ n) where
 
 -- ---- the normal of a halfedge of triangle e / 3
 
-pub flat-is : {A U : List Float} {n : ℕ} → UnitsIn A U n → (G : List Float) (e : ℕ) → e / 3 * 3 + 3 ≤ n → hasFaceNormal A G e ≡ halfedgeNormal U G e .flat
+pub flat-is : {A U : List Float} {n : ℕ} → UnitsIn A U n → (normal : ℕ → Vec3) (e : ℕ) → e / 3 * 3 + 3 ≤ n → hasFaceNormal A normal e ≡ halfedgeNormal U normal e .flat
 unfolding hasFaceNormal halfedgeNormal
-flat-is {A} w G e h = equal-by-units (getNormal G e) (pointAt A (e / 3)) ∙ ap (equalUnits (safeNormalize (getNormal G e))) (sym (w .units (e / 3) h))
+flat-is {A} w normal e h = equal-by-units (normal e) (pointAt A (e / 3)) ∙ ap (equalUnits (safeNormalize (normal e))) (sym (w .units (e / 3) h))

@@ -10,15 +10,15 @@ use Rattle.smoothing.specs.Directions.{safeNormalize, equalUnits}
 use Rattle.smoothing.specs.Lists.{pointAt}
 use Rattle.normals_state.specs.declared.HalfedgeNormal.{HalfedgeNormal}
 use Rattle.normals_state.specs.declared.CycleState.{CycleState}
-use Rattle.normals_state.specs.State.{getNormal, isZero, nextFaceEdges, nextStart, nextLast}
+use Rattle.normals_state.specs.State.{isZero, nextFaceEdges, nextStart, nextLast}
 
 -- the normal of halfedge e with what the loop asks of it: its unit vector, `here_zero`, `here_is_flat`; U are the unit vectors of the triangles' normals
-unfoldable pub halfedgeNormal : List Float → List Float → ℕ → HalfedgeNormal
-halfedgeNormal U G e = record {
-  normal = getNormal G e;
-  unit = safeNormalize (getNormal G e);
-  zero = isZero (getNormal G e);
-  flat = equalUnits (safeNormalize (getNormal G e)) (pointAt U (e / 3));
+unfoldable pub halfedgeNormal : List Float → (ℕ → Vec3) → ℕ → HalfedgeNormal
+halfedgeNormal U normal e = record {
+  normal = normal e;
+  unit = safeNormalize (normal e);
+  zero = isZero (normal e);
+  flat = equalUnits (safeNormalize (normal e)) (pointAt U (e / 3));
 }
 
 -- the same bit for bit

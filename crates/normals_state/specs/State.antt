@@ -1,13 +1,14 @@
--- What `create_tangents_from_normals` reads of a normal, and what it carries on its way round a vertex cycle. H are the halfedges, A the face normals, G the lent normals, three numbers for each halfedge.
-use Prim.Native.Nat.{ℕ, _*_, _/_}
+-- What `create_tangents_from_normals` reads of a normal, and what it carries on its way round a vertex cycle. H are the halfedges, A the face normals, `normal` gives the normal of a halfedge (`get_normal`).
+use Prim.Native.Nat.{ℕ, _+_, _*_, _/_, _≤_, _<_}
 use mathlib.Core.Path.{_≡_}
 use mathlib.Core.List.{List}
 use mathlib.Core.Bool.{Bool, true, false, cond, xor, not, _&&_, _||_}
 use lib.ListN.{length}
+use lib.IntN.{ℤ}
 use lib.Ieee.{Float, eq}
 use Rattle.float.specs.Ops.{zero}
 use Rattle.linalg.specs.declared.Vec3.{Vec3}
-use Rattle.mesh.specs.Mesh.{halfedgeStride, Halfedges}
+use Rattle.mesh.specs.Mesh.{halfedgeStride, noIndex, Halfedges, asHalfedges, propVert}
 use Rattle.mesh.specs.Sound.{Sound}
 use Rattle.smoothing.specs.Directions.{equalNormals}
 use Rattle.smoothing.specs.Lists.{pointAt}
@@ -20,23 +21,29 @@ use Rattle.normals_state.specs.declared.CycleState.{CycleState}
 
 -- ---- what the lists must be for a call
 
--- a sound mesh, and a normal for each halfedge
-pub record MissingIn (H : Halfedges) (G : List Float) (n : ℕ) : Type 0 where
+-- halfedge e of the list has its row in the row list G
+pub record RowIn (list : List ℤ) (G : List Float) (e : ℕ) : Type 0 where
+  pub within : e * halfedgeStride + halfedgeStride ≤ length list
+  pub row-index : propVert list e < noIndex
+  pub row-in : propVert list e * 3 + 3 ≤ length G
+
+-- a sound mesh, and a row for each halfedge
+pub record MissingIn (list : List ℤ) (G : List Float) (n : ℕ) : Type 0 where
   pub points : ℕ
-  pub sound : Sound H n points
-  pub whole : H .numbers ≡ n * halfedgeStride
-  pub normals : length G ≡ n * 3
+  pub sound : Sound (asHalfedges list) n points
+  pub whole : asHalfedges list .numbers ≡ n * halfedgeStride
+  pub normals : (e : ℕ) → e < n → RowIn list G e
 
 -- and one for each triangle
-pub record StateLists (H : Halfedges) (A G : List Float) (n : ℕ) : Type 0 where
-  pub missing : MissingIn H G n
+pub record StateLists (list : List ℤ) (A G : List Float) (n : ℕ) : Type 0 where
+  pub missing : MissingIn list G n
   pub face-normals : length A ≡ n
 
 -- ---- normals
 
--- `get_normal`: the normal of halfedge e. The one place where it is read.
-unfoldable pub getNormal : List Float → ℕ → Vec3
-getNormal G e = pointAt G e
+-- `get_normal`: the normal of halfedge e of the list of halfedges, which stands at its row in the row list G. The one place where a row is read.
+unfoldable pub getNormal : List ℤ → List Float → ℕ → Vec3
+getNormal list G e = pointAt G (propVert list e)
 
 -- `== Vec3::new(0.0, 0.0, 0.0)`: each number is a zero of either sign, and none is not-a-number. A missing normal is zero.
 unfoldable pub isZero : Vec3 → Bool
@@ -47,12 +54,12 @@ unfoldable pub normalOr : Vec3 → Vec3 → Vec3
 normalOr v other = cond (isZero v) other v
 
 -- `here_is_flat`, `next_is_flat`: the normal of halfedge e is that of its triangle
-unfoldable pub hasFaceNormal : List Float → List Float → ℕ → Bool
-hasFaceNormal A G e = equalNormals (getNormal G e) (pointAt A (e / 3))
+unfoldable pub hasFaceNormal : List Float → (ℕ → Vec3) → ℕ → Bool
+hasFaceNormal A normal e = equalNormals (normal e) (pointAt A (e / 3))
 
 -- `here_zero || next_zero`: the normal of halfedge e or that of the next one round its point is missing
-unfoldable pub isMissing : Halfedges → List Float → ℕ → Bool
-isMissing H G e = isZero (getNormal G e) || isZero (getNormal G (nextAround H e))
+unfoldable pub isMissing : Halfedges → (ℕ → Vec3) → ℕ → Bool
+isMissing H normal e = isZero (normal e) || isZero (normal (nextAround H e))
 
 -- ---- `face_edges`
 
@@ -104,15 +111,15 @@ abbrev pub startState : CycleState
 startState = record { «face_edges» = NoEdge; «start_halfedge» = NoneMissing; «last_normal» = zeroNormal }
 
 -- after halfedge e
-unfoldable pub nextState : Halfedges → List Float → List Float → CycleState → ℕ → CycleState
-nextState H A G s e =
+unfoldable pub nextState : Halfedges → List Float → (ℕ → Vec3) → CycleState → ℕ → CycleState
+nextState H A normal s e =
     let next = nextAround H e in
-    let here-zero = isZero (getNormal G e) in
-    let next-zero = isZero (getNormal G next) in
+    let here-zero = isZero (normal e) in
+    let next-zero = isZero (normal next) in
     record {
-      «face_edges» = nextFaceEdges (hasFaceNormal A G e) (hasFaceNormal A G next) (s .«face_edges») e;
+      «face_edges» = nextFaceEdges (hasFaceNormal A normal e) (hasFaceNormal A normal next) (s .«face_edges») e;
       «start_halfedge» = nextStart here-zero next-zero (s .«start_halfedge») e;
-      «last_normal» = nextLast here-zero next-zero (getNormal G e) (s .«last_normal»);
+      «last_normal» = nextLast here-zero next-zero (normal e) (s .«last_normal»);
     }
 
 -- `face_edges[0] = -2`: there is more than one normal at the point

@@ -4,7 +4,7 @@ ghost use mathlib.Core.Bool.{xor};
 ghost use Prim.Native.Nat.{_+_, _*_, _/_, _≤_};
 ghost use lib.ListN.{length};
 ghost use Rattle.smoothing.specs.Directions.{safeNormalize};
-ghost use Rattle.normals_state.specs.State.{getNormal, isZero, normalOr, addFaceEdge, nextFaceEdges, setStart, missingStart, nextStart, someMissing, nextLast, startState, spoilFaceEdges};
+ghost use Rattle.normals_state.specs.State.{RowIn, getNormal, isZero, normalOr, addFaceEdge, nextFaceEdges, setStart, missingStart, nextStart, someMissing, nextLast, startState, spoilFaceEdges};
 ghost use Rattle.normals_state.specs.Carried.{halfedgeNormal, sameBits, sameNormal, nextStateOf};
 ghost use Rattle.normals_state.specs.Packed.{faceEdgesOf, startOf, stateOf};
 ghost use Rattle.normals_state.specs.Units.{putUnit, putUnits};
@@ -66,12 +66,12 @@ pub struct PackedState {
 
 // ---- normals
 
-// The normal of halfedge e. The one place where it is read.
-pub fn get_normal(halfedge_normals: &[f64], e: usize) -> Vec3
-    requires { ⌜ e * 3 + 3 ≤ length (now «halfedge_normals») ⌝ }
-    ensures { λ r. ⌜ r ≡ getNormal (now («halfedge_normals» .entry)) e ⌝ }
+// The normal of halfedge e, which stands at its row. The one place where a row is read.
+pub fn get_normal(h: &[i32], rows: &[f64], e: usize) -> Vec3
+    requires { ⌜ RowIn (now h) (now rows) e ⌝ }
+    ensures { λ r. ⌜ r ≡ getNormal (now (h .entry)) (now (rows .entry)) e ⌝ }
 {
-    smoothing::point_at(halfedge_normals, e)
+    smoothing::point_at(rows, mesh::prop_vert(h, e))
 }
 
 // Is each number 0? That of a missing normal is.
@@ -145,16 +145,17 @@ pub fn put_units(n: usize, face_normals: &[f64], units: &mut [f64])
 // The normal of halfedge e with what the loop asks of it, where the unit vector of the normal before it is known. `face_units`
 // are those of `put_units`.
 pub fn normal_after(
+    h: &[i32],
     face_units: &[f64],
-    halfedge_normals: &[f64],
+    rows: &[f64],
     before: Vec3,
     unit: Vec3,
     e: usize,
 ) -> HalfedgeNormal
-    requires { ⌜ (e / 3 * 3 + 3 ≤ length (now «face_units»)) × (e * 3 + 3 ≤ length (now «halfedge_normals»)) × (unit ≡ safeNormalize before) ⌝ }
-    ensures { λ r. ⌜ r ≡ halfedgeNormal (now («face_units» .entry)) (now («halfedge_normals» .entry)) e ⌝ }
+    requires { ⌜ (e / 3 * 3 + 3 ≤ length (now «face_units»)) × RowIn (now h) (now rows) e × (unit ≡ safeNormalize before) ⌝ }
+    ensures { λ r. ⌜ r ≡ halfedgeNormal (now («face_units» .entry)) (getNormal (now (h .entry)) (now (rows .entry))) e ⌝ }
 {
-    let normal = get_normal(halfedge_normals, e);
+    let normal = get_normal(h, rows, e);
     let unit = unit_after(normal, before, unit);
     let face_unit = smoothing::point_at(face_units, e / 3);
     HalfedgeNormal {
@@ -166,13 +167,13 @@ pub fn normal_after(
 }
 
 // The same where no normal is before it.
-pub fn halfedge_normal(face_units: &[f64], halfedge_normals: &[f64], e: usize) -> HalfedgeNormal
-    requires { ⌜ (e / 3 * 3 + 3 ≤ length (now «face_units»)) × (e * 3 + 3 ≤ length (now «halfedge_normals»)) ⌝ }
-    ensures { λ r. ⌜ r ≡ halfedgeNormal (now («face_units» .entry)) (now («halfedge_normals» .entry)) e ⌝ }
+pub fn halfedge_normal(h: &[i32], face_units: &[f64], rows: &[f64], e: usize) -> HalfedgeNormal
+    requires { ⌜ (e / 3 * 3 + 3 ≤ length (now «face_units»)) × RowIn (now h) (now rows) e ⌝ }
+    ensures { λ r. ⌜ r ≡ halfedgeNormal (now («face_units» .entry)) (getNormal (now (h .entry)) (now (rows .entry))) e ⌝ }
 {
-    let normal = get_normal(halfedge_normals, e);
+    let normal = get_normal(h, rows, e);
     let unit = smoothing::safe_normalize(normal);
-    normal_after(face_units, halfedge_normals, normal, unit, e)
+    normal_after(h, face_units, rows, normal, unit, e)
 }
 
 // ---- what the loop carries

@@ -17,7 +17,7 @@ use Rattle.smoothing.proofs.Directions.{equal-by-units}
 use Rattle.smoothing.proofs.Tangents.{weight-put-same, put-put}
 use Rattle.cycles.specs.Cycles.{nextAround}
 use Rattle.normals_state.specs.declared.CycleState.{CycleState}
-use Rattle.normals_state.specs.State.{getNormal, isMissing, nextState}
+use Rattle.normals_state.specs.State.{isMissing, nextState}
 use Rattle.normals_state.specs.Carried.{halfedgeNormal}
 use Rattle.normals_state.specs.Units.{UnitsIn}
 use Rattle.normals_state.proofs.Carried.{next-state-by}
@@ -61,32 +61,32 @@ unfolding tangentBetween directionBetween
 tangent-between-by H P A a b true e = tangent-by-direction H P A a e
 tangent-between-by H P A a b false e = refl
 
-pub tangent-step-by : (H : Halfedges) (P A U G : List Float) (m : Walk) (e : ℕ) → tangentStep H P A G m e ≡ tangentStepOf H P A (halfedgeNormal U G e) (halfedgeNormal U G (nextAround H e)) m e
+pub tangent-step-by : (H : Halfedges) (P A U : List Float) (normal : ℕ → Vec3) (m : Walk) (e : ℕ) → tangentStep H P A normal m e ≡ tangentStepOf H P A (halfedgeNormal U normal e) (halfedgeNormal U normal (nextAround H e)) m e
 unfolding tangentStep tangentStepOf halfedgeNormal
-tangent-step-by H P A U G m e = rw (equal-by-units (getNormal G (nextAround H e)) (getNormal G e)) refl
+tangent-step-by H P A U normal m e = rw (equal-by-units (normal (nextAround H e)) (normal e)) refl
 
 -- ---- the body of the loop, at halfedge e
 
-module _ (H : Halfedges) (P A G : List Float) (inside : ℕ → Bool) (m : Walk) (e : ℕ) (h : e * 4 + 4 ≤ length (m .tangents)) where
+module _ (H : Halfedges) (P A : List Float) (normal : ℕ → Vec3) (inside : ℕ → Bool) (m : Walk) (e : ℕ) (h : e * 4 + 4 ≤ length (m .tangents)) where
   abbrev after : CycleState
-  after = nextState H A G (m .state) e
+  after = nextState H A normal (m .state) e
 
   abbrev flag : Vec4
   flag = withWeight (after .«last_normal») (cond (inside e) insideQuadWeight missingNormalWeight)
 
   -- by whether it has a flag
-  step-cases : (b : Bool) → inside e || isMissing H G e ≡ b
-      → normalStep H P A G inside m e ≡ cond b (walkOf (putTangent (m .tangents) e flag) (m .fixed) after) (tangentStep H P A G (walkOf (m .tangents) (m .fixed) after) e)
+  step-cases : (b : Bool) → inside e || isMissing H normal e ≡ b
+      → normalStep H P A normal inside m e ≡ cond b (walkOf (putTangent (m .tangents) e flag) (m .fixed) after) (tangentStep H P A normal (walkOf (m .tangents) (m .fixed) after) e)
   unfolding normalStep tangentStep
   step-cases true k =
-      simp (flag-is (isMissing H G e) (inside e) (after .«last_normal») (tangentAt (m .tangents) e) k, weight-put-same (m .tangents) e flag h, flag-below (inside e))
+      simp (flag-is (isMissing H normal e) (inside e) (after .«last_normal») (tangentAt (m .tangents) e) k, weight-put-same (m .tangents) e flag h, flag-below (inside e))
   step-cases false k =
-      simp (no-flag-is (isMissing H G e) (inside e) (after .«last_normal») (tangentAt (m .tangents) e) k, weight-put-same (m .tangents) e (withWeight (vec3FromVec4 (tangentAt (m .tangents) e)) one) h, one-above, put-put)
+      simp (no-flag-is (isMissing H normal e) (inside e) (after .«last_normal») (tangentAt (m .tangents) e) k, weight-put-same (m .tangents) e (withWeight (vec3FromVec4 (tangentAt (m .tangents) e)) one) h, one-above, put-put)
 
   -- U holds the unit vectors of the triangles' normals
   pub normal-step-by : {U : List Float} {n : ℕ} → UnitsIn A U n → e / 3 * 3 + 3 ≤ n → nextAround H e / 3 * 3 + 3 ≤ n
-      → normalStep H P A G inside m e ≡ normalStepOf H P A inside (halfedgeNormal U G e) (halfedgeNormal U G (nextAround H e)) m e
+      → normalStep H P A normal inside m e ≡ normalStepOf H P A inside (halfedgeNormal U normal e) (halfedgeNormal U normal (nextAround H e)) m e
   unfolding normalStepOf isMissing halfedgeNormal
   normal-step-by {U} w j k =
-      step-cases (inside e || isMissing H G e) refl
-      ∙ rw (next-state-by w H G (m .state) e j k, tangent-step-by H P A U G) refl
+      step-cases (inside e || isMissing H normal e) refl
+      ∙ rw (next-state-by w H normal (m .state) e j k, tangent-step-by H P A U normal) refl

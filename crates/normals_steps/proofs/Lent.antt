@@ -5,9 +5,11 @@ use mathlib.Core.Path.{_≡_, sym, subst}
 use mathlib.Core.Bool.{Bool, true, false, cond, xor}
 use mathlib.Core.List.{List}
 use lib.ListN.{length}
+use lib.IntN.{ℤ}
 use lib.Ieee.{Float, lt}
 use Rattle.float.specs.Ops.{zero}
-use Rattle.mesh.specs.Mesh.{Halfedges}
+use Rattle.linalg.specs.declared.Vec3.{Vec3}
+use Rattle.mesh.specs.Mesh.{Halfedges, asHalfedges}
 use Rattle.smoothing.specs.Directions.{equalNormals}
 use Rattle.smoothing.specs.Lists.{tangentAt, putTangent, weightAt}
 use Rattle.smoothing.specs.Edges.{FacesIn}
@@ -18,19 +20,19 @@ use Rattle.normals_state.specs.declared.FaceEdges.the-variants.{NoEdge, OneEdge
 use Rattle.normals_state.specs.declared.StartHalfedge.{StartHalfedge}
 use Rattle.normals_state.specs.declared.StartHalfedge.the-variants.{NoneMissing, SomeMissing, StartAt}
 use Rattle.normals_state.specs.declared.CycleState.{CycleState}
-use Rattle.normals_state.specs.State.{getNormal, isMissing, addFaceEdge, nextFaceEdges, setStart, missingStart, nextStart, startState, nextState, spoilFaceEdges}
+use Rattle.normals_state.specs.State.{isMissing, addFaceEdge, nextFaceEdges, setStart, missingStart, nextStart, startState, nextState, spoilFaceEdges}
 use Rattle.normals_steps.specs.Steps.{NormalsIn, FaceEdgesIn, StartIn, StateIn, flagTangent, Walk, walkOf, tangentStep, normalStep}
 
-module _ {H : Halfedges} {P A G T : List Float} {n : ℕ} (w : NormalsIn H P A G T n) {e : ℕ} (h : e < n) where
+module _ {list : List ℤ} {P A G T : List Float} {n : ℕ} (w : NormalsIn list P A G T n) {e : ℕ} (h : e < n) where
   -- in a list as long as T
   pub tangent-in : {m : ℕ} → m ≡ length T → e * 4 + 4 ≤ m
   tangent-in q = omega (arith, w .tangents)
 
-  pub edge-faces-in : FacesIn H P A e
+  pub edge-faces-in : FacesIn (asHalfedges list) P A e
   edge-faces-in = faces-in _ _ _ _ _ (w .state .missing .sound) (w .state .missing .whole) (w .positions) (w .state .face-normals) e h
 
 -- another list of tangents, as long
-pub normals-still : {H : Halfedges} {P A G T T′ : List Float} {n : ℕ} → length T′ ≡ length T → NormalsIn H P A G T n → NormalsIn H P A G T′ n
+pub normals-still : {list : List ℤ} {P A G T T′ : List Float} {n : ℕ} → length T′ ≡ length T → NormalsIn list P A G T n → NormalsIn list P A G T′ n
 normals-still q w = record { state = w .state; positions = w .positions; tangents = omega (arith, w .tangents) }
 
 -- ---- the halfedges that a walk names are halfedges
@@ -70,25 +72,25 @@ module _ {n : ℕ} where
     start-next true false s w = start-set s (StartAt e) w h
     start-next false next s w = w
 
-    module _ (H : Halfedges) (P A G : List Float) (inside : ℕ → Bool) where
-      state-next : (s : CycleState) → StateIn n s → StateIn n (nextState H A G s e)
+    module _ (H : Halfedges) (P A : List Float) (normal : ℕ → Vec3) (inside : ℕ → Bool) where
+      state-next : (s : CycleState) → StateIn n s → StateIn n (nextState H A normal s e)
       unfolding nextState
       state-next s w = record {
         face-edges = face-edges-next _ _ (s .«face_edges») (w .face-edges);
         start-halfedge = start-next _ _ (s .«start_halfedge») (w .start-halfedge);
       }
 
-      tangent-state : (m : Walk) → StateIn n (m .state) → StateIn n (tangentStep H P A G m e .state)
+      tangent-state : (m : Walk) → StateIn n (m .state) → StateIn n (tangentStep H P A normal m e .state)
       unfolding tangentStep spoilFaceEdges
-      tangent-state m w = either-way (equalNormals (getNormal G (nextAround H e)) (getNormal G e)) _ _ w (record { face-edges = tt; start-halfedge = w .start-halfedge })
+      tangent-state m w = either-way (equalNormals (normal (nextAround H e)) (normal e)) _ _ w (record { face-edges = tt; start-halfedge = w .start-halfedge })
 
       -- after the body of the first loop, at halfedge e
-      pub state-step : (m : Walk) → StateIn n (m .state) → StateIn n (normalStep H P A G inside m e .state)
+      pub state-step : (m : Walk) → StateIn n (m .state) → StateIn n (normalStep H P A normal inside m e .state)
       unfolding normalStep
       state-step m w =
           let k = state-next (m .state) w in
-          let T = putTangent (m .tangents) e (flagTangent (isMissing H G e) (inside e) (nextState H A G (m .state) e .«last_normal») (tangentAt (m .tangents) e)) in
-          either-way (lt (weightAt T e) zero) _ _ k (tangent-state (walkOf T (m .fixed) (nextState H A G (m .state) e)) k)
+          let T = putTangent (m .tangents) e (flagTangent (isMissing H normal e) (inside e) (nextState H A normal (m .state) e .«last_normal») (tangentAt (m .tangents) e)) in
+          either-way (lt (weightAt T e) zero) _ _ k (tangent-state (walkOf T (m .fixed) (nextState H A normal (m .state) e)) k)
 
-      pub state-after : (m : Walk) {m′ : Walk} → m′ ≡ normalStep H P A G inside m e → StateIn n (m .state) → StateIn n (m′ .state)
+      pub state-after : (m : Walk) {m′ : Walk} → m′ ≡ normalStep H P A normal inside m e → StateIn n (m .state) → StateIn n (m′ .state)
       state-after m q w = subst (λ (z : Walk). StateIn n (z .state)) (sym q) (state-step m w)

@@ -1,9 +1,10 @@
--- The bodies of the loops of `create_tangents_from_normals` over a vertex cycle, and its last step at a point. H are the halfedges, P the positions, A the face normals, G the lent normals, `inside` which halfedges are inside a quad, T the tangents, X the fixed flags.
+-- The bodies of the loops of `create_tangents_from_normals` over a vertex cycle, and its last step at a point. H are the halfedges, P the positions, A the face normals, `normal` gives the normal of a halfedge, `inside` which halfedges are inside a quad, T the tangents, X the fixed flags.
 use Prim.Native.Nat.{ℕ, _*_, _<_}
 use mathlib.Core.Path.{_≡_}
 use mathlib.Core.List.{List}
 use mathlib.Core.Bool.{Bool, cond}
 use lib.ListN.{length, set}
+use lib.IntN.{ℤ}
 use lib.Ieee.{Float, lt, eq, neg}
 use Rattle.float.specs.Ops.{zero, one, three}
 use Rattle.linalg.specs.declared.Vec3.{Vec3}
@@ -21,19 +22,19 @@ use Rattle.normals_state.specs.declared.StartHalfedge.{StartHalfedge}
 use Rattle.normals_state.specs.declared.StartHalfedge.the-variants.{NoneMissing, SomeMissing, StartAt}
 use Rattle.normals_state.specs.declared.CycleState.{CycleState}
 use Rattle.normals_state.specs.Units.{UnitsIn}
-use Rattle.normals_state.specs.State.{StateLists, getNormal, normalOr, isMissing, nextState, spoilFaceEdges}
+use Rattle.normals_state.specs.State.{StateLists, normalOr, isMissing, nextState, spoilFaceEdges}
 
 -- ---- what the lists must be for a call
 
 -- a sound mesh with all its normals, a position for each point, a tangent for each halfedge
-pub record NormalsIn (H : Halfedges) (P A G T : List Float) (n : ℕ) : Type 0 where
-  pub state : StateLists H A G n
+pub record NormalsIn (list : List ℤ) (P A G T : List Float) (n : ℕ) : Type 0 where
+  pub state : StateLists list A G n
   pub positions : length P ≡ state .missing .points * 3
   pub tangents : length T ≡ n * 4
 
 -- and two flags for each halfedge, and the unit vector of each triangle's normal: B, X and U are the code's lists `inside`, `fixed` and `face_units`
-pub record StepIn (H : Halfedges) (P A U G : List Float) (B : List ℕ) (T : List Float) (X : List ℕ) (n : ℕ) : Type 0 where
-  pub lists : NormalsIn H P A G T n
+pub record StepIn (list : List ℤ) (P A U G : List Float) (B : List ℕ) (T : List Float) (X : List ℕ) (n : ℕ) : Type 0 where
+  pub lists : NormalsIn list P A G T n
   pub face-units : UnitsIn A U n
   pub inside : length B ≡ n
   pub fixed : length X ≡ n
@@ -95,21 +96,21 @@ abbrev pub walkOf : List Float → List ℕ → CycleState → Walk
 walkOf T X s = record { tangents = T; fixed = X; state = s }
 
 -- A halfedge e without a flag. Where its normal and the next one differ, it is fixed, and no flat face is looked for.
-unfoldable pub tangentStep : Halfedges → List Float → List Float → List Float → Walk → ℕ → Walk
-tangentStep H P A G m e =
-    let here = getNormal G e in
-    let next = getNormal G (nextAround H e) in
+unfoldable pub tangentStep : Halfedges → List Float → List Float → (ℕ → Vec3) → Walk → ℕ → Walk
+tangentStep H P A normal m e =
+    let here = normal e in
+    let next = normal (nextAround H e) in
     let equal = equalNormals next here in
     let T = putTangent (m .tangents) e (tangentBetween H P A here next equal e) in
     cond equal (walkOf T (m .fixed) (m .state)) (walkOf T (set (m .fixed) e 1) (spoilFaceEdges (m .state)))
 
 -- the body of the loop, at halfedge e
-unfoldable pub normalStep : Halfedges → List Float → List Float → List Float → (ℕ → Bool) → Walk → ℕ → Walk
-normalStep H P A G inside m e =
-    let s = nextState H A G (m .state) e in
-    let t = flagTangent (isMissing H G e) (inside e) (s .«last_normal») (tangentAt (m .tangents) e) in
+unfoldable pub normalStep : Halfedges → List Float → List Float → (ℕ → Vec3) → (ℕ → Bool) → Walk → ℕ → Walk
+normalStep H P A normal inside m e =
+    let s = nextState H A normal (m .state) e in
+    let t = flagTangent (isMissing H normal e) (inside e) (s .«last_normal») (tangentAt (m .tangents) e) in
     let flagged = walkOf (putTangent (m .tangents) e t) (m .fixed) s in
-    cond (lt (weightAt (flagged .tangents) e) zero) flagged (tangentStep H P A G flagged e)
+    cond (lt (weightAt (flagged .tangents) e) zero) flagged (tangentStep H P A normal flagged e)
 
 -- ---- all normals are missing: the body of the loop that takes the point's normal
 
@@ -136,9 +137,9 @@ unfoldable pub putFillTangent : Halfedges → List Float → List Float → Vec3
 putFillTangent H P A last prev T e =
     cond (eq (weightAt T e) missingNormalWeight) (putTangent T e (fillTangent H P A last prev (tangentAt T e) e)) T
 
-unfoldable pub fillStep : Halfedges → List Float → List Float → List Float → Vec3 → Fill → ℕ → Fill
-fillStep H P A G last m e =
-    fillOf (putFillTangent H P A last (m .prevNorm) (m .tangents) e) (normalOr (getNormal G e) (m .prevNorm))
+unfoldable pub fillStep : Halfedges → List Float → List Float → (ℕ → Vec3) → Vec3 → Fill → ℕ → Fill
+fillStep H P A normal last m e =
+    fillOf (putFillTangent H P A last (m .prevNorm) (m .tangents) e) (normalOr (normal e) (m .prevNorm))
 
 -- ---- a single flat face: its two edges are aligned and fixed
 

@@ -6,6 +6,7 @@ ghost use lib.ListN.{length};
 ghost use Rattle.mesh.specs.Mesh.{asHalfedges};
 ghost use Rattle.smoothing.specs.Edges.{EdgeIn, NormalsIn, FacesIn};
 ghost use Rattle.create_shared.specs.Makings.{MakingIn, tangentsOf};
+ghost use Rattle.normals_state.specs.State.{RowIn, getNormal};
 ghost use Rattle.normals_state.specs.Packed.{stateOf};
 ghost use Rattle.normals_steps.specs.Steps.{FaceEdgesIn, signedDir, tangentBetween, withWeight, insideQuadWeight, missingNormalWeight, walkOf, vertNormalStep, fillOf, fillTangent, putFillTangent, fillStep, faceTangent, fixFaceEdges, alignFaceEdges};
 ghost use Rattle.normals_steps.specs.Carried.{isInside, directionBetween, tangentStepOf, normalStepOf};
@@ -207,17 +208,17 @@ pub fn fill_step(
     h: &[i32],
     pos: &[f64],
     face_normals: &[f64],
-    halfedge_normals: &[f64],
+    rows: &[f64],
     last: Vec3,
     t: &mut [f64],
     prev: Vec3,
     e: usize,
 ) -> Vec3
-    requires { ⌜ (e * 4 + 4 ≤ length (now t)) × (e * 3 + 3 ≤ length (now «halfedge_normals»)) × FacesIn (asHalfedges (now h)) (now pos) (now «face_normals») e ⌝ }
-    ensures { λ r. ⌜ fillOf (now (t .exit)) r ≡ fillStep (asHalfedges (now (h .entry))) (now (pos .entry)) (now («face_normals» .entry)) (now («halfedge_normals» .entry)) last (fillOf (now (t .entry)) prev) e ⌝ }
+    requires { ⌜ (e * 4 + 4 ≤ length (now t)) × RowIn (now h) (now rows) e × FacesIn (asHalfedges (now h)) (now pos) (now «face_normals») e ⌝ }
+    ensures { λ r. ⌜ fillOf (now (t .exit)) r ≡ fillStep (asHalfedges (now (h .entry))) (now (pos .entry)) (now («face_normals» .entry)) (getNormal (now (h .entry)) (now (rows .entry))) last (fillOf (now (t .entry)) prev) e ⌝ }
 {
     put_fill_tangent(h, pos, face_normals, last, prev, t, e);
-    normals_state::normal_or(normals_state::get_normal(halfedge_normals, e), prev)
+    normals_state::normal_or(normals_state::get_normal(h, rows, e), prev)
 }
 
 // ---- the edges of a single flat face

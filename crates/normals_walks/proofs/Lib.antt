@@ -1,3 +1,3 @@
 -- The laws of `normals_walks`. `Inside` is for the crates above.
 mod Lent
-pub mod Inside
+pub mod Same

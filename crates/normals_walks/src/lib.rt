@@ -5,6 +5,7 @@ ghost use Prim.Native.Nat.{_+_, _*_, _≤_, _<_};
 ghost use lib.ListN.{length};
 ghost use Rattle.mesh.specs.Mesh.{asHalfedges};
 ghost use Rattle.create_shared.specs.Makings.{tangentsOf};
+ghost use Rattle.normals_state.specs.State.{getNormal};
 ghost use Rattle.normals_steps.specs.Steps.{NormalsIn, StepIn, StartIn, StateIn, walkOf};
 ghost use Rattle.normals_steps.specs.Carried.{isInside};
 ghost use Rattle.normals_walks.specs.Walks.{FacesLists, VertsLists, normalWalk, vertNormalWalk, fillWalk, fillMissing, finishVert, normalsVert, normalsVerts};
@@ -21,24 +22,25 @@ fn normal_walk(
     pos: &[f64],
     face_normals: &[f64],
     face_units: &[f64],
-    halfedge_normals: &[f64],
+    rows: &[f64],
     inside: &[u8],
     t: &mut [f64],
     fixed: &mut [u8],
     e: usize,
 ) -> CycleState
-    requires { ⌜ (e < n) × StepIn (asHalfedges (now h)) (now pos) (now «face_normals») (now «face_units») (now «halfedge_normals») (now inside) (now t) (now fixed) n ⌝ }
-    ensures { λ r. ⌜ walkOf (now (t .exit)) (now (fixed .exit)) r ≡ normalWalk (asHalfedges (now (h .entry))) (now (pos .entry)) (now («face_normals» .entry)) (now («halfedge_normals» .entry)) (isInside (now (inside .entry))) n (tangentsOf (now (t .entry)) (now (fixed .entry))) e ⌝ }
+    requires { ⌜ (e < n) × StepIn (now h) (now pos) (now «face_normals») (now «face_units») (now rows) (now inside) (now t) (now fixed) n ⌝ }
+    ensures { λ r. ⌜ walkOf (now (t .exit)) (now (fixed .exit)) r ≡ normalWalk (asHalfedges (now (h .entry))) (now (pos .entry)) (now («face_normals» .entry)) (getNormal (now (h .entry)) (now (rows .entry))) (isInside (now (inside .entry))) n (tangentsOf (now (t .entry)) (now (fixed .entry))) e ⌝ }
     ensures { λ r. ⌜ StateIn n r ⌝ }
 {
     let mut state = normals_state::start_state();
-    let mut here = normals_state::halfedge_normal(face_units, halfedge_normals, e);
+    let mut here = normals_state::halfedge_normal(h, face_units, rows, e);
     let mut current = e;
     loop {
         let following = cycles::next_around(h, current);
         let next = normals_state::normal_after(
+            h,
             face_units,
-            halfedge_normals,
+            rows,
             here.normal,
             here.unit,
             following,
@@ -94,28 +96,19 @@ fn fill_walk(
     h: &[i32],
     pos: &[f64],
     face_normals: &[f64],
-    halfedge_normals: &[f64],
+    rows: &[f64],
     last: Vec3,
     t: &mut [f64],
     start: usize,
 )
-    requires { ⌜ (start < n) × NormalsIn (asHalfedges (now h)) (now pos) (now «face_normals») (now «halfedge_normals») (now t) n ⌝ }
-    ensures { λ _. ⌜ now (t .exit) ≡ fillWalk (asHalfedges (now (h .entry))) (now (pos .entry)) (now («face_normals» .entry)) (now («halfedge_normals» .entry)) n last (now (t .entry)) start ⌝ }
+    requires { ⌜ (start < n) × NormalsIn (now h) (now pos) (now «face_normals») (now rows) (now t) n ⌝ }
+    ensures { λ _. ⌜ now (t .exit) ≡ fillWalk (asHalfedges (now (h .entry))) (now (pos .entry)) (now («face_normals» .entry)) (getNormal (now (h .entry)) (now (rows .entry))) n last (now (t .entry)) start ⌝ }
 {
     let next = cycles::next_around(h, start);
-    let mut prev = normals_state::get_normal(halfedge_normals, next);
+    let mut prev = normals_state::get_normal(h, rows, next);
     let mut current = start;
     loop {
-        prev = normals_steps::fill_step(
-            h,
-            pos,
-            face_normals,
-            halfedge_normals,
-            last,
-            t,
-            prev,
-            current,
-        );
+        prev = normals_steps::fill_step(h, pos, face_normals, rows, last, t, prev, current);
         current = cycles::prev_around(h, current);
         if current == start {
             break;
@@ -129,20 +122,18 @@ fn fill_missing(
     h: &[i32],
     pos: &[f64],
     face_normals: &[f64],
-    halfedge_normals: &[f64],
+    rows: &[f64],
     last: Vec3,
     t: &mut [f64],
     start: StartHalfedge,
 )
-    requires { ⌜ StartIn n start × NormalsIn (asHalfedges (now h)) (now pos) (now «face_normals») (now «halfedge_normals») (now t) n ⌝ }
-    ensures { λ _. ⌜ now (t .exit) ≡ fillMissing (asHalfedges (now (h .entry))) (now (pos .entry)) (now («face_normals» .entry)) (now («halfedge_normals» .entry)) n last (now (t .entry)) start ⌝ }
+    requires { ⌜ StartIn n start × NormalsIn (now h) (now pos) (now «face_normals») (now rows) (now t) n ⌝ }
+    ensures { λ _. ⌜ now (t .exit) ≡ fillMissing (asHalfedges (now (h .entry))) (now (pos .entry)) (now («face_normals» .entry)) (getNormal (now (h .entry)) (now (rows .entry))) n last (now (t .entry)) start ⌝ }
 {
     match start {
         StartHalfedge::NoneMissing => {}
         StartHalfedge::SomeMissing => {}
-        StartHalfedge::StartAt(e) => {
-            fill_walk(n, h, pos, face_normals, halfedge_normals, last, t, e)
-        }
+        StartHalfedge::StartAt(e) => { fill_walk(n, h, pos, face_normals, rows, last, t, e) }
     }
 }
 
@@ -155,15 +146,15 @@ fn finish_vert(
     pos: &[f64],
     normals: &[f64],
     face_normals: &[f64],
-    halfedge_normals: &[f64],
+    rows: &[f64],
     t: &mut [f64],
     fixed: &mut [u8],
     state: CycleState,
     v: usize,
     e: usize,
 )
-    requires { ⌜ (e < n) × (v * 3 + 3 ≤ length (now normals)) × StateIn n state × NormalsIn (asHalfedges (now h)) (now pos) (now «face_normals») (now «halfedge_normals») (now t) n × (length (now fixed) ≡ n) ⌝ }
-    ensures { λ _. ⌜ tangentsOf (now (t .exit)) (now (fixed .exit)) ≡ finishVert (asHalfedges (now (h .entry))) (now (pos .entry)) (now (normals .entry)) (now («face_normals» .entry)) (now («halfedge_normals» .entry)) n (walkOf (now (t .entry)) (now (fixed .entry)) state) v e ⌝ }
+    requires { ⌜ (e < n) × (v * 3 + 3 ≤ length (now normals)) × StateIn n state × NormalsIn (now h) (now pos) (now «face_normals») (now rows) (now t) n × (length (now fixed) ≡ n) ⌝ }
+    ensures { λ _. ⌜ tangentsOf (now (t .exit)) (now (fixed .exit)) ≡ finishVert (asHalfedges (now (h .entry))) (now (pos .entry)) (now (normals .entry)) (now («face_normals» .entry)) (getNormal (now (h .entry)) (now (rows .entry))) n (walkOf (now (t .entry)) (now (fixed .entry)) state) v e ⌝ }
 {
     let start = state.start_halfedge;
     let last = state.last_normal;
@@ -176,7 +167,7 @@ fn finish_vert(
         vert_normal_walk(n, h, pos, face_normals, normal, t, e);
         return;
     }
-    fill_missing(n, h, pos, face_normals, halfedge_normals, last, t, start);
+    fill_missing(n, h, pos, face_normals, rows, last, t, start);
     normals_steps::align_face_edges(n, h, pos, t, fixed, face_edges);
 }
 
@@ -188,15 +179,15 @@ fn normals_vert(
     normals: &[f64],
     face_normals: &[f64],
     face_units: &[f64],
-    halfedge_normals: &[f64],
+    rows: &[f64],
     inside: &[u8],
     vert_halfedge: &[usize],
     t: &mut [f64],
     fixed: &mut [u8],
     v: usize,
 )
-    requires { ⌜ (v < length (now «vert_halfedge»)) × VertsLists (asHalfedges (now h)) (now pos) (now normals) (now «face_normals») (now «face_units») (now «halfedge_normals») (now inside) (now «vert_halfedge») (now t) (now fixed) n ⌝ }
-    ensures { λ _. ⌜ tangentsOf (now (t .exit)) (now (fixed .exit)) ≡ normalsVert (asHalfedges (now (h .entry))) (now (pos .entry)) (now (normals .entry)) (now («face_normals» .entry)) (now («halfedge_normals» .entry)) (isInside (now (inside .entry))) n (tangentsOf (now (t .entry)) (now (fixed .entry))) v ⌝ }
+    requires { ⌜ (v < length (now «vert_halfedge»)) × VertsLists (now h) (now pos) (now normals) (now «face_normals») (now «face_units») (now rows) (now inside) (now «vert_halfedge») (now t) (now fixed) n ⌝ }
+    ensures { λ _. ⌜ tangentsOf (now (t .exit)) (now (fixed .exit)) ≡ normalsVert (asHalfedges (now (h .entry))) (now (pos .entry)) (now (normals .entry)) (now («face_normals» .entry)) (getNormal (now (h .entry)) (now (rows .entry))) (isInside (now (inside .entry))) n (tangentsOf (now (t .entry)) (now (fixed .entry))) v ⌝ }
 {
     let e = vert_halfedge[v];
     if e >= n {
@@ -208,7 +199,7 @@ fn normals_vert(
         pos,
         face_normals,
         face_units,
-        halfedge_normals,
+        rows,
         inside,
         t,
         fixed,
@@ -220,7 +211,7 @@ fn normals_vert(
         pos,
         normals,
         face_normals,
-        halfedge_normals,
+        rows,
         t,
         fixed,
         state,
@@ -237,14 +228,14 @@ pub fn normals_verts(
     normals: &[f64],
     face_normals: &[f64],
     face_units: &[f64],
-    halfedge_normals: &[f64],
+    rows: &[f64],
     inside: &[u8],
     vert_halfedge: &[usize],
     t: &mut [f64],
     fixed: &mut [u8],
 )
-    requires { ⌜ VertsLists (asHalfedges (now h)) (now pos) (now normals) (now «face_normals») (now «face_units») (now «halfedge_normals») (now inside) (now «vert_halfedge») (now t) (now fixed) n ⌝ }
-    ensures { λ _. ⌜ tangentsOf (now (t .exit)) (now (fixed .exit)) ≡ normalsVerts (asHalfedges (now (h .entry))) (now (pos .entry)) (now (normals .entry)) (now («face_normals» .entry)) (now («halfedge_normals» .entry)) (isInside (now (inside .entry))) n (length (now («vert_halfedge» .entry))) (tangentsOf (now (t .entry)) (now (fixed .entry))) ⌝ }
+    requires { ⌜ VertsLists (now h) (now pos) (now normals) (now «face_normals») (now «face_units») (now rows) (now inside) (now «vert_halfedge») (now t) (now fixed) n ⌝ }
+    ensures { λ _. ⌜ tangentsOf (now (t .exit)) (now (fixed .exit)) ≡ normalsVerts (asHalfedges (now (h .entry))) (now (pos .entry)) (now (normals .entry)) (now («face_normals» .entry)) (getNormal (now (h .entry)) (now (rows .entry))) (isInside (now (inside .entry))) n (length (now («vert_halfedge» .entry))) (tangentsOf (now (t .entry)) (now (fixed .entry))) ⌝ }
 {
     let mut v = 0;
     while v < vert_halfedge.len() {
@@ -255,7 +246,7 @@ pub fn normals_verts(
             normals,
             face_normals,
             face_units,
-            halfedge_normals,
+            rows,
             inside,
             vert_halfedge,
             t,

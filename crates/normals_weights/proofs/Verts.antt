@@ -157,9 +157,9 @@ module _ {H : Halfedges} {n p : ℕ} (S : Sound H n p) (h : ℕ) (h-below : h < 
   same-back : (x y : ℕ) → x ∈ cycle → y ∈ cycle → y ∈ vertexCycleBack H n x
   same-back x y mx my = rw (cycle-ways S x y (in-below x mx)) (same-cycle x y mx my)
 
-  module _ (P A G : List Float) (in-quad : ℕ → Bool) where
+  module _ (P A : List Float) (normal : ℕ → Vec3) (in-quad : ℕ → Bool) where
     abbrev isZeroAt : ℕ → Bool
-    isZeroAt x = isZero (getNormal G x)
+    isZeroAt x = isZero (normal x)
 
     -- where the next of a missing normal is always missing, and one is, all are
     along : ((x : ℕ) → x ∈ cycle → isZeroAt x ≡ true → isZeroAt (nextAround H x) ≡ true) → (i y : ℕ) → y ∈ cycle → isZeroAt y ≡ true → isZeroAt (iter (nextAround H) i y) ≡ true
@@ -176,7 +176,7 @@ module _ {H : Halfedges} {n p : ℕ} (S : Sound H n p) (h : ℕ) (h-below : h < 
 
     module _ (m : Tangents) where
       abbrev step : Walk → ℕ → Walk
-      step = normalStep H P A G in-quad
+      step = normalStep H P A normal in-quad
 
       abbrev before : Walk
       before = walkOf (m .tangents) (m .fixed) startState
@@ -191,52 +191,52 @@ module _ {H : Halfedges} {n p : ℕ} (S : Sound H n p) (h : ℕ) (h-below : h < 
       some-missing : (y : ℕ) → y ∈ cycle → isZeroAt y ≡ true → someMissing startAfter ≡ true
       some-missing y my z =
           list-gains step (λ k. Unit {0}) (λ k. someMissing (k .state .«start_halfedge») ≡ true) y cycle my (λ k x l i. tt)
-          (λ k x l i. rw (normal-start H P A G in-quad k x) (some-kept _ _ _ x i))
-          (λ k i. rw (normal-start H P A G in-quad k y, z) (some-set _ _ y)) before tt
+          (λ k x l i. rw (normal-start H P A normal in-quad k x) (some-kept _ _ _ x i))
+          (λ k i. rw (normal-start H P A normal in-quad k y, z) (some-set _ _ y)) before tt
 
       -- and a start is found where the next one is there
       start-found : (y : ℕ) → y ∈ cycle → isZeroAt y ≡ true → isZeroAt (nextAround H y) ≡ false → isStart startAfter ≡ true
       start-found y my z w =
           list-gains step (λ k. Unit {0}) (λ k. isStart (k .state .«start_halfedge») ≡ true) y cycle my (λ k x l i. tt)
-          (λ k x l i. rw (normal-start H P A G in-quad k x) (start-kept _ _ _ x i))
-          (λ k i. rw (normal-start H P A G in-quad k y, z, w) (start-set _ y)) before tt
+          (λ k x l i. rw (normal-start H P A normal in-quad k x) (start-kept _ _ _ x i))
+          (λ k i. rw (normal-start H P A normal in-quad k y, z, w) (start-set _ y)) before tt
 
       -- it is a halfedge of the cycle
       start-in : StartOf cycle startAfter
       start-in =
           list-keeps step (λ k. StartOf cycle (k .state .«start_halfedge»)) cycle
-          (λ k x l i. rw (normal-start H P A G in-quad k x) (start-of cycle _ _ _ x l i)) before tt
+          (λ k x l i. rw (normal-start H P A normal in-quad k x) (start-of cycle _ _ _ x l i)) before tt
 
       -- where all normals are missing there is no last one
       last-zero : ((x : ℕ) → x ∈ cycle → isZeroAt x ≡ true) → after .state .«last_normal» ≡ zeroNormal
       last-zero f =
           list-keeps step (λ k. k .state .«last_normal» ≡ zeroNormal) cycle
-          (λ k x l i. normal-last H P A G in-quad k x ∙ rw (f x l) (last-kept _ _ _) ∙ i) before refl
+          (λ k x l i. normal-last H P A normal in-quad k x ∙ rw (f x l) (last-kept _ _ _) ∙ i) before refl
 
       module _ (whole : length (m .tangents) ≡ n * 4) where
         after-length : length (after .tangents) ≡ n * 4
-        after-length = list-keeps step (λ k. length (k .tangents) ≡ n * 4) cycle (λ k x l i. normal-writes H P A G in-quad k x .same-length ∙ i) before whole
+        after-length = list-keeps step (λ k. length (k .tangents) ≡ n * 4) cycle (λ k x l i. normal-writes H P A normal in-quad k x .same-length ∙ i) before whole
 
         vert-normal-length : (normal : Vec3) → length (vertNormalWalk H P A n normal (after .tangents) h) ≡ n * 4
         unfolding vertNormalWalk
         vert-normal-length normal =
             loop-length H P n (vertNormalStep H P A normal) (λ T. T) (vert-normal-writes H P A normal) (vert-normal-made H P A normal) cycle (after .tangents) after-length
 
-        fill-missing-length : (last : Vec3) (start : StartHalfedge) → length (fillMissing H P A G n last (after .tangents) start) ≡ n * 4
+        fill-missing-length : (last : Vec3) (start : StartHalfedge) → length (fillMissing H P A normal n last (after .tangents) start) ≡ n * 4
         unfolding fillMissing fillWalk
         fill-missing-length last NoneMissing = after-length
         fill-missing-length last SomeMissing = after-length
         fill-missing-length last (StartAt start) =
-            loop-length H P n (fillStep H P A G last) (λ k. k .tangents) (fill-writes H P A G last) (fill-made H P A G last) (vertexCycleBack H n start)
-            (fillOf (after .tangents) (getNormal G (nextAround H start))) after-length
+            loop-length H P n (fillStep H P A normal last) (λ k. k .tangents) (fill-writes H P A normal last) (fill-made H P A normal last) (vertexCycleBack H n start)
+            (fillOf (after .tangents) (normal (nextAround H start))) after-length
 
-        finish-length : (N : List Float) (v : ℕ) → length (finishVert H P N A G n after v h .tangents) ≡ n * 4
+        finish-length : (N : List Float) (v : ℕ) → length (finishVert H P N A normal n after v h .tangents) ≡ n * 4
         unfolding finishVert
         finish-length N v = go (someMissing startAfter && isZero (after .state .«last_normal»))
           where
             go : (c : Bool)
                 → length (cond c (tangentsOf (vertNormalWalk H P A n (pointAt N v) (after .tangents) h) (after .fixed))
-                (alignFaceEdges H P (tangentsOf (fillMissing H P A G n (after .state .«last_normal») (after .tangents) startAfter) (after .fixed)) (after .state .«face_edges»)) .tangents) ≡ n * 4
+                (alignFaceEdges H P (tangentsOf (fillMissing H P A normal n (after .state .«last_normal») (after .tangents) startAfter) (after .fixed)) (after .state .«face_edges»)) .tangents) ≡ n * 4
             go true = vert-normal-length (pointAt N v)
             go false = align-length H P _ (after .state .«face_edges») ∙ fill-missing-length (after .state .«last_normal») startAfter
 
@@ -245,27 +245,27 @@ module _ {H : Halfedges} {n p : ℕ} (S : Sound H n p) (h : ℕ) (h-below : h < 
         module _ (d : ℕ) (b : d < n) (made : Made H P (m .tangents) d) where
           -- the flag of a missing normal is left only in the cycle, and where a normal is missing
           abbrev MissingInCycle : List Float → Type 0
-          MissingInCycle T = Made H P T d ⊎ ((weightAt T d ≡ missingNormalWeight) × (d ∈ cycle) × (isMissing H G d ≡ true))
+          MissingInCycle T = Made H P T d ⊎ ((weightAt T d ≡ missingNormalWeight) × (d ∈ cycle) × (isMissing H normal d ≡ true))
 
           abbrev WalkInvariant : Walk → Type 0
           WalkInvariant k = (length (k .tangents) ≡ n * 4) × MissingInCycle (k .tangents)
 
-          flagged-in-cycle : (T : List Float) → d ∈ cycle → Flagged H P A G in-quad T d → MissingInCycle T
+          flagged-in-cycle : (T : List Float) → d ∈ cycle → Flagged H P A normal in-quad T d → MissingInCycle T
           flagged-in-cycle T l (inl k) = inl k
           flagged-in-cycle T l (inr k) = inr (k .0, l, k .1)
 
           step-keeps : (k : Walk) (x : ℕ) → x ∈ cycle → WalkInvariant k → WalkInvariant (step k x)
-          step-keeps k x l (w, i) = (normal-writes H P A G in-quad k x .same-length ∙ w, go (ℕ-discrete d x))
+          step-keeps k x l (w, i) = (normal-writes H P A normal in-quad k x .same-length ∙ w, go (ℕ-discrete d x))
             where
               go : Dec (d ≡ x) → MissingInCycle (step k x .tangents)
-              go (yes q) = flagged-in-cycle (step k x .tangents) (rw q l) (rw q (normal-flagged H P A G in-quad k x (omega arith)))
-              go (no q) = rw (normal-writes H P A G in-quad k x .others d q) i
+              go (yes q) = flagged-in-cycle (step k x .tangents) (rw q l) (rw q (normal-flagged H P A normal in-quad k x (omega arith)))
+              go (no q) = rw (normal-writes H P A normal in-quad k x .others d q) i
 
           after-made : MissingInCycle (after .tangents)
           after-made = list-keeps step WalkInvariant cycle step-keeps before (whole, inl made) .1
 
           -- one of the two normals that `isMissing` asks about
-          missing-one : d ∈ cycle → isMissing H G d ≡ true → (y : ℕ) × (y ∈ cycle) × (isZeroAt y ≡ true)
+          missing-one : d ∈ cycle → isMissing H normal d ≡ true → (y : ℕ) × (y ∈ cycle) × (isZeroAt y ≡ true)
           unfolding isMissing
           missing-one l q = go (either-true (isZeroAt d) (isZeroAt (nextAround H d)) q)
             where
@@ -287,11 +287,11 @@ module _ {H : Halfedges} {n p : ℕ} (S : Sound H n p) (h : ℕ) (h-below : h < 
               go (inr k) = inr (k .0, k .1)
 
           -- a start was found
-          fill-all : (start : ℕ) → start ∈ cycle → Made H P (fillWalk H P A G n lastAfter (after .tangents) start) d
+          fill-all : (start : ℕ) → start ∈ cycle → Made H P (fillWalk H P A normal n lastAfter (after .tangents) start) d
           unfolding fillWalk
           fill-all start l =
-              loop-made H P n (fillStep H P A G lastAfter) (λ k. k .tangents) (fill-writes H P A G lastAfter) (fill-made H P A G lastAfter) d b (vertexCycleBack H n start)
-              (fillOf (after .tangents) (getNormal G (nextAround H start))) after-length (go after-made)
+              loop-made H P n (fillStep H P A normal lastAfter) (λ k. k .tangents) (fill-writes H P A normal lastAfter) (fill-made H P A normal lastAfter) d b (vertexCycleBack H n start)
+              (fillOf (after .tangents) (normal (nextAround H start))) after-length (go after-made)
             where
               go : MissingInCycle (after .tangents) → Made H P (after .tangents) d ⊎ ((weightAt (after .tangents) d ≡ missingNormalWeight) × (d ∈ vertexCycleBack H n start))
               go (inl k) = inl k
@@ -315,22 +315,22 @@ module _ {H : Halfedges} {n p : ℕ} (S : Sound H n p) (h : ℕ) (h-below : h < 
                   let last = last-zero (all-zero next-missing (y .0) (y .1) (y .2)) in
                   absurd (true≢false (sym zero-normal ∙ ap isZero (sym last) ∙ rw (some-missing (y .0) (y .1) (y .2)) at c))
 
-          fill-missing : (start : StartHalfedge) → startAfter ≡ start → (someMissing startAfter && isZero lastAfter) ≡ false → Made H P (fillMissing H P A G n lastAfter (after .tangents) start) d
+          fill-missing : (start : StartHalfedge) → startAfter ≡ start → (someMissing startAfter && isZero lastAfter) ≡ false → Made H P (fillMissing H P A normal n lastAfter (after .tangents) start) d
           unfolding fillMissing
           fill-missing NoneMissing q c = no-start (ap isStart q) c
           fill-missing SomeMissing q c = no-start (ap isStart q) c
           fill-missing (StartAt start) q c = fill-all start (rw q at start-in)
 
-          finish-made : (N : List Float) (v : ℕ) → Made H P (finishVert H P N A G n after v h .tangents) d
+          finish-made : (N : List Float) (v : ℕ) → Made H P (finishVert H P N A normal n after v h .tangents) d
           unfolding finishVert
           finish-made N v = go (someMissing startAfter && isZero lastAfter) refl
             where
               go : (c : Bool) → (someMissing startAfter && isZero lastAfter) ≡ c
                   → Made H P (cond c (tangentsOf (vertNormalWalk H P A n (pointAt N v) (after .tangents) h) (after .fixed))
-                  (alignFaceEdges H P (tangentsOf (fillMissing H P A G n lastAfter (after .tangents) startAfter) (after .fixed)) (after .state .«face_edges»)) .tangents) d
+                  (alignFaceEdges H P (tangentsOf (fillMissing H P A normal n lastAfter (after .tangents) startAfter) (after .fixed)) (after .state .«face_edges»)) .tangents) d
               go true q = vert-normal-all (pointAt N v)
               go false q =
-                  align-keeps H P (tangentsOf (fillMissing H P A G n lastAfter (after .tangents) startAfter) (after .fixed)) (after .state .«face_edges») d
+                  align-keeps H P (tangentsOf (fillMissing H P A normal n lastAfter (after .tangents) startAfter) (after .fixed)) (after .state .«face_edges») d
                   (omega (arith, fill-missing-length lastAfter startAfter)) (fill-missing startAfter refl q)
 
 -- ---- THE POINT
@@ -340,14 +340,14 @@ pub record AllMade (H : Halfedges) (P : List Float) (n : ℕ) (m : Tangents) : T
   pub whole : length (m .tangents) ≡ n * 4
   pub made : (d : ℕ) → d < n → Made H P (m .tangents) d
 
-module _ {H : Halfedges} {n p : ℕ} (S : Sound H n p) (P N A G : List Float) (in-quad : ℕ → Bool) where
-  pub vert-keeps : (m : Tangents) (v : ℕ) → AllMade H P n m → AllMade H P n (normalsVert H P N A G in-quad n m v)
+module _ {H : Halfedges} {n p : ℕ} (S : Sound H n p) (P N A : List Float) (normal : ℕ → Vec3) (in-quad : ℕ → Bool) where
+  pub vert-keeps : (m : Tangents) (v : ℕ) → AllMade H P n m → AllMade H P n (normalsVert H P N A normal in-quad n m v)
   unfolding normalsVert normalWalk
   vert-keeps m v a = go (vertHalfedge H n v) (ltb (vertHalfedge H n v) n) refl
     where
-      go : (e : ℕ) (b : Bool) → ltb e n ≡ b → AllMade H P n (cond b (finishVert H P N A G n (normalWalk H P A G in-quad n m e) v e) m)
+      go : (e : ℕ) (b : Bool) → ltb e n ≡ b → AllMade H P n (cond b (finishVert H P N A normal n (normalWalk H P A normal in-quad n m e) v e) m)
       go e true q = record {
-        whole = finish-length S e (ltb-true e n q) P A G in-quad m (a .whole) N v;
-        made = λ d l. finish-made S e (ltb-true e n q) P A G in-quad m (a .whole) d l (a .made d l) N v;
+        whole = finish-length S e (ltb-true e n q) P A normal in-quad m (a .whole) N v;
+        made = λ d l. finish-made S e (ltb-true e n q) P A normal in-quad m (a .whole) d l (a .made d l) N v;
       }
       go e false q = a

@@ -121,12 +121,12 @@ module _ (H : Halfedges) (P : List Float) where
         go false q (inl m) = m
         go false q (inr m) = absurd (true≢false (sym missing-missing ∙ ap (λ (x : Float). eq x missingNormalWeight) (sym m) ∙ q))
 
-  module _ (A G : List Float) (last : Vec3) (m : Fill) (e : ℕ) where
-    pub fill-writes : Writes (m .tangents) (fillStep H P A G last m e .tangents) e
+  module _ (A : List Float) (normal : ℕ → Vec3) (last : Vec3) (m : Fill) (e : ℕ) where
+    pub fill-writes : Writes (m .tangents) (fillStep H P A normal last m e .tangents) e
     unfolding fillStep
     fill-writes = put-fill-writes A last (m .prevNorm) (m .tangents) e
 
-    pub fill-made : e * 4 + 4 ≤ length (m .tangents) → MadeOrMissing (m .tangents) e → Made (fillStep H P A G last m e .tangents) e
+    pub fill-made : e * 4 + 4 ≤ length (m .tangents) → MadeOrMissing (m .tangents) e → Made (fillStep H P A normal last m e .tangents) e
     unfolding fillStep
     fill-made = put-fill-made A last (m .prevNorm) (m .tangents) e
 
@@ -161,22 +161,22 @@ module _ (H : Halfedges) (P : List Float) where
 
   -- ---- the first loop
 
-  module _ (A G : List Float) (in-quad : ℕ → Bool) where
+  module _ (A : List Float) (normal : ℕ → Vec3) (in-quad : ℕ → Bool) where
     -- what the first loop leaves at halfedge e: -3 only where a normal is missing
     abbrev pub Flagged : List Float → ℕ → Type 0
-    Flagged T e = Made T e ⊎ ((weightAt T e ≡ missingNormalWeight) × (isMissing H G e ≡ true))
+    Flagged T e = Made T e ⊎ ((weightAt T e ≡ missingNormalWeight) × (isMissing H normal e ≡ true))
 
-    tangent-writes : (m : Walk) (e : ℕ) → Writes (m .tangents) (tangentStep H P A G m e .tangents) e
+    tangent-writes : (m : Walk) (e : ℕ) → Writes (m .tangents) (tangentStep H P A normal m e .tangents) e
     unfolding tangentStep
-    tangent-writes m e = go (equalNormals (getNormal G (nextAround H e)) (getNormal G e)) _
+    tangent-writes m e = go (equalNormals (normal (nextAround H e)) (normal e)) _
       where
         go : (b : Bool) (v : Vec4) → Writes (m .tangents) (cond b (walkOf (putTangent (m .tangents) e v) (m .fixed) (m .state)) (walkOf (putTangent (m .tangents) e v) (set (m .fixed) e 1) (spoilFaceEdges (m .state))) .tangents) e
         go true v = writes-put (m .tangents) e v
         go false v = writes-put (m .tangents) e v
 
-    tangent-made : (m : Walk) (e : ℕ) → e * 4 + 4 ≤ length (m .tangents) → Made (tangentStep H P A G m e .tangents) e
+    tangent-made : (m : Walk) (e : ℕ) → e * 4 + 4 ≤ length (m .tangents) → Made (tangentStep H P A normal m e .tangents) e
     unfolding tangentStep
-    tangent-made m e h = go (equalNormals (getNormal G (nextAround H e)) (getNormal G e)) _ (between A _ _ _ e)
+    tangent-made m e h = go (equalNormals (normal (nextAround H e)) (normal e)) _ (between A _ _ _ e)
       where
         go : (b : Bool) (v : Vec4) → Circular e v → Made (cond b (walkOf (putTangent (m .tangents) e v) (m .fixed) (m .state)) (walkOf (putTangent (m .tangents) e v) (set (m .fixed) e 1) (spoilFaceEdges (m .state))) .tangents) e
         go true v c = put-circular (m .tangents) e v h c
@@ -185,25 +185,25 @@ module _ (H : Halfedges) (P : List Float) where
     -- the walk after the flag is written at halfedge e
     abbrev flagged : Walk → ℕ → Walk
     flagged m e =
-        let s = nextState H A G (m .state) e in
-        walkOf (putTangent (m .tangents) e (flagTangent (isMissing H G e) (in-quad e) (s .«last_normal») (tangentAt (m .tangents) e))) (m .fixed) s
+        let s = nextState H A normal (m .state) e in
+        walkOf (putTangent (m .tangents) e (flagTangent (isMissing H normal e) (in-quad e) (s .«last_normal») (tangentAt (m .tangents) e))) (m .fixed) s
 
     abbrev isNegative : Walk → ℕ → Bool
     isNegative k e = lt (weightAt (k .tangents) e) zero
 
-    normal-either : (b : Bool) (m : Walk) (k : Walk) (e : ℕ) → Writes (m .tangents) (k .tangents) e → Writes (m .tangents) (cond b k (tangentStep H P A G k e) .tangents) e
+    normal-either : (b : Bool) (m : Walk) (k : Walk) (e : ℕ) → Writes (m .tangents) (k .tangents) e → Writes (m .tangents) (cond b k (tangentStep H P A normal k e) .tangents) e
     normal-either true m k e w = w
     normal-either false m k e w = writes-both w (tangent-writes k e)
 
-    pub normal-writes : (m : Walk) (e : ℕ) → Writes (m .tangents) (normalStep H P A G in-quad m e .tangents) e
+    pub normal-writes : (m : Walk) (e : ℕ) → Writes (m .tangents) (normalStep H P A normal in-quad m e .tangents) e
     unfolding normalStep
     normal-writes m e = normal-either (isNegative (flagged m e) e) m (flagged m e) e (writes-put (m .tangents) e _)
 
     module _ (m : Walk) (e : ℕ) (h : e * 4 + 4 ≤ length (m .tangents)) where
       -- by whether a normal is missing, whether e is inside a quad, and whether the weight is below 0
-      flag-cases : (missing is-inside negative : Bool) (last : Vec3) (k : Walk) → isMissing H G e ≡ missing
+      flag-cases : (missing is-inside negative : Bool) (last : Vec3) (k : Walk) → isMissing H normal e ≡ missing
           → k .tangents ≡ putTangent (m .tangents) e (flagTangent missing is-inside last (tangentAt (m .tangents) e))
-          → lt (weightAt (k .tangents) e) zero ≡ negative → Flagged (cond negative k (tangentStep H P A G k e) .tangents) e
+          → lt (weightAt (k .tangents) e) zero ≡ negative → Flagged (cond negative k (tangentStep H P A normal k e) .tangents) e
       unfolding flagTangent
       flag-cases missing is-inside false last k p q b = inl (tangent-made k e (subst (λ (l : ℕ). e * 4 + 4 ≤ l) (sym (ap length q ∙ length-put (m .tangents) e _)) h))
       flag-cases missing true true last k p q b = inl (inside (ap (λ (T : List Float). weightAt T e) q ∙ weight-put-same (m .tangents) e _ h))
@@ -211,40 +211,40 @@ module _ (H : Halfedges) (P : List Float) where
       flag-cases false false true last k p q b =
           absurd (true≢false (sym b ∙ ap (λ (w : Float). lt w zero) (ap (λ (T : List Float). weightAt T e) q ∙ weight-put-same (m .tangents) e _ h) ∙ one-above))
 
-      pub normal-flagged : Flagged (normalStep H P A G in-quad m e .tangents) e
+      pub normal-flagged : Flagged (normalStep H P A normal in-quad m e .tangents) e
       unfolding normalStep
-      normal-flagged = flag-cases (isMissing H G e) (in-quad e) (isNegative (flagged m e) e) _ (flagged m e) refl refl refl
+      normal-flagged = flag-cases (isMissing H normal e) (in-quad e) (isNegative (flagged m e) e) _ (flagged m e) refl refl refl
 
     -- the state: `start_halfedge` and `last_normal`
     module _ (m : Walk) (e : ℕ) where
-      tangent-start : tangentStep H P A G m e .state .«start_halfedge» ≡ m .state .«start_halfedge»
+      tangent-start : tangentStep H P A normal m e .state .«start_halfedge» ≡ m .state .«start_halfedge»
       unfolding tangentStep spoilFaceEdges
-      tangent-start = go (equalNormals (getNormal G (nextAround H e)) (getNormal G e)) _
+      tangent-start = go (equalNormals (normal (nextAround H e)) (normal e)) _
         where
           go : (b : Bool) (T : List Float) → cond b (walkOf T (m .fixed) (m .state)) (walkOf T (set (m .fixed) e 1) (spoilFaceEdges (m .state))) .state .«start_halfedge» ≡ m .state .«start_halfedge»
           go true T = refl
           go false T = refl
 
-      tangent-last : tangentStep H P A G m e .state .«last_normal» ≡ m .state .«last_normal»
+      tangent-last : tangentStep H P A normal m e .state .«last_normal» ≡ m .state .«last_normal»
       unfolding tangentStep spoilFaceEdges
-      tangent-last = go (equalNormals (getNormal G (nextAround H e)) (getNormal G e)) _
+      tangent-last = go (equalNormals (normal (nextAround H e)) (normal e)) _
         where
           go : (b : Bool) (T : List Float) → cond b (walkOf T (m .fixed) (m .state)) (walkOf T (set (m .fixed) e 1) (spoilFaceEdges (m .state))) .state .«last_normal» ≡ m .state .«last_normal»
           go true T = refl
           go false T = refl
 
-    either-start : (b : Bool) (k : Walk) (e : ℕ) → cond b k (tangentStep H P A G k e) .state .«start_halfedge» ≡ k .state .«start_halfedge»
+    either-start : (b : Bool) (k : Walk) (e : ℕ) → cond b k (tangentStep H P A normal k e) .state .«start_halfedge» ≡ k .state .«start_halfedge»
     either-start true k e = refl
     either-start false k e = tangent-start k e
 
-    either-last : (b : Bool) (k : Walk) (e : ℕ) → cond b k (tangentStep H P A G k e) .state .«last_normal» ≡ k .state .«last_normal»
+    either-last : (b : Bool) (k : Walk) (e : ℕ) → cond b k (tangentStep H P A normal k e) .state .«last_normal» ≡ k .state .«last_normal»
     either-last true k e = refl
     either-last false k e = tangent-last k e
 
-    pub normal-start : (m : Walk) (e : ℕ) → normalStep H P A G in-quad m e .state .«start_halfedge» ≡ nextStart (isZero (getNormal G e)) (isZero (getNormal G (nextAround H e))) (m .state .«start_halfedge») e
+    pub normal-start : (m : Walk) (e : ℕ) → normalStep H P A normal in-quad m e .state .«start_halfedge» ≡ nextStart (isZero (normal e)) (isZero (normal (nextAround H e))) (m .state .«start_halfedge») e
     unfolding normalStep nextState
     normal-start m e = either-start (isNegative (flagged m e) e) (flagged m e) e
 
-    pub normal-last : (m : Walk) (e : ℕ) → normalStep H P A G in-quad m e .state .«last_normal» ≡ nextLast (isZero (getNormal G e)) (isZero (getNormal G (nextAround H e))) (getNormal G e) (m .state .«last_normal»)
+    pub normal-last : (m : Walk) (e : ℕ) → normalStep H P A normal in-quad m e .state .«last_normal» ≡ nextLast (isZero (normal e)) (isZero (normal (nextAround H e))) (normal e) (m .state .«last_normal»)
     unfolding normalStep nextState
     normal-last m e = either-last (isNegative (flagged m e) e) (flagged m e) e

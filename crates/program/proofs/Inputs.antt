@@ -29,12 +29,12 @@ use Rattle.program.specs.Program.{outputOf, halfedgesOf, positionsOf, ta
 -- ---- the room
 
 -- the lists of the program have the room
-pub lists-have-room : hasRoom 8187 4464 5952 8187 1488 1488 1488 143040 ≡ true
+pub lists-have-room : hasRoom 8187 5456 5456 8187 1364 1364 1364 131136 ≡ true
 unfolding hasRoom
 lists-have-room = refl
 
 module _ (positions halfedges tangents normals flags current desired out : ℕ) (room : hasRoom positions halfedges tangents normals flags current desired out ≡ true) where
-  pub all-room : Room positions halfedges tangents normals flags current desired × (143040 ≤ out)
+  pub all-room : Room positions halfedges tangents normals flags current desired × (131136 ≤ out)
   unfolding hasRoom
   all-room =
       let a = and-true _ _ room in
@@ -57,7 +57,7 @@ module _ (positions halfedges tangents normals flags current desired out : ℕ) 
       )
 
   -- what is rendered of an output that shows the program's lines
-  pub renders : (s : List ℕ) (o : Output) (T : List Float) → length T ≡ tangents → Shows (outputOf s) 1488 o T →
+  pub renders : (s : List ℕ) (o : Output) (T : List Float) → length T ≡ tangents → Shows (outputOf s) 1364 o T →
       rendered o T out ≡ outputOf s
   renders s o T l e =
       let r = all-room in
@@ -75,7 +75,7 @@ unfolding filled
 dropped f k xs = drop-at (items f k) (drop k xs) k (items-length f k)
 
 -- point normals and flags are spreading's alone
-only-spread : {A : Type 0} (o : ℕ) (f : List Float → List ℕ → A) (other : A) (N N′ : List Float) (F F′ : List ℕ) (b : Bool) → eqb o 2 ≡ b → (eqb o 2 ≡ true → (N ≡ N′) × (F ≡ F′)) →
+pub only-spread : {A : Type 0} (o : ℕ) (f : List Float → List ℕ → A) (other : A) (N N′ : List Float) (F F′ : List ℕ) (b : Bool) → eqb o 2 ≡ b → (eqb o 2 ≡ true → (N ≡ N′) × (F ≡ F′)) →
     cond (eqb o 2) (f N F) other ≡ cond (eqb o 2) (f N′ F′) other
 only-spread o f other N N′ F F′ true e h = rw (h e .0, h e .1)
 only-spread o f other N N′ F F′ false e h = rw e
@@ -88,10 +88,10 @@ spread-filled f false k xs = refl
 -- r is the answer to reading s into the lists L, which have room and become L′
 pub record Reading (s : List ℕ) (L L′ : Lists) (r : Parsed) : Type 0 where
   pub position-room : 8187 ≤ length (L .positions)
-  pub halfedge-room : 4464 ≤ length (L .halfedges)
-  pub tangent-room : 5952 ≤ length (L .tangents)
+  pub halfedge-room : 5456 ≤ length (L .halfedges)
+  pub tangent-room : 5456 ≤ length (L .tangents)
   pub normal-room : 8187 ≤ length (L .normals)
-  pub flag-room : 1488 ≤ length (L .flags)
+  pub flag-room : 1364 ≤ length (L .flags)
   pub answer : r ≡ readAnswer s L
   pub lists : L′ ≡ readLists r s L
 
@@ -112,7 +112,7 @@ module _ {s : List ℕ} {L L′ : Lists} {r : Parsed} (w : Reading s L L′ r) w
 
   module _ (number place : ℕ) (e : r ≡ InputRefused number place) where
     -- a refusal is printed
-    pub refusal-shows : (T : List Float) → Shows (outputOf s) 1488 (Refused number place) T
+    pub refusal-shows : (T : List Float) → Shows (outputOf s) 1364 (Refused number place) T
     unfolding outputOf linesOf
     refusal-shows T = record { shown = rw (parsed _ e); halfedges-few = omega arith }
 
@@ -129,16 +129,16 @@ module _ {s : List ℕ} {L L′ : Lists} {r : Parsed} (w : Reading s L L′ r) w
     lists : L′ ≡ readLists (Input o p n) s L
     lists = w .lists ∙ ap (λ (q : Parsed). readLists q s L) e
 
-    pub bound : 24 * p + 44 * n + 35 ≤ 65536
+    pub bound : 24 * p + 48 * n + 35 ≤ 65536
     bound = parsed-bound s o p n (parsed _ e)
 
     positions-read : take (3 * p) (L′ .positions) ≡ positionsOf s p n
     unfolding readLists
     positions-read = ap (λ (q : Lists). take (3 * p) (q .positions)) lists ∙ taken _ _ _
 
-    halfedges-read : take (3 * n) (L′ .halfedges) ≡ halfedgesOf s p n
+    halfedges-read : take (4 * n) (L′ .halfedges) ≡ halfedgesOf s p n
     unfolding readLists
-    halfedges-read = ap (λ (q : Lists). take (3 * n) (q .halfedges)) lists ∙ taken _ _ _
+    halfedges-read = ap (λ (q : Lists). take (4 * n) (q .halfedges)) lists ∙ taken _ _ _
 
     tangents-read : take (4 * n) (L′ .tangents) ≡ tangentsOf s p n
     unfolding readLists
@@ -157,8 +157,8 @@ module _ {s : List ℕ} {L L′ : Lists} {r : Parsed} (w : Reading s L L′ r) w
 
     -- what the operation prints of the lists that were read is printed
     pub operation-shows : (output : Output) (T : List Float) →
-        Shows (operationLines o (asHalfedges (take (3 * n) (L′ .halfedges))) (take (3 * p) (L′ .positions)) (take (3 * p) (L′ .normals)) (take n (L′ .flags)) (take (4 * n) (L′ .tangents)) n p) n output T →
-        Shows (outputOf s) 1488 output T
+        Shows (operationLines o (asHalfedges (take (4 * n) (L′ .halfedges))) (take (3 * p) (L′ .positions)) (take (3 * p) (L′ .normals)) (take n (L′ .flags)) (take (4 * n) (L′ .tangents)) n p) n output T →
+        Shows (outputOf s) 1364 output T
     unfolding outputOf operationLines
     operation-shows output T h =
         record {
@@ -172,7 +172,7 @@ module _ {s : List ℕ} {L L′ : Lists} {r : Parsed} (w : Reading s L L′ r) w
 
     -- and what it leaves in the tangents and the scratch lists is left
     pub tangents-left : (T : List Float) →
-        T ≡ operationTangents o (asHalfedges (take (3 * n) (L′ .halfedges))) (take (3 * p) (L′ .positions)) (take (3 * p) (L′ .normals)) (take n (L′ .flags)) (take (4 * n) (L′ .tangents)) n p ++ drop (4 * n) (L′ .tangents) →
+        T ≡ operationTangents o (asHalfedges (take (4 * n) (L′ .halfedges))) (take (3 * p) (L′ .positions)) (take (3 * p) (L′ .normals)) (take n (L′ .flags)) (take (4 * n) (L′ .tangents)) n p ++ drop (4 * n) (L′ .tangents) →
         T ≡ tangentsAfter s (L .tangents)
     unfolding tangentsAfter operationTangents
     tangents-left T h =
@@ -182,7 +182,7 @@ module _ {s : List ℕ} {L L′ : Lists} {r : Parsed} (w : Reading s L L′ r) w
         (only-spread o (λ N F. spreadTangents (asHalfedges (halfedgesOf s p n)) (positionsOf s p n) N F (tangentsOf s p n) n p) _ _ (normalsOf s p n) _ (flagsOf s p n) (eqb o 2) refl spread-read))
 
     pub scratch-left : (left lent : List Float) →
-        left ≡ operationScratch o (asHalfedges (take (3 * n) (L′ .halfedges))) (take (3 * p) (L′ .positions)) (take (3 * p) (L′ .normals)) (take n (L′ .flags)) (take (4 * n) (L′ .tangents)) n p lent →
+        left ≡ operationScratch o (asHalfedges (take (4 * n) (L′ .halfedges))) (take (3 * p) (L′ .positions)) (take (3 * p) (L′ .normals)) (take n (L′ .flags)) (take (4 * n) (L′ .tangents)) n p lent →
         left ≡ scratchAfter s lent
     unfolding scratchAfter operationScratch
     scratch-left left lent h =
@@ -192,7 +192,7 @@ module _ {s : List ℕ} {L L′ : Lists} {r : Parsed} (w : Reading s L L′ r) w
 
 -- ---- what the operations may take for granted
 
-pub spread-in : (n p positions halfedges tangents normals flags current desired : ℕ) → 24 * p + 44 * n + 35 ≤ 65536 → Room positions halfedges tangents normals flags current desired →
+pub spread-in : (n p positions halfedges tangents normals flags current desired : ℕ) → 24 * p + 48 * n + 35 ≤ 65536 → Room positions halfedges tangents normals flags current desired →
     SpreadIn n p positions halfedges tangents normals flags current desired
 spread-in n p positions halfedges tangents normals flags current desired h r =
     record {

@@ -1,2 +1,3 @@
--- The specs of `program`.
+-- The specs of `program`, in the order of reading.
 pub mod Program
+pub mod Rows

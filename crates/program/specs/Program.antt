@@ -8,7 +8,7 @@ use lib.IntN.{ℤ}
 use lib.Ieee.{Float}
 use Rattle.little_endian.specs.Numbers.{f64Item, i32Item, byteItem}
 use Rattle.little_endian.specs.Filled.{items}
-use Rattle.mesh.specs.Mesh.{asHalfedges}
+use Rattle.mesh.specs.Mesh.{halfedgeStride, asHalfedges}
 use Rattle.records.specs.Records.{bodyAt, parseInput}
 use Rattle.records.specs.declared.Parsed.{Parsed}
 use Rattle.records.specs.declared.Parsed.the-variants.{Input, Refused as InputRefused}
@@ -22,7 +22,7 @@ abbrev pub positionsOf : List ℕ → ℕ → ℕ → List Float
 positionsOf s p n = items (f64Item s (bodyAt p n 3)) (3 * p)
 
 abbrev pub halfedgesOf : List ℕ → ℕ → ℕ → List ℤ
-halfedgesOf s p n = items (i32Item s (bodyAt p n 4)) (3 * n)
+halfedgesOf s p n = items (i32Item s (bodyAt p n 4)) (halfedgeStride * n)
 
 abbrev pub tangentsOf : List ℕ → ℕ → ℕ → List Float
 tangentsOf s p n = items (f64Item s (bodyAt p n 5)) (4 * n)
@@ -57,7 +57,7 @@ unfoldable pub positionsAfter : List ℕ → List Float → List Float
 positionsAfter s lent = whenRead (parseInput s) (λ operation p n. positionsOf s p n ++ drop (3 * p) lent) lent
 
 unfoldable pub halfedgesAfter : List ℕ → List ℤ → List ℤ
-halfedgesAfter s lent = whenRead (parseInput s) (λ operation p n. halfedgesOf s p n ++ drop (3 * n) lent) lent
+halfedgesAfter s lent = whenRead (parseInput s) (λ operation p n. halfedgesOf s p n ++ drop (halfedgeStride * n) lent) lent
 
 -- only spreading (operation 2) has point normals and flags
 unfoldable pub normalsAfter : List ℕ → List Float → List Float
@@ -87,11 +87,11 @@ scratchAfter s lent =
 
 -- ---- the room of the lent lists
 
--- Has each list the room that the longest input can call for: 2,729 points, 1,488 halfedges, and a line of each halfedge and two more?
+-- Has each list the room that the longest input can call for: 2,729 points, 1,364 halfedges, and a line of each halfedge and two more?
 unfoldable pub hasRoom : ℕ → ℕ → ℕ → ℕ → ℕ → ℕ → ℕ → ℕ → Bool
 hasRoom positions halfedges tangents normals flags current desired out =
-    leb 8187 positions && leb 4464 halfedges && leb 5952 tangents && leb 8187 normals && leb 1488 flags
-    && leb 1488 current && leb 1488 desired && leb 143040 out
+    leb 8187 positions && leb 5456 halfedges && leb 5456 tangents && leb 8187 normals && leb 1364 flags
+    && leb 1364 current && leb 1364 desired && leb 131136 out
 
 -- the same of the lists themselves
 abbrev pub listsHaveRoom : List Float → List ℤ → List Float → List Float → List ℕ → List Float → List Float → List ℕ → Bool
@@ -101,9 +101,9 @@ listsHaveRoom positions halfedges tangents normals flags current desired out =
 -- lists of at least these lengths
 pub record Room (positions halfedges tangents normals flags current desired : ℕ) : Type 0 where
   pub position-room : 8187 ≤ positions
-  pub halfedge-room : 4464 ≤ halfedges
-  pub tangent-room : 5952 ≤ tangents
+  pub halfedge-room : 5456 ≤ halfedges
+  pub tangent-room : 5456 ≤ tangents
   pub normal-room : 8187 ≤ normals
-  pub flag-room : 1488 ≤ flags
-  pub current-room : 1488 ≤ current
-  pub desired-room : 1488 ≤ desired
+  pub flag-room : 1364 ≤ flags
+  pub current-room : 1364 ≤ current
+  pub desired-room : 1364 ≤ desired

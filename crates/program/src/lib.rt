@@ -14,13 +14,13 @@ use records::Parsed;
 // for each halfedge (flags, scratch), and its output.
 pub const POSITION_ROOM: usize = 8187;
 
-pub const HALFEDGE_ROOM: usize = 4464;
+pub const HALFEDGE_ROOM: usize = 5456;
 
-pub const TANGENT_ROOM: usize = 5952;
+pub const TANGENT_ROOM: usize = 5456;
 
-pub const FLAG_ROOM: usize = 1488;
+pub const FLAG_ROOM: usize = 1364;
 
-pub const OUTPUT_ROOM: usize = 143040;
+pub const OUTPUT_ROOM: usize = 131136;
 
 // Reads the input into the lists, and does its operation.
 fn respond(
@@ -34,7 +34,7 @@ fn respond(
     desired: &mut [f64],
 ) -> Output
     requires { ⌜ Room (length (now pos)) (length (now h)) (length (now t)) (length (now normals)) (length (now flags)) (length (now current)) (length (now desired)) ⌝ }
-    ensures output { λ r. ⌜ Shows (outputOf (now (input .entry))) 1488 r (now (t .exit)) ⌝ }
+    ensures output { λ r. ⌜ Shows (outputOf (now (input .entry))) 1364 r (now (t .exit)) ⌝ }
     ensures positions { λ _. ⌜ now (pos .exit) ≡ positionsAfter (now (input .entry)) (now (pos .entry)) ⌝ }
     ensures halfedges { λ _. ⌜ now (h .exit) ≡ halfedgesAfter (now (input .entry)) (now (h .entry)) ⌝ }
     ensures tangents { λ _. ⌜ now (t .exit) ≡ tangentsAfter (now (input .entry)) (now (t .entry)) ⌝ }

@@ -7,7 +7,7 @@ use lib.ListN.{replicate, drop}
 use lib.Dec.{eqb}
 use lib.Ieee.{Float}
 use Rattle.float.specs.Ops.{zero}
-use Rattle.mesh.specs.Mesh.{Halfedges}
+use Rattle.mesh.specs.Mesh.{halfedgeStride, Halfedges}
 use Rattle.mesh.specs.Check.{whenAccepted}
 use Rattle.mesh.specs.declared.Checked.{Checked}
 use Rattle.mesh.specs.declared.Checked.the-variants.{Accepted, Refused as MeshRefused}
@@ -84,9 +84,9 @@ operationScratch operation H P N X T n p lent = cond (eqb operation 2) (spreadSc
 
 -- the counts of an input, and the mesh in its lists
 pub record MeshIn (n p positions halfedges tangents : ℕ) : Type 0 where
-  pub few : 24 * p + 44 * n + 35 ≤ 65536
+  pub few : 24 * p + 48 * n + 35 ≤ 65536
   pub positions-in : 3 * p ≤ positions
-  pub halfedges-in : 3 * n ≤ halfedges
+  pub halfedges-in : halfedgeStride * n ≤ halfedges
   pub tangents-in : 4 * n ≤ tangents
 
 -- the same with the lists of spreading

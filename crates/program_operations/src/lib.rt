@@ -4,7 +4,7 @@ ghost use mathlib.Core.Path.{_≡_};
 ghost use Prim.Native.Nat.{_*_};
 ghost use mathlib.Core.List.{_++_};
 ghost use lib.ListN.{length, take, drop};
-ghost use Rattle.mesh.specs.Mesh.{asHalfedges};
+ghost use Rattle.mesh.specs.Mesh.{halfedgeStride, asHalfedges};
 ghost use Rattle.program_operations.specs.Operations.{straightenOutput, straightenLines, spreadOutput, spreadLines, checkOutput, checkLines, operationLines, straightenTangents, spreadTangents, spreadScratch, operationTangents, operationScratch, MeshIn, SpreadIn, Shows};
 use distribute::Spreading;
 use mesh::Checked;
@@ -45,10 +45,10 @@ fn check_output(validity: Validity) -> Output
 // The operation 1.
 fn straighten(n: usize, p: usize, h: &[i32], pos: &[f64], t: &mut [f64]) -> Output
     requires { ⌜ MeshIn n p (length (now pos)) (length (now h)) (length (now t)) ⌝ }
-    ensures lines { λ r. ⌜ Shows (straightenLines (asHalfedges (take (3 * n) (now (h .entry)))) (take (3 * p) (now (pos .entry))) (take (4 * n) (now (t .entry))) n p) n r (now (t .exit)) ⌝ }
-    ensures tangents { λ _. ⌜ now (t .exit) ≡ straightenTangents (asHalfedges (take (3 * n) (now (h .entry)))) (take (3 * p) (now (pos .entry))) (take (4 * n) (now (t .entry))) n p ++ drop (4 * n) (now (t .entry)) ⌝ }
+    ensures lines { λ r. ⌜ Shows (straightenLines (asHalfedges (take (halfedgeStride * n) (now (h .entry)))) (take (3 * p) (now (pos .entry))) (take (4 * n) (now (t .entry))) n p) n r (now (t .exit)) ⌝ }
+    ensures tangents { λ _. ⌜ now (t .exit) ≡ straightenTangents (asHalfedges (take (halfedgeStride * n) (now (h .entry)))) (take (3 * p) (now (pos .entry))) (take (4 * n) (now (t .entry))) n p ++ drop (4 * n) (now (t .entry)) ⌝ }
 {
-    let hl = 3 * n;
+    let hl = mesh::HALFEDGE_STRIDE * n;
     let pl = 3 * p;
     let tl = 4 * n;
     let checked = linearize::linearize_flat_tangents(n, p, &h[..hl], &pos[..pl], &mut t[..tl]);
@@ -68,12 +68,12 @@ fn spread(
     desired: &mut [f64],
 ) -> Output
     requires { ⌜ SpreadIn n p (length (now pos)) (length (now h)) (length (now t)) (length (now normals)) (length (now flags)) (length (now current)) (length (now desired)) ⌝ }
-    ensures lines { λ r. ⌜ Shows (spreadLines (asHalfedges (take (3 * n) (now (h .entry)))) (take (3 * p) (now (pos .entry))) (take (3 * p) (now (normals .entry))) (take n (now (flags .entry))) (take (4 * n) (now (t .entry))) n p) n r (now (t .exit)) ⌝ }
-    ensures tangents { λ _. ⌜ now (t .exit) ≡ spreadTangents (asHalfedges (take (3 * n) (now (h .entry)))) (take (3 * p) (now (pos .entry))) (take (3 * p) (now (normals .entry))) (take n (now (flags .entry))) (take (4 * n) (now (t .entry))) n p ++ drop (4 * n) (now (t .entry)) ⌝ }
-    ensures current { λ _. ⌜ now (current .exit) ≡ spreadScratch (asHalfedges (take (3 * n) (now (h .entry)))) (take (3 * p) (now (pos .entry))) (take (3 * p) (now (normals .entry))) (take n (now (flags .entry))) (take (4 * n) (now (t .entry))) n p (now (current .entry)) ⌝ }
-    ensures desired { λ _. ⌜ now (desired .exit) ≡ spreadScratch (asHalfedges (take (3 * n) (now (h .entry)))) (take (3 * p) (now (pos .entry))) (take (3 * p) (now (normals .entry))) (take n (now (flags .entry))) (take (4 * n) (now (t .entry))) n p (now (desired .entry)) ⌝ }
+    ensures lines { λ r. ⌜ Shows (spreadLines (asHalfedges (take (halfedgeStride * n) (now (h .entry)))) (take (3 * p) (now (pos .entry))) (take (3 * p) (now (normals .entry))) (take n (now (flags .entry))) (take (4 * n) (now (t .entry))) n p) n r (now (t .exit)) ⌝ }
+    ensures tangents { λ _. ⌜ now (t .exit) ≡ spreadTangents (asHalfedges (take (halfedgeStride * n) (now (h .entry)))) (take (3 * p) (now (pos .entry))) (take (3 * p) (now (normals .entry))) (take n (now (flags .entry))) (take (4 * n) (now (t .entry))) n p ++ drop (4 * n) (now (t .entry)) ⌝ }
+    ensures current { λ _. ⌜ now (current .exit) ≡ spreadScratch (asHalfedges (take (halfedgeStride * n) (now (h .entry)))) (take (3 * p) (now (pos .entry))) (take (3 * p) (now (normals .entry))) (take n (now (flags .entry))) (take (4 * n) (now (t .entry))) n p (now (current .entry)) ⌝ }
+    ensures desired { λ _. ⌜ now (desired .exit) ≡ spreadScratch (asHalfedges (take (halfedgeStride * n) (now (h .entry)))) (take (3 * p) (now (pos .entry))) (take (3 * p) (now (normals .entry))) (take n (now (flags .entry))) (take (4 * n) (now (t .entry))) n p (now (desired .entry)) ⌝ }
 {
-    let hl = 3 * n;
+    let hl = mesh::HALFEDGE_STRIDE * n;
     let pl = 3 * p;
     let tl = 4 * n;
     let spreading = distribute::distribute_tangents(
@@ -93,9 +93,9 @@ fn spread(
 // The operation 3.
 fn check(n: usize, p: usize, h: &[i32], pos: &[f64], t: &[f64]) -> Output
     requires { ⌜ MeshIn n p (length (now pos)) (length (now h)) (length (now t)) ⌝ }
-    ensures { λ r. ⌜ Shows (checkLines (asHalfedges (take (3 * n) (now (h .entry)))) (take (3 * p) (now (pos .entry))) (take (4 * n) (now (t .entry))) n p) n r (now (t .entry)) ⌝ }
+    ensures { λ r. ⌜ Shows (checkLines (asHalfedges (take (halfedgeStride * n) (now (h .entry)))) (take (3 * p) (now (pos .entry))) (take (4 * n) (now (t .entry))) n p) n r (now (t .entry)) ⌝ }
 {
-    let hl = 3 * n;
+    let hl = mesh::HALFEDGE_STRIDE * n;
     let pl = 3 * p;
     let tl = 4 * n;
     check_output(validate::valid_tangents(n, p, &h[..hl], &pos[..pl], &t[..tl]))
@@ -115,10 +115,10 @@ pub fn operate(
     desired: &mut [f64],
 ) -> Output
     requires { ⌜ SpreadIn n p (length (now pos)) (length (now h)) (length (now t)) (length (now normals)) (length (now flags)) (length (now current)) (length (now desired)) ⌝ }
-    ensures lines { λ r. ⌜ Shows (operationLines operation (asHalfedges (take (3 * n) (now (h .entry)))) (take (3 * p) (now (pos .entry))) (take (3 * p) (now (normals .entry))) (take n (now (flags .entry))) (take (4 * n) (now (t .entry))) n p) n r (now (t .exit)) ⌝ }
-    ensures tangents { λ _. ⌜ now (t .exit) ≡ operationTangents operation (asHalfedges (take (3 * n) (now (h .entry)))) (take (3 * p) (now (pos .entry))) (take (3 * p) (now (normals .entry))) (take n (now (flags .entry))) (take (4 * n) (now (t .entry))) n p ++ drop (4 * n) (now (t .entry)) ⌝ }
-    ensures current { λ _. ⌜ now (current .exit) ≡ operationScratch operation (asHalfedges (take (3 * n) (now (h .entry)))) (take (3 * p) (now (pos .entry))) (take (3 * p) (now (normals .entry))) (take n (now (flags .entry))) (take (4 * n) (now (t .entry))) n p (now (current .entry)) ⌝ }
-    ensures desired { λ _. ⌜ now (desired .exit) ≡ operationScratch operation (asHalfedges (take (3 * n) (now (h .entry)))) (take (3 * p) (now (pos .entry))) (take (3 * p) (now (normals .entry))) (take n (now (flags .entry))) (take (4 * n) (now (t .entry))) n p (now (desired .entry)) ⌝ }
+    ensures lines { λ r. ⌜ Shows (operationLines operation (asHalfedges (take (halfedgeStride * n) (now (h .entry)))) (take (3 * p) (now (pos .entry))) (take (3 * p) (now (normals .entry))) (take n (now (flags .entry))) (take (4 * n) (now (t .entry))) n p) n r (now (t .exit)) ⌝ }
+    ensures tangents { λ _. ⌜ now (t .exit) ≡ operationTangents operation (asHalfedges (take (halfedgeStride * n) (now (h .entry)))) (take (3 * p) (now (pos .entry))) (take (3 * p) (now (normals .entry))) (take n (now (flags .entry))) (take (4 * n) (now (t .entry))) n p ++ drop (4 * n) (now (t .entry)) ⌝ }
+    ensures current { λ _. ⌜ now (current .exit) ≡ operationScratch operation (asHalfedges (take (halfedgeStride * n) (now (h .entry)))) (take (3 * p) (now (pos .entry))) (take (3 * p) (now (normals .entry))) (take n (now (flags .entry))) (take (4 * n) (now (t .entry))) n p (now (current .entry)) ⌝ }
+    ensures desired { λ _. ⌜ now (desired .exit) ≡ operationScratch operation (asHalfedges (take (halfedgeStride * n) (now (h .entry)))) (take (3 * p) (now (pos .entry))) (take (3 * p) (now (normals .entry))) (take n (now (flags .entry))) (take (4 * n) (now (t .entry))) n p (now (desired .entry)) ⌝ }
 {
     if operation == 1 {
         return straighten(n, p, h, pos, t);

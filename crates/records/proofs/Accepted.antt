@@ -25,19 +25,19 @@ unfolds s L o p n e =
     (rw (a .0, g .same-operation, g .same-points, g .same-halfedges), rw (g .same-operation, g .same-points, g .same-halfedges) at (passed-test (hasRoom (operationIn s) (pointsIn s) (halfedgesIn s) (length (L .positions)) (length (L .halfedges)) (length (L .tangents)) (length (L .normals)) (length (L .flags))) 1 (b .0)))
 
 -- the longest input bounds the counts
-pub parsed-bound : (s : List ℕ) (o p n : ℕ) → parseInput s ≡ Input o p n → 24 * p + 44 * n + 35 ≤ 65536
+pub parsed-bound : (s : List ℕ) (o p n : ℕ) → parseInput s ≡ Input o p n → 24 * p + 48 * n + 35 ≤ 65536
 unfolding recordsLength bodyBytes
 parsed-bound s o p n e = let h = mesh-bodies s o p n e in let l = accepted s o p n e .0 in omega arith
 
 -- Lists of these lengths are never too short, so that the answer is the parsed one.
-module _ (s : List ℕ) (L : Lists) (positions : 8187 ≤ length (L .positions)) (halfedges : 4464 ≤ length (L .halfedges)) (tangents : 5952 ≤ length (L .tangents)) (normals : 8187 ≤ length (L .normals)) (flags : 1488 ≤ length (L .flags)) where
+module _ (s : List ℕ) (L : Lists) (positions : 8187 ≤ length (L .positions)) (halfedges : 5456 ≤ length (L .halfedges)) (tangents : 5456 ≤ length (L .tangents)) (normals : 8187 ≤ length (L .normals)) (flags : 1364 ≤ length (L .flags)) where
   has-all : (o p n : ℕ) → parseInput s ≡ Input o p n → hasRoom o p n (length (L .positions)) (length (L .halfedges)) (length (L .tangents)) (length (L .normals)) (length (L .flags)) ≡ true
   unfolding hasRoom ifSpread
   has-all o p n e =
       let h = parsed-bound s o p n e in
       rw (
         le-leb (3 * p) (length (L .positions)) (omega arith),
-        le-leb (3 * n) (length (L .halfedges)) (omega arith),
+        le-leb (4 * n) (length (L .halfedges)) (omega arith),
         le-leb (4 * n) (length (L .tangents)) (omega arith),
         le-leb (cond (eqb o 2) (3 * p) 0) (length (L .normals)) (cond-le (eqb o 2) _ _ _ (omega arith) (omega arith)),
         le-leb (cond (eqb o 2) n 0) (length (L .flags)) (cond-le (eqb o 2) _ _ _ (omega arith) (omega arith)),
@@ -61,9 +61,9 @@ module _ (s : List ℕ) (L : Lists) (o p n : ℕ) (e : readAnswer s L ≡ Input 
       let h = and-true (leb 1 o) (leb o 3) (passed-test (leb 1 o && leb o 3) 22 (accepted s o p n parsed .1 .known)) in
       (leb-true 1 o (h .0), leb-true o 3 (h .1))
 
-  pub counts-bound : 24 * p + 44 * n + 35 ≤ 65536
+  pub counts-bound : 24 * p + 48 * n + 35 ≤ 65536
   counts-bound = parsed-bound s o p n parsed
 
   pub lists-room :
-      (3 * p ≤ length (L .positions)) × (3 * n ≤ length (L .halfedges)) × (4 * n ≤ length (L .tangents)) × (ifSpread o (3 * p) ≤ length (L .normals)) × (ifSpread o n ≤ length (L .flags))
+      (3 * p ≤ length (L .positions)) × (4 * n ≤ length (L .halfedges)) × (4 * n ≤ length (L .tangents)) × (ifSpread o (3 * p) ≤ length (L .normals)) × (ifSpread o n ≤ length (L .flags))
   lists-room = room o p n _ _ _ _ _ (unfolds s L o p n e .1)

@@ -34,7 +34,7 @@ unfolding all
 spread = refl
 
 -- spreading without its normals: the record that is due there does not fit
-no-normals : parseInput (input 2 192) ≡ Refused 20 371
+no-normals : parseInput (input 2 192) ≡ Refused 20 395
 unfolding all
 no-normals = refl
 
@@ -42,7 +42,7 @@ empty : parseInput [] ≡ Refused 20 0
 unfolding all
 empty = refl
 
-cut-off : parseInput (take 370 (input 1 192)) ≡ Refused 20 173
+cut-off : parseInput (take 394 (input 1 192)) ≡ Refused 20 197
 unfolding all
 cut-off = refl
 
@@ -63,7 +63,7 @@ kind-first : parseInput (recordOf 1 (1 ∷ []) ++ recordOf 3 (numbers 8 position
 unfolding all
 kind-first = refl
 
-other-length : parseInput (input 1 191) ≡ Refused 22 173
+other-length : parseInput (input 1 191) ≡ Refused 22 197
 unfolding all
 other-length = refl
 
@@ -75,16 +75,16 @@ unknown : parseInput (input 4 192) ≡ Refused 23 0
 unfolding all
 unknown = refl
 
-left-over : parseInput (input 1 192 ++ (0 ∷ [])) ≡ Refused 24 371
+left-over : parseInput (input 1 192 ++ (0 ∷ [])) ≡ Refused 24 395
 unfolding all
 left-over = refl
 
 -- one byte past the limit is too long
-longest : parseInput (input 1 192 ++ replicate 65165 0) ≡ Refused 24 371
+longest : parseInput (input 1 192 ++ replicate 65141 0) ≡ Refused 24 395
 unfolding all
 longest = refl
 
-too-long : parseInput (input 1 192 ++ replicate 65166 0) ≡ Refused 20 0
+too-long : parseInput (input 1 192 ++ replicate 65142 0) ≡ Refused 20 0
 unfolding all
 too-long = refl
 
@@ -92,7 +92,7 @@ positions-read : items (f64Item (input 1 192) (bodyAt 3 6 3)) 9 ≡ positions
 unfolding all
 positions-read = refl
 
-halfedges-read : items (i32Item (input 1 192) (bodyAt 3 6 4)) 18 ≡ pillow
+halfedges-read : items (i32Item (input 1 192) (bodyAt 3 6 4)) 24 ≡ pillow
 unfolding all
 halfedges-read = refl
 

@@ -8,13 +8,13 @@ use Rattle.common.proofs.Tests.{and-true}
 use Rattle.records.specs.Lists.{ifSpread, hasRoom}
 
 module _ (o p n positions halfedges tangents normals flags : ℕ) where
-  pub last-test : (x y : ℕ) → 3 * p ≤ positions → 3 * n ≤ halfedges → 4 * n ≤ tangents → x ≡ ifSpread o (3 * p) → x ≤ normals → y ≡ ifSpread o n →
+  pub last-test : (x y : ℕ) → 3 * p ≤ positions → 4 * n ≤ halfedges → 4 * n ≤ tangents → x ≡ ifSpread o (3 * p) → x ≤ normals → y ≡ ifSpread o n →
       leb y flags ≡ hasRoom o p n positions halfedges tangents normals flags
   unfolding hasRoom
   last-test x y a b c e d f = rw (le-leb _ _ a, le-leb _ _ b, le-leb _ _ c, ← e, le-leb _ _ d, ← f)
 
   pub room : hasRoom o p n positions halfedges tangents normals flags ≡ true →
-      (3 * p ≤ positions) × (3 * n ≤ halfedges) × (4 * n ≤ tangents) × (ifSpread o (3 * p) ≤ normals) × (ifSpread o n ≤ flags)
+      (3 * p ≤ positions) × (4 * n ≤ halfedges) × (4 * n ≤ tangents) × (ifSpread o (3 * p) ≤ normals) × (ifSpread o n ≤ flags)
   unfolding hasRoom
   room e =
       let a = and-true _ _ e in

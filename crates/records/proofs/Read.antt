@@ -67,7 +67,7 @@ module _ (s : List ℕ) (P : List Float) (H : List ℤ) (T N : List Float) (F : 
     unfolding readAnswer readRefusal
     read = rw (got .no-number, got .same-operation, got .same-points, got .same-halfedges, ← h, f)
 
-    fits : (3 * p ≤ length P) × (3 * n ≤ length H) × (4 * n ≤ length T) × (ifSpread o (3 * p) ≤ length N) × (ifSpread o n ≤ length F)
+    fits : (3 * p ≤ length P) × (4 * n ≤ length H) × (4 * n ≤ length T) × (ifSpread o (3 * p) ≤ length N) × (ifSpread o n ≤ length F)
     fits = room o p n (length P) (length H) (length T) (length N) (length F) (sym h ∙ f)
 
     pub mesh-room : MeshRoom p n (length s) (length P) (length H) (length T)
@@ -99,7 +99,7 @@ module _ (s : List ℕ) (P : List Float) (H : List ℤ) (T N : List Float) (F : 
 
       pub spread-lists : (P′ : List Float) (H′ : List ℤ) (T′ N′ : List Float) (F′ : List ℕ) →
           P′ ≡ filled (f64Item s (bodyAt p n 3)) (3 * p) P →
-          H′ ≡ filled (i32Item s (bodyAt p n 4)) (3 * n) H →
+          H′ ≡ filled (i32Item s (bodyAt p n 4)) (4 * n) H →
           T′ ≡ filled (f64Item s (bodyAt p n 5)) (4 * n) T →
           N′ ≡ filled (f64Item s (bodyAt p n 6)) (3 * p) N →
           F′ ≡ filled (byteItem s (bodyAt p n 7)) n F →
@@ -110,7 +110,7 @@ module _ (s : List ℕ) (P : List Float) (H : List ℤ) (T N : List Float) (F : 
     -- the other operations leave both as lent
     pub mesh-lists : (o ≡ 2 → ⊥) → (P′ : List Float) (H′ : List ℤ) (T′ : List Float) →
         P′ ≡ filled (f64Item s (bodyAt p n 3)) (3 * p) P →
-        H′ ≡ filled (i32Item s (bodyAt p n 4)) (3 * n) H →
+        H′ ≡ filled (i32Item s (bodyAt p n 4)) (4 * n) H →
         T′ ≡ filled (f64Item s (bodyAt p n 5)) (4 * n) T →
         listsOf H′ P′ N F T′ ≡ readLists (Input o p n) s (listsOf H P N F T)
     unfolding readLists ifSpread

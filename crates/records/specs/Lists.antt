@@ -8,6 +8,7 @@ use lib.IntN.{ℤ}
 use lib.Ieee.{Float}
 use Rattle.little_endian.specs.Numbers.{f64Item, i32Item, byteItem}
 use Rattle.little_endian.specs.Filled.{filled}
+use Rattle.mesh.specs.Mesh.{halfedgeStride}
 use Rattle.records.specs.Records.{recordsLength, bodyAt, Refusal, none, orElse, inputRefusal, operationIn, pointsIn, halfedgesIn, parsedOf}
 use Rattle.records.specs.declared.Parsed.{Parsed}
 use Rattle.records.specs.declared.Parsed.the-variants.{Input, Refused}
@@ -31,7 +32,7 @@ ifSpread operation count = cond (eqb operation 2) count 0
 unfoldable pub hasRoom : ℕ → ℕ → ℕ → ℕ → ℕ → ℕ → ℕ → ℕ → Bool
 hasRoom operation p n positions halfedges tangents normals flags =
     leb (3 * p) positions
-    && leb (3 * n) halfedges
+    && leb (halfedgeStride * n) halfedges
     && leb (4 * n) tangents
     && leb (ifSpread operation (3 * p)) normals
     && leb (ifSpread operation n) flags
@@ -55,7 +56,7 @@ readLists (Refused number place) s lists = lists
 readLists (Input operation p n) s lists =
     record {
       positions = filled (f64Item s (bodyAt p n 3)) (3 * p) (lists .positions);
-      halfedges = filled (i32Item s (bodyAt p n 4)) (3 * n) (lists .halfedges);
+      halfedges = filled (i32Item s (bodyAt p n 4)) (halfedgeStride * n) (lists .halfedges);
       tangents = filled (f64Item s (bodyAt p n 5)) (4 * n) (lists .tangents);
       normals = filled (f64Item s (bodyAt p n 6)) (ifSpread operation (3 * p)) (lists .normals);
       flags = filled (byteItem s (bodyAt p n 7)) (ifSpread operation n) (lists .flags);
@@ -67,7 +68,7 @@ pub record MeshRoom (p n input positions halfedges tangents : ℕ) : Type 0 wher
   pub few-halfedges : n < 2 ^ 32
   pub bodies : recordsLength p n 5 ≤ input
   pub position-room : 3 * p ≤ positions
-  pub halfedge-room : 3 * n ≤ halfedges
+  pub halfedge-room : halfedgeStride * n ≤ halfedges
   pub tangent-room : 4 * n ≤ tangents
 
 pub record SpreadRoom (p n input normals flags : ℕ) : Type 0 where

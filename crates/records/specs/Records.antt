@@ -60,13 +60,13 @@ recordRefusal s at kind bytes =
     (cond (eqb (kindAt s at) kind) (cond (eqb (bodyLength s at) bytes) 0 22) 21)
     20
 
--- the body length that p points and n halfedges call for: 1 operation, 2 counts, 3 positions, 4 halfedges, 5 tangents, 6 point normals, 7 flags
+-- the body length that p points and n halfedges call for: 1 operation, 2 counts, 3 positions, 4 halfedges (start, end, pair and row), 5 tangents, 6 point normals, 7 flags
 unfoldable pub bodyBytes : ℕ → ℕ → ℕ → ℕ
 bodyBytes p n kind =
     cond (eqb kind 1) 1
     (cond (eqb kind 2) 4
     (cond (eqb kind 3) (24 * p)
-    (cond (eqb kind 4) (12 * n)
+    (cond (eqb kind 4) (16 * n)
     (cond (eqb kind 5) (32 * n)
     (cond (eqb kind 6) (24 * p) n)))))
 

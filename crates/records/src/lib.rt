@@ -4,6 +4,7 @@ ghost use Prim.Native.Nat.{_+_, _*_, _<_, _≤_, _^_, _-_};
 ghost use lib.ListN.{length};
 ghost use Rattle.little_endian.specs.Numbers.{f64Item, i32Item, byteItem};
 ghost use Rattle.little_endian.specs.Filled.{filled};
+ghost use Rattle.mesh.specs.Mesh.{halfedgeStride};
 ghost use Rattle.records.specs.Records.{recordRefusal, bodyBytes, bodyAt, lastKind, operationRefusal, refusalFrom, recordsRefusal, operationIn, pointsIn, halfedgesIn, parsedOf, parseInput, Values};
 ghost use Rattle.records.specs.Lists.{MeshRoom, SpreadRoom, ifSpread, hasRoom, listsOf, readRefusal, readAnswer, readLists};
 
@@ -69,7 +70,7 @@ fn body_bytes(points: usize, halfedges: usize, kind: usize) -> usize
         return 24 * points;
     }
     if kind == 4 {
-        return 12 * halfedges;
+        return 16 * halfedges;
     }
     if kind == 5 {
         return 32 * halfedges;
@@ -203,7 +204,7 @@ fn has_room(
     if pos < 3 * points {
         return false;
     }
-    if h < 3 * halfedges {
+    if h < mesh::HALFEDGE_STRIDE * halfedges {
         return false;
     }
     if t < 4 * halfedges {
@@ -226,11 +227,16 @@ fn fill_mesh(
 )
     requires { ⌜ MeshRoom points halfedges (length (now s)) (length (now pos)) (length (now h)) (length (now t)) ⌝ }
     ensures { λ _. ⌜ (now (pos .exit) ≡ filled (f64Item (now (s .entry)) (bodyAt points halfedges 3)) (3 * points) (now (pos .entry)))
-        × (now (h .exit) ≡ filled (i32Item (now (s .entry)) (bodyAt points halfedges 4)) (3 * halfedges) (now (h .entry)))
+        × (now (h .exit) ≡ filled (i32Item (now (s .entry)) (bodyAt points halfedges 4)) (halfedgeStride * halfedges) (now (h .entry)))
         × (now (t .exit) ≡ filled (f64Item (now (s .entry)) (bodyAt points halfedges 5)) (4 * halfedges) (now (t .entry))) ⌝ }
 {
     little_endian::fill_f64(s, body_at(points, halfedges, 3), 3 * points, pos);
-    little_endian::fill_i32(s, body_at(points, halfedges, 4), 3 * halfedges, h);
+    little_endian::fill_i32(
+        s,
+        body_at(points, halfedges, 4),
+        mesh::HALFEDGE_STRIDE * halfedges,
+        h,
+    );
     little_endian::fill_f64(s, body_at(points, halfedges, 5), 4 * halfedges, t);
 }
 

@@ -17,7 +17,7 @@ fn from_normals(
     face_normals: &[f64],
     refs: &[i32],
     none: &[usize],
-    halfedge_normals: &[f64],
+    rows: &[f64],
     t: &mut [f64],
 ) -> bool {
     let n = places(c.n);
@@ -35,7 +35,7 @@ fn from_normals(
         normals,
         face_normals,
         refs,
-        halfedge_normals,
+        rows,
         old,
         t,
         fixed,
@@ -63,20 +63,9 @@ pub fn agrees(
     let pos = float_part(xs, 0, e.positions);
     let normals = float_part(xs, e.positions, e.normals);
     let face_normals = float_part(xs, e.normals, e.face_normals);
-    let halfedge_normals = float_part(xs, e.face_normals, xs.len());
+    let rows = float_part(xs, e.face_normals, xs.len());
     let h = signed_part(is, 0, e.halfedges);
     let refs = signed_part(is, e.halfedges, is.len());
-    let same = from_normals(
-        c,
-        e.old,
-        h,
-        pos,
-        normals,
-        face_normals,
-        refs,
-        none,
-        halfedge_normals,
-        t,
-    );
+    let same = from_normals(c, e.old, h, pos, normals, face_normals, refs, none, rows, t);
     common::both(same, replay::same_floats(s, at, t, t.len()))
 }

@@ -73,7 +73,7 @@ fn own_fit(s: &[u8], op: usize, c: Case, l: Lists) -> bool {
     if op == 8 {
         return fits(s, l.entries, replay::half_word(s, l.values), 1);
     }
-    fits(s, replay::after(c.at, 12), c.n, 3)
+    replay::half_word(s, replay::after(c.at, 12)) % 3 == 0
 }
 
 // Questions 1 to 7, of the halfedges at s[at..]; `fit` is the answer to question 2.
@@ -84,7 +84,15 @@ fn check_mesh(s: &[u8], at: usize, c: Case, fit: bool) -> Checked {
     mesh::check_mesh(&h[..len], c.n, c.p, fit)
 }
 
-// The further questions, of what stands at s[at..]: of the face references, of the sharp entries and of the flags.
+// The further questions, of what stands at s[at..]: of the rows, of the face references, of the sharp entries and of the flags.
+fn check_rows(s: &[u8], at: usize, c: Case, checked: Checked) -> Checked {
+    let mut h = [0i32; 256];
+    let read = signed(s, at, &mut h);
+    let len = read.len;
+    let rows = replay::half_word(s, replay::after(c.at, 12)) / 3;
+    mesh::check_rows(checked, &h[..len], rows, c.n)
+}
+
 fn check_refs(s: &[u8], at: usize, c: Case, checked: Checked) -> Checked {
     let mut refs = [0i32; 256];
     let read = signed(s, at, &mut refs);
@@ -116,9 +124,10 @@ pub fn questions(s: &[u8], op: usize, c: Case) -> bool {
     if op == 7 {
         return same_checked(check_flags(s, l.flags, c, checked), c);
     }
-    let numbered = check_refs(s, l.refs, c, checked);
     if op == 9 {
-        return same_checked(numbered, c);
+        let rows = check_rows(s, l.halfedges, c, checked);
+        return same_checked(check_refs(s, l.refs, c, rows), c);
     }
+    let numbered = check_refs(s, l.refs, c, checked);
     same_checked(check_entries(s, l.entries, c, numbered), c)
 }

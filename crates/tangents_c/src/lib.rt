@@ -224,7 +224,7 @@ pub extern "C" fn tangents_create_tangents(
     put_checked(answer, checked);
 }
 
-// Making from normals, three numbers for each halfedge. `old` says whether the tangents lent are old ones: 0 for no.
+// Making from normals; `rows` has three numbers for each row. `old` says whether the tangents lent are old ones: 0 for no.
 #[no_mangle]
 pub extern "C" fn tangents_create_tangents_from_normals(
     n: usize,
@@ -234,7 +234,7 @@ pub extern "C" fn tangents_create_tangents_from_normals(
     normals: &[f64],
     face_normals: &[f64],
     refs: &[i32],
-    halfedge_normals: &[f64],
+    rows: &[f64],
     old: usize,
     t: &mut [f64],
     fixed: &mut [u8],
@@ -244,7 +244,7 @@ pub extern "C" fn tangents_create_tangents_from_normals(
     first: &mut [usize],
     answer: &mut [usize],
 )
-    ensures { λ _. ⌜ (let r = checkFromNormals (asHalfedges (now (h .entry))) (now (pos .entry)) (now (normals .entry)) (now («face_normals» .entry)) (now (refs .entry)) (now («halfedge_normals» .entry)) (now (t .entry)) (now (fixed .entry)) (now (inside .entry)) (now (current .entry)) (now (desired .entry)) (now (first .entry)) n p in (now (t .exit) ≡ tangentsFromNormals r (asHalfedges (now (h .entry))) (now (pos .entry)) (now (normals .entry)) (now («face_normals» .entry)) (now (refs .entry)) (now («halfedge_normals» .entry)) (now (t .entry)) (not (eqb old 0)) n p) × (now (fixed .exit) ≡ whenAccepted r (replicate n 0) (now (fixed .entry))) × (now (inside .exit) ≡ whenAccepted r (replicate n 0) (now (inside .entry))) × (now (current .exit) ≡ whenAccepted r (replicate n zero) (now (current .entry))) × (now (desired .exit) ≡ whenAccepted r (replicate n zero) (now (desired .entry))) × (now (first .exit) ≡ whenAccepted r (replicate p 0) (now (first .entry))) × (now (answer .exit) ≡ putChecked (now (answer .entry)) r)) ⌝ }
+    ensures { λ _. ⌜ (let r = checkFromNormals (now (h .entry)) (now (pos .entry)) (now (normals .entry)) (now («face_normals» .entry)) (now (refs .entry)) (now (rows .entry)) (now (t .entry)) (now (fixed .entry)) (now (inside .entry)) (now (current .entry)) (now (desired .entry)) (now (first .entry)) n p in (now (t .exit) ≡ tangentsFromNormals r (now (h .entry)) (now (pos .entry)) (now (normals .entry)) (now («face_normals» .entry)) (now (refs .entry)) (now (rows .entry)) (now (t .entry)) (not (eqb old 0)) n p) × (now (fixed .exit) ≡ whenAccepted r (replicate n 0) (now (fixed .entry))) × (now (inside .exit) ≡ whenAccepted r (replicate n 0) (now (inside .entry))) × (now (current .exit) ≡ whenAccepted r (replicate n zero) (now (current .entry))) × (now (desired .exit) ≡ whenAccepted r (replicate n zero) (now (desired .entry))) × (now (first .exit) ≡ whenAccepted r (replicate p 0) (now (first .entry))) × (now (answer .exit) ≡ putChecked (now (answer .entry)) r)) ⌝ }
 {
     let checked = create_from_normals::create_tangents_from_normals(
         n,
@@ -254,7 +254,7 @@ pub extern "C" fn tangents_create_tangents_from_normals(
         normals,
         face_normals,
         refs,
-        halfedge_normals,
+        rows,
         old != 0,
         t,
         fixed,

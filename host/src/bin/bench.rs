@@ -5,6 +5,7 @@
 //! ORACLE is the timing build of the oracle (`./build.sh` in its folder prints the path of both builds). MESH is `torus`, or `mixed`: random small meshes
 //! joined, with points of uneven valence, quads, creases, missing and strange normals. Each has at most so many halfedges. A run takes the least of so many
 //! repeats, of the Rust and then of the unit; the table has the least of all runs, and of the runs' ratios the least, the median and the greatest.
+//! `normals` has a row for each halfedge; `rows`, on the torus only, one for the halfedges that share a normal.
 //! The unit asks its questions in every call; the Rust asks none.
 
 use std::process::Command;
@@ -15,12 +16,12 @@ use tangents_host::*;
 /// ns per halfedge of the unit, the least.
 fn unit(c: &Block, repeats: usize) -> f64 {
     let (n, p) = c.counts();
-    let (h, pos, vn, fnm, flags) = (c.signed("he"), c.floats("pos"), c.floats("vn"), c.floats("fn"), c.bytes("fl"));
+    let (h, pos, vn, fnm, flags) = (c.halfedges(), c.floats("pos"), c.floats("vn"), c.floats("fn"), c.bytes("fl"));
     let lent = c.floats("tan");
     let (mut current, mut desired) = (vec![0.0; n], vec![0.0; n]);
     let (mut list, mut smooth) = (vec![0usize; n], vec![0.0; n]);
     let (refs, entries, values) = (c.signed("ref"), c.numbers("sh"), c.floats("ss"));
-    let own = c.floats("nrm");
+    let rows = c.rows();
     let (mut scratch, mut scratch2) = (CreateScratch::new(n, p, 0), NormalsScratch::new(n, p, 0));
     let (op, old) = (c.op(), c.has("tan"));
     let mut least = f64::MAX;
@@ -37,7 +38,7 @@ fn unit(c: &Block, repeats: usize) -> f64 {
                 create_tangents(n, p, &h, &pos, &vn, &fnm, &refs, &entries, &values, old, &mut t, &mut scratch).expect("accepted")
             }
             "normals" => {
-                create_tangents_from_normals(n, p, &h, &pos, &vn, &fnm, &refs, &own, old, &mut t, &mut scratch2).expect("accepted")
+                create_tangents_from_normals(n, p, &h, &pos, &vn, &fnm, &refs, &rows, old, &mut t, &mut scratch2).expect("accepted")
             }
             op => panic!("no timing of {op}"),
         }
@@ -62,14 +63,14 @@ fn rust(line: &str) -> f64 {
 fn main() {
     let args: Vec<String> = std::env::args().skip(1).collect();
     assert!(args.len() >= 5, "bench ORACLE MESH HALFEDGES REPEATS RUNS [KIND..]");
-    let job = match args[1].as_str() {
-        "torus" => "big",
-        "mixed" => "mixed",
+    let all = ["straighten", "check", "crease", "spread", "sharp", "normals", "rows"].map(String::from);
+    let (job, all) = match args[1].as_str() {
+        "torus" => ("big", &all[..]),
+        "mixed" => ("mixed", &all[..6]),
         mesh => panic!("no mesh {mesh}"),
     };
     let (repeats, runs): (usize, usize) = (args[3].parse().expect("repeats"), args[4].parse().expect("runs"));
-    let all = ["straighten", "check", "crease", "spread", "sharp", "normals"].map(String::from);
-    let kinds = if args.len() > 5 { &args[5..] } else { &all[..] };
+    let kinds = if args.len() > 5 { &args[5..] } else { all };
     let file = std::env::temp_dir().join(format!("tangents-bench-{}.txt", std::process::id()));
     println!("| call | halfedges | unit | Rust | ratio | least to greatest |");
     println!("|---|---|---|---|---|---|");

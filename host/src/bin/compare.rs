@@ -3,7 +3,8 @@
 //!     compare ORACLE KIND SEED COUNT
 //!
 //! ORACLE is the program that runs the unchanged Rust behind a text format: `./build.sh` in the oracle's folder builds it and prints its path.
-//! KIND is a call, for random accepted cases of it, or `any`, for those of any; or it is `refuse`, for damaged cases of every call.
+//! KIND is a call, for random accepted cases of it, or `any`, for those of any; or it is `refuse`, for damaged cases of every call. `rows` and
+//! `refuse-rows` are making from normals with a row list; in `normals` each halfedge has a row of its own.
 //! The status is 0 after a whole run in which nothing differs, 1 after one in which something does, and another where the run ends early.
 
 use std::collections::BTreeMap;
@@ -14,7 +15,7 @@ use std::process::{Child, ChildStdin, Command, ExitCode, ExitStatus, Stdio};
 use std::sync::mpsc::{sync_channel, Receiver, SyncSender};
 use tangents_host::case::{answer, blocks, Block};
 
-const KINDS: [&str; 8] = ["straighten", "spread", "check", "crease", "sharp", "normals", "any", "refuse"];
+const KINDS: [&str; 10] = ["straighten", "spread", "check", "crease", "sharp", "normals", "rows", "any", "refuse", "refuse-rows"];
 
 /// The most cases that wait for their answers. The oracle writes answers some KB at a time, hundreds of the shortest: with room for fewer
 /// cases than these, both sides would wait for each other.
@@ -124,7 +125,7 @@ fn main() -> ExitCode {
     if !KINDS.contains(&kind) {
         return usage();
     }
-    let words = if kind == "refuse" { vec![kind, seed, number] } else { vec!["gen", kind, seed, number] };
+    let words = if kind.starts_with("refuse") { vec![kind, seed, number] } else { vec!["gen", kind, seed, number] };
     let mut sums = Sums::default();
     if let Err(why) = compare_all(oracle, &words, count, &mut sums) {
         eprintln!("{kind} ended early: {why}; of {count} cases {sums}");

@@ -1,14 +1,12 @@
 -- `create_from_normals::create_tangents_from_normals` meets its contract: the questions, and then the core. Assumes nothing.
 use mathlib.Core.Path.{_≡_, refl, sym, _∙_}
-use Rattle.mesh.specs.Mesh.{asHalfedges}
 use Rattle.mesh.proofs.Values.{values-same}
 use Rattle.create_from_normals.specs.FromNormals.{checkLists}
 use Rattle.create_from_normals.proofs.Accepted.{lists-of}
 use Rattle.create_from_normals.proofs.create_tangents_from_normals.Statement.{statement}
 use Rattle.create_from_normals.proofs.create_tangents_from_normals.Tie as tie
 
-answer : (c : tie.After-check-normals) → let a = c .before .before .before .before .before .before .before .before .before .before .before .before .before .before .before .before .before .before .before .args in c .check-normals .result ≡ checkLists (asHalfedges (a .h .now)) (a .pos .now) (a .normals .now) (a .«face-normals» .now) (a .refs .now) (a .«halfedge-normals» .now) (a .t .now) (a .fixed .now) (a .inside .now) (a .current .now) (a .desired .now) (a .first .now) (a .n) (a .p)
-unfolding asHalfedges
+answer : (c : tie.After-check-normals) → let a = c .before .before .before .before .before .before .before .before .before .before .before .before .before .before .before .before .before .before .before .args in c .check-normals .result ≡ checkLists (a .h .now) (a .pos .now) (a .normals .now) (a .«face-normals» .now) (a .refs .now) (a .rows .now) (a .t .now) (a .fixed .now) (a .inside .now) (a .current .now) (a .desired .now) (a .first .now) (a .n) (a .p)
 answer c = rw (← c .before .before .before .before .before .before .before .before .lists-fit .ensures, ← c .before .before .scratch-fits .ensures, ← c .before .both .ensures) (c .check-normals .ensures)
 
 returns : tie.Need-returns
@@ -18,7 +16,7 @@ returns c =
     (q, (rw e, (rw e, (rw e, (rw e, (rw e, (rw e, values-same q)))))))
 
 make-tangents-requires : tie.Need-make-tangents-requires
-make-tangents-requires c κs = let a = c .before .before .before .before .before .before .before .before .before .before .before .before .before .before .before .before .before .before .before .before .before .before .before .before .before .before .before .args in lists-of (asHalfedges (a .h .now)) (a .pos .now) (a .normals .now) (a .«face-normals» .now) (a .refs .now) (a .«halfedge-normals» .now) (a .t .now) (a .fixed .now) (a .inside .now) (a .current .now) (a .desired .now) (a .first .now) (a .n) (a .p) (sym (answer (c .before .before .before .before .before .before .before .before)) ∙ c .before .before .before .before .before .before .enum-told .given .1)
+make-tangents-requires c κs = let a = c .before .before .before .before .before .before .before .before .before .before .before .before .before .before .before .before .before .before .before .before .before .before .before .before .before .before .before .args in lists-of (a .h .now) (a .pos .now) (a .normals .now) (a .«face-normals» .now) (a .refs .now) (a .rows .now) (a .t .now) (a .fixed .now) (a .inside .now) (a .current .now) (a .desired .now) (a .first .now) (a .n) (a .p) (sym (answer (c .before .before .before .before .before .before .before .before)) ∙ c .before .before .before .before .before .before .enum-told .given .1)
 
 returns-2 : tie.Need-returns-2
 returns-2 c =

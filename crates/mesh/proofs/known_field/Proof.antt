@@ -4,8 +4,7 @@ use mathlib.Core.Path.{ap, subst, sym, _∙_}
 use borrow.Author.Needs.{needs}
 use lib.IntN.{ℤ}
 use denote.Ref.{now}
-use Rattle.mesh.specs.Mesh.{halfedgeStride, numberAt, indexOf, field}
-use Rattle.mesh.specs.Inside.{noIndex}
+use Rattle.mesh.specs.Mesh.{halfedgeStride, numberAt, indexOf, field, noIndex}
 use Rattle.mesh.proofs.Signed.{read}
 use Rattle.mesh.proofs.known_field.Statement.{statement}
 use Rattle.mesh.proofs.known_field.Tie as tie

@@ -1,5 +1,6 @@
 -- `normals_core::make_tangents` meets its contract: four calls in a row. Assumes nothing.
 use mathlib.Core.Path.{_∙_}
+use Rattle.normals_state.specs.State.{getNormal}
 use Rattle.common.proofs.Filled.{cleared}
 use Rattle.mesh.specs.Mesh.{asHalfedges}
 use Rattle.normals_state.proofs.Units.{units-in}
@@ -46,7 +47,7 @@ returns c =
     let m = c .before .before .before .before .before .before .before .before .before .before .before .before .before .before .before .before .before .before .before .before .before .before .before .before .before .before .before .before .before .normal-tangents in
     let f = c .before .before .before .before .before .before .before .before .before .before .before .before .before .before .before .before .spread-tangents in
     let r = c .before .before .before .before .before .before .clear-scratch in
-    (created (asHalfedges (a .h .now)) (a .refs .now) (a .pos .now) (a .normals .now) (a .«face-normals» .now) (a .«halfedge-normals» .now) (a .t .now) (a .old) (a .n) (a .p) _ _ _ _ (m .ensures) (w .points) (f .ensures .0 .tangents-are), (cleared _ 0 _ _ (r .ensures .0) (m .kept .1 .1 .1 .1 .1 .1 .1 .1 .1 .1 .0 ∙ w .lists .fixed), (cleared _ 0 _ _ (r .ensures .1 .0) (m .kept .1 .1 .1 .1 .1 .1 .1 .1 .1 .1 .1 .0 ∙ w .lists .inside), (f .ensures .1 .0, (f .ensures .1 .1, cleared _ 0 _ _ (r .ensures .1 .1) (m .kept .1 .1 .1 .1 .1 .1 .1 .1 .1 .1 .1 .1 .0 ∙ w .points))))))
+    (created (asHalfedges (a .h .now)) (a .refs .now) (a .pos .now) (a .normals .now) (a .«face-normals» .now) (getNormal (a .h .now) (a .rows .now)) (a .t .now) (a .old) (a .n) (a .p) _ _ _ _ (m .ensures) (w .points) (f .ensures .0 .tangents-are), (cleared _ 0 _ _ (r .ensures .0) (m .kept .1 .1 .1 .1 .1 .1 .1 .1 .1 .1 .0 ∙ w .lists .fixed), (cleared _ 0 _ _ (r .ensures .1 .0) (m .kept .1 .1 .1 .1 .1 .1 .1 .1 .1 .1 .1 .0 ∙ w .lists .inside), (f .ensures .1 .0, (f .ensures .1 .1, cleared _ 0 _ _ (r .ensures .1 .1) (m .kept .1 .1 .1 .1 .1 .1 .1 .1 .1 .1 .1 .1 .0 ∙ w .points))))))
 
 pub make-tangents-spec : {M : Type 1} → statement M
 make-tangents-spec =

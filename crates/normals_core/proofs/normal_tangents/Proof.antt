@@ -1,5 +1,6 @@
 -- `normals_core::normal_tangents` meets its contract: five calls in a row. Assumes nothing.
 use mathlib.Core.Path.{_∙_}
+use Rattle.normals_state.specs.State.{getNormal}
 use Rattle.float.specs.Ops.{zero}
 use Rattle.create_shared.proofs.Lent.{verts-in}
 use Rattle.common.proofs.Filled.{cleared}
@@ -36,7 +37,7 @@ same-length-4 : tie.Need-same-length-4
 same-length-4 c = c .before .before .before .before .before .before .before .before .before .before .before .vert-halfedge .kept .1 .0
 
 returns : tie.Need-returns
-returns c = let a = c .before .before .before .before .before .before .before .before .before .before .before .before .before .before .before .before .before .before .before .before .before .before .before .before .before .before .before .before .before .before .before .before .before .before .before .args in let w = c .before .before .before .before .before .before .before .before .before .before .before .before .before .before .before .before .before .before .before .before .before .before .before .before .before .before .before .before .before .before .before .before .before .before .before .pre .0 in made (w .sound) (a .refs .now) (a .pos .now) (a .normals .now) (a .«face-normals» .now) (a .«halfedge-normals» .now) (a .t .now) (a .old) _ _ _ _ _ _ _ (c .before .before .before .before .normals-verts .ensures) (c .before .before .before .before .before .before .before .before .before .before .before .before .before .before .before .before .before .before .before .before .before .before .before .inside-quads .ensures) (cleared _ zero _ _ (c .before .before .before .before .before .before .before .before .before .before .before .before .before .before .before .before .before .before .before .fill-floats .ensures) (w .tangents)) (cleared _ 0 _ _ (c .before .before .before .before .before .before .before .before .before .before .before .before .before .before .before .fill-bytes .ensures) (w .fixed)) (c .before .before .before .before .before .before .before .before .before .before .before .vert-halfedge .kept .1 .0)
+returns c = let a = c .before .before .before .before .before .before .before .before .before .before .before .before .before .before .before .before .before .before .before .before .before .before .before .before .before .before .before .before .before .before .before .before .before .before .before .args in let w = c .before .before .before .before .before .before .before .before .before .before .before .before .before .before .before .before .before .before .before .before .before .before .before .before .before .before .before .before .before .before .before .before .before .before .before .pre .0 in made (w .sound) (a .refs .now) (a .pos .now) (a .normals .now) (a .«face-normals» .now) (getNormal (a .h .now) (a .rows .now)) (a .t .now) (a .old) _ _ _ _ _ _ _ (c .before .before .before .before .normals-verts .ensures) (c .before .before .before .before .before .before .before .before .before .before .before .before .before .before .before .before .before .before .before .before .before .before .before .inside-quads .ensures) (cleared _ zero _ _ (c .before .before .before .before .before .before .before .before .before .before .before .before .before .before .before .before .before .before .before .fill-floats .ensures) (w .tangents)) (cleared _ 0 _ _ (c .before .before .before .before .before .before .before .before .before .before .before .before .before .before .before .fill-bytes .ensures) (w .fixed)) (c .before .before .before .before .before .before .before .before .before .before .before .vert-halfedge .kept .1 .0)
 
 pub normal-tangents-spec : {M : Type 1} → statement M
 normal-tangents-spec =

@@ -21,12 +21,12 @@ use Rattle.normals_walks.proofs.fill_walk.Statement.{statement}
 use Rattle.normals_walks.proofs.fill_walk.Tie as tie
 
 abbrev Inv-loop : tie.InvT-loop
-Inv-loop n h pos face-normals halfedge-normals last t₀ start next prev₀ current₀ t prev current =
+Inv-loop n h pos face-normals rows last t₀ start next prev₀ current₀ t prev current =
     Walking (prevAround (asHalfedges h)) n (isAt start) n start current × (length t ≡ length t₀)
-    × (foldl (fillStep (asHalfedges h) pos face-normals halfedge-normals last) (fillOf t prev) (cycleFrom (prevAround (asHalfedges h)) n start current) ≡ foldl (fillStep (asHalfedges h) pos face-normals halfedge-normals last) (fillOf t₀ (getNormal halfedge-normals (nextAround (asHalfedges h) start))) (vertexCycleBack (asHalfedges h) n start))
+    × (foldl (fillStep (asHalfedges h) pos face-normals (getNormal h rows) last) (fillOf t prev) (cycleFrom (prevAround (asHalfedges h)) n start current) ≡ foldl (fillStep (asHalfedges h) pos face-normals (getNormal h rows) last) (fillOf t₀ (getNormal h rows (nextAround (asHalfedges h) start))) (vertexCycleBack (asHalfedges h) n start))
 
 abbrev μ-loop : tie.MeasureT-loop
-μ-loop n h pos face-normals halfedge-normals last t₀ start next prev₀ current₀ t prev current = stepsLeft (prevAround (asHalfedges h)) (isAt start) n current
+μ-loop n h pos face-normals rows last t₀ start next prev₀ current₀ t prev current = stepsLeft (prevAround (asHalfedges h)) (isAt start) n current
 
 next-around-requires : tie.Need-next-around-requires Inv-loop μ-loop
 next-around-requires c κs = let pre = c .before .before .before .before .pre in let w = pre .1 .state .missing in inside (w .sound) (w .whole) _ (pre .0)
@@ -39,7 +39,7 @@ loop-holds c =
     let z = c .before .before .before .before .before .before in (
       around-start (prev-permutes (z .pre .1 .state .missing .sound)) (le-refl _) (z .pre .0),
       refl,
-      ap (λ (v : Vec3). foldl (fillStep (asHalfedges (z .args .h .now)) (z .args .pos .now) (z .args .face-normals .now) (z .args .halfedge-normals .now) (z .args .last)) (fillOf (z .args .t .now) v) (vertexCycleBack (asHalfedges (z .args .h .now)) (z .args .n) (z .args .start))) (c .get-normal .ensures ∙ ap (getNormal (z .args .halfedge-normals .now)) (c .before .next-around .ensures)),
+      ap (λ (v : Vec3). foldl (fillStep (asHalfedges (z .args .h .now)) (z .args .pos .now) (z .args .face-normals .now) (getNormal (z .args .h .now) (z .args .rows .now)) (z .args .last)) (fillOf (z .args .t .now) v) (vertexCycleBack (asHalfedges (z .args .h .now)) (z .args .n) (z .args .start))) (c .get-normal .ensures ∙ ap (getNormal (z .args .h .now) (z .args .rows .now)) (c .before .next-around .ensures)),
     )
 
 fill-step-requires : tie.Need-fill-step-requires Inv-loop μ-loop
@@ -63,7 +63,7 @@ loop-again c =
     let Q = prev-permutes (c .before .before .before .before .before .before .before .before .before .before .before .before .before .pre .1 .state .missing .sound) in (
       around-step Q (l .inv .0) (c .before .prev-around .ensures) (c .if1 .left),
       m .kept .1 .1 .1 .1 .1 .0 ∙ l .inv .1,
-      around-fold-step Q (l .inv .0) (c .before .prev-around .ensures) (fillStep (asHalfedges (a .h .now)) (a .pos .now) (a .face-normals .now) (a .halfedge-normals .now) (a .last)) (fillOf (l .t) (l .prev)) (l .inv .2) (m .ensures) (c .if1 .left),
+      around-fold-step Q (l .inv .0) (c .before .prev-around .ensures) (fillStep (asHalfedges (a .h .now)) (a .pos .now) (a .face-normals .now) (getNormal (a .h .now) (a .rows .now)) (a .last)) (fillOf (l .t) (l .prev)) (l .inv .2) (m .ensures) (c .if1 .left),
     )
 
 same-length : tie.Need-same-length Inv-loop μ-loop
@@ -76,7 +76,7 @@ returns c =
     let l = c .before .before .before .before .before .before .loop in
     let a = c .before .before .before .before .before .before .before .before .before .before .before .before .before .args in
     ap (λ (k : Fill). k .tangents)
-    (around-fold-stop (prev-permutes (c .before .before .before .before .before .before .before .before .before .before .before .before .before .pre .1 .state .missing .sound)) (l .inv .0) (c .before .prev-around .ensures) (fillStep (asHalfedges (a .h .now)) (a .pos .now) (a .face-normals .now) (a .halfedge-normals .now) (a .last)) (fillOf (l .t) (l .prev)) (l .inv .2) (m .ensures) (c .if1 .taken))
+    (around-fold-stop (prev-permutes (c .before .before .before .before .before .before .before .before .before .before .before .before .before .pre .1 .state .missing .sound)) (l .inv .0) (c .before .prev-around .ensures) (fillStep (asHalfedges (a .h .now)) (a .pos .now) (a .face-normals .now) (getNormal (a .h .now) (a .rows .now)) (a .last)) (fillOf (l .t) (l .prev)) (l .inv .2) (m .ensures) (c .if1 .taken))
 
 pub fill-walk-spec : {M : Type 1} → statement M
 fill-walk-spec =

@@ -9,17 +9,18 @@ use lib.ListN.{length}
 use native.Mathlib.Omega.{arith}
 use mathlib.Core.Path.{_≡_, refl, sym, _∙_}
 use Prim.Native.Nat.{_-_, _≤_}
+use Rattle.normals_state.specs.State.{getNormal}
 use Rattle.mesh.specs.Mesh.{asHalfedges}
 use Rattle.normals_walks.proofs.normals_verts.Statement.{statement}
 use Rattle.normals_walks.proofs.normals_verts.Tie as tie
 
 abbrev Inv-loop : tie.InvT-loop
-Inv-loop n h pos normals face-normals face-units halfedge-normals inside vert-halfedge t₀ fixed₀ v₀ t fixed v =
+Inv-loop n h pos normals face-normals face-units rows inside vert-halfedge t₀ fixed₀ v₀ t fixed v =
     (v ≤ length vert-halfedge) × (length t ≡ length t₀) × (length fixed ≡ length fixed₀)
-    × (tangentsOf t fixed ≡ foldTo (normalsVert (asHalfedges h) pos normals face-normals halfedge-normals (isInside inside) n) (tangentsOf t₀ fixed₀) v)
+    × (tangentsOf t fixed ≡ foldTo (normalsVert (asHalfedges h) pos normals face-normals (getNormal h rows) (isInside inside) n) (tangentsOf t₀ fixed₀) v)
 
 abbrev μ-loop : tie.MeasureT-loop
-μ-loop n h pos normals face-normals face-units halfedge-normals inside vert-halfedge t₀ fixed₀ v₀ t fixed v = length vert-halfedge - v
+μ-loop n h pos normals face-normals face-units rows inside vert-halfedge t₀ fixed₀ v₀ t fixed v = length vert-halfedge - v
 
 loop-holds : tie.Need-loop-holds Inv-loop μ-loop
 loop-holds c = (omega arith, refl, refl, sym (fold-none _ _))

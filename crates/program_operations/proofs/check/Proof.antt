@@ -21,7 +21,7 @@ mul-tl : tie.Need-mul-tl
 mul-tl c = search needs
 
 slice-aggregate-valid-tangents : tie.Need-slice-aggregate-valid-tangents
-slice-aggregate-valid-tangents c = front (3 * c .before .before .before .args .n) (c .before .before .before .args .h .now) (omega arith) .1
+slice-aggregate-valid-tangents c = front (4 * c .before .before .before .args .n) (c .before .before .before .args .h .now) (omega arith) .1
 
 slice-aggregate-valid-tangents-2 : tie.Need-slice-aggregate-valid-tangents-2
 slice-aggregate-valid-tangents-2 c = front (3 * c .before .before .before .before .args .p) (c .before .before .before .before .args .pos .now) (omega arith) .1
@@ -39,7 +39,7 @@ returns : tie.Need-returns
 returns c =
     let a = c .before .before .before .before .before .before .before .args in
     let v = c .before .valid-tangents in
-    let H = asHalfedges (take (3 * a .n) (a .h .now)) in
+    let H = asHalfedges (take (4 * a .n) (a .h .now)) in
     let P = take (3 * a .p) (a .pos .now) in
     let T = take (4 * a .n) (a .t .now) in
     let answer : v .result ≡ validAnswer H P T (a .n) (a .p) = v .ensures .0 in

@@ -21,7 +21,7 @@ mul-tl : tie.Need-mul-tl
 mul-tl c = search needs
 
 slice-aggregate-distribute-tangents : tie.Need-slice-aggregate-distribute-tangents
-slice-aggregate-distribute-tangents c = front (3 * c .before .before .before .before .before .before .before .args .n) (c .before .before .before .before .before .before .before .args .h .now) (omega arith) .1
+slice-aggregate-distribute-tangents c = front (4 * c .before .before .before .before .before .before .before .args .n) (c .before .before .before .before .before .before .before .args .h .now) (omega arith) .1
 
 slice-aggregate-distribute-tangents-2 : tie.Need-slice-aggregate-distribute-tangents-2
 slice-aggregate-distribute-tangents-2 c = front (3 * c .before .before .before .before .before .before .before .before .args .p) (c .before .before .before .before .before .before .before .before .args .pos .now) (omega arith) .1
@@ -70,7 +70,7 @@ returns c =
     let a = c .before .before .before .before .before .before .before .before .before .before .before .before .before .before .before .before .before .before .before .before .before .args in
     let i = c .before .before .before .before .before .before .before .before .before .before .before .before .before .before .before .before .before .before .before .before .before .pre in
     let d = c .before .before .before .before .before .before .before .distribute-tangents in
-    let H = asHalfedges (take (3 * a .n) (a .h .now)) in
+    let H = asHalfedges (take (4 * a .n) (a .h .now)) in
     let P = take (3 * a .p) (a .pos .now) in
     let N = take (3 * a .p) (a .normals .now) in
     let F = take (a .n) (a .flags .now) in

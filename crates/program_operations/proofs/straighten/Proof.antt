@@ -22,7 +22,7 @@ mul-tl : tie.Need-mul-tl
 mul-tl c = search needs
 
 slice-aggregate-linearize-flat-tangents : tie.Need-slice-aggregate-linearize-flat-tangents
-slice-aggregate-linearize-flat-tangents c = front (3 * c .before .before .before .args .n) (c .before .before .before .args .h .now) (omega arith) .1
+slice-aggregate-linearize-flat-tangents c = front (4 * c .before .before .before .args .n) (c .before .before .before .args .h .now) (omega arith) .1
 
 slice-aggregate-linearize-flat-tangents-2 : tie.Need-slice-aggregate-linearize-flat-tangents-2
 slice-aggregate-linearize-flat-tangents-2 c = front (3 * c .before .before .before .before .args .p) (c .before .before .before .before .args .pos .now) (omega arith) .1
@@ -46,7 +46,7 @@ returns : tie.Need-returns
 returns c =
     let a = c .before .before .before .before .before .before .before .before .before .args in
     let l = c .before .before .before .linearize-flat-tangents in
-    let H = asHalfedges (take (3 * a .n) (a .h .now)) in
+    let H = asHalfedges (take (4 * a .n) (a .h .now)) in
     let P = take (3 * a .p) (a .pos .now) in
     let T = take (4 * a .n) (a .t .now) in
     let after = l .last .1 .1 .1 .1 .0 in

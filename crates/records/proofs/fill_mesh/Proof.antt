@@ -52,7 +52,7 @@ returns : tie.Need-returns
 returns c =
     let a = c .before .before .before .before .before .before .before .before .before .before .before .before .before .before .before .before .before .args in (
       c .before .before .before .before .before .before .before .before .before .before .before .fill-f64 .ensures ∙ ap (λ (k : ℕ). filled (f64Item (a .s .now) k) (3 * a .points) (a .pos .now)) (c .before .before .before .before .before .before .before .before .before .before .before .before .before .body-at .ensures),
-      c .before .before .before .before .before .before .fill-i32 .ensures ∙ ap (λ (k : ℕ). filled (i32Item (a .s .now) k) (3 * a .halfedges) (a .h .now)) (c .before .before .before .before .before .before .before .before .body-at2 .ensures),
+      c .before .before .before .before .before .before .fill-i32 .ensures ∙ ap (λ (k : ℕ). filled (i32Item (a .s .now) k) (4 * a .halfedges) (a .h .now)) (c .before .before .before .before .before .before .before .before .body-at2 .ensures),
       c .before .before .fill-f642 .ensures ∙ ap (λ (k : ℕ). filled (f64Item (a .s .now) k) (4 * a .halfedges) (a .t .now)) (c .before .before .before .before .body-at3 .ensures),
     )
 

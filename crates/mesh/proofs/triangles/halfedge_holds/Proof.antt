@@ -11,8 +11,7 @@ use lib.Signed.{mag}
 use denote.Ref.{now}
 use mir.Syntax.{w32}
 use mir.Val.{ofZ}
-use Rattle.mesh.specs.Mesh.{halfedgeStride, numberAt, indexOf, field, startVert, endVert, pairedHalfedge, asHalfedges}
-use Rattle.mesh.specs.Inside.{noIndex}
+use Rattle.mesh.specs.Mesh.{halfedgeStride, numberAt, indexOf, field, startVert, endVert, pairedHalfedge, asHalfedges, noIndex}
 use Rattle.mesh.specs.All.{halfedgeHolds}
 use Rattle.mesh.proofs.Signed.{read, index-bits}
 use Rattle.mesh.proofs.triangles.halfedge_holds.Statement.{statement}

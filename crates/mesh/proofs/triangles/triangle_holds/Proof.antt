@@ -11,8 +11,7 @@ use lib.Signed.{mag}
 use denote.Ref.{now}
 use mir.Syntax.{w32}
 use mir.Val.{toZ, ofZ}
-use Rattle.mesh.specs.Mesh.{halfedgeStride, numberAt, indexOf, field, startVert, asHalfedges}
-use Rattle.mesh.specs.Inside.{noIndex}
+use Rattle.mesh.specs.Mesh.{halfedgeStride, numberAt, indexOf, field, startVert, asHalfedges, noIndex}
 use Rattle.mesh.specs.All.{halfedgeHolds, triangleHolds}
 use Rattle.common.proofs.Tests.{and-true}
 use Rattle.mesh.proofs.Signed.{read}

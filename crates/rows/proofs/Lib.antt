@@ -1,0 +1,2 @@
+-- The laws of `rows`.
+pub mod Rows

@@ -1,0 +1,2 @@
+-- The specs of `rows`.
+pub mod Rows
