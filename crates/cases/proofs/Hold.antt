@@ -20,7 +20,7 @@ use Rattle.mesh.specs.Check.{checkFlags}
 use Rattle.linalg.specs.Vec.{crossOf}
 use Rattle.cycles.specs.Cycles.{nextAround}
 use Rattle.distribute_spread.specs.Spread.{firstWalk, fixedFrom, pass, secondWalk, spread, spreadFrom, spreadOn, walksFrom}
-use Rattle.distribute_steps.specs.FloatSteps.{begin, gatherEdge, turnsNone, tangentDirection}
+use Rattle.distribute_steps.specs.FloatSteps.{begin, nextNormal, gatherEdge, turnsNone, tangentDirection}
 use Rattle.distribute.specs.Distribute.{checkLists}
 use Rattle.cases.specs.Lines.{lines, computedOf, statedOf}
 
@@ -38,7 +38,7 @@ unfolding add3 sub3 neg3 div3 dotOf length2Of lengthOf vec3FromVec4 isDegenerate
 calls = tt
 
 unfoldable pub spreads : Unit {0}
-unfolding checkFlags checkLists firstWalk fixedFrom pass secondWalk spread spreadFrom spreadOn walksFrom begin gatherEdge turnsNone tangentDirection crossOf nextAround
+unfolding checkFlags checkLists firstWalk fixedFrom pass secondWalk spread spreadFrom spreadOn walksFrom begin nextNormal gatherEdge turnsNone tangentDirection crossOf nextAround
 spreads = tt
 
 pub lines-hold : computedOf lines ≡ statedOf lines

@@ -42,11 +42,15 @@ turnedOf (RefusedSpreading number place) = 0
 
 -- ---- the questions
 
+-- question 2 of the lists that spreading and its preview read or turn
+abbrev pub listsFit : Halfedges → List Float → List Float → List ℕ → List Float → ℕ → ℕ → Bool
+listsFit H P N X T n p =
+    hasLength (H .numbers) n halfedgeStride && hasLength (length P) p 3 && hasLength (length N) p 3 && hasLength (length X) n 1
+    && hasLength (length T) n 4
+
 -- question 2 of the lists that the call is lent
 abbrev pub lengthsFit : Halfedges → List Float → List Float → List ℕ → List Float → List Float → List Float → ℕ → ℕ → Bool
-lengthsFit H P N X T C D n p =
-    hasLength (H .numbers) n halfedgeStride && hasLength (length P) p 3 && hasLength (length N) p 3 && hasLength (length X) n 1
-    && hasLength (length T) n 4 && hasLength (length C) n 1 && hasLength (length D) n 1
+lengthsFit H P N X T C D n p = listsFit H P N X T n p && hasLength (length C) n 1 && hasLength (length D) n 1
 
 -- questions 1 to 7 and 11
 unfoldable pub checkLists : Halfedges → List Float → List Float → List ℕ → List Float → List Float → List Float → ℕ → ℕ → Checked

@@ -6,7 +6,7 @@ ghost use Rattle.float.specs.Ops.{zero};
 ghost use Rattle.mesh.specs.Mesh.{asHalfedges};
 ghost use Rattle.distribute_steps.specs.FloatSteps.{floatSteps};
 ghost use Rattle.distribute_walks.specs.Walks.{Lists};
-ghost use Rattle.distribute.specs.Distribute.{numberOf, placeOf, lookedOf, turnedOf, lengthsFit, checkLists, spreadTangents, Reports, answerOf, distributeTangents, tangentsAfter, scratchAfter, AnyOrder, Values};
+ghost use Rattle.distribute.specs.Distribute.{numberOf, placeOf, lookedOf, turnedOf, listsFit, lengthsFit, checkLists, spreadTangents, Reports, answerOf, distributeTangents, tangentsAfter, scratchAfter, AnyOrder, Values};
 use distribute_walks::Counts;
 use mesh::Checked;
 
@@ -124,6 +124,31 @@ pub fn spread_tangents(
     counts
 }
 
+// Question 2 of the lists that spreading and its preview read or turn.
+pub fn lists_fit(
+    n: usize,
+    p: usize,
+    h: &[i32],
+    pos: &[f64],
+    normals: &[f64],
+    fixed: &[u8],
+    t: &[f64],
+) -> bool
+    ensures { λ r. ⌜ r ≡ listsFit (asHalfedges (now (h .entry))) (now (pos .entry)) (now (normals .entry)) (now (fixed .entry)) (now (t .entry)) n p ⌝ }
+{
+    let points = common::both(
+        common::both(
+            mesh::has_length(h.len(), n, mesh::HALFEDGE_STRIDE),
+            mesh::has_length(pos.len(), p, 3),
+        ),
+        mesh::has_length(normals.len(), p, 3),
+    );
+    common::both(
+        common::both(points, mesh::has_length(fixed.len(), n, 1)),
+        mesh::has_length(t.len(), n, 4),
+    )
+}
+
 // Question 2 of the lists that the call is lent.
 fn lengths_fit(
     n: usize,
@@ -138,17 +163,7 @@ fn lengths_fit(
 ) -> bool
     ensures { λ r. ⌜ r ≡ lengthsFit (asHalfedges (now (h .entry))) (now (pos .entry)) (now (normals .entry)) (now (fixed .entry)) (now (t .entry)) (now (current .entry)) (now (desired .entry)) n p ⌝ }
 {
-    let points = common::both(
-        common::both(
-            mesh::has_length(h.len(), n, mesh::HALFEDGE_STRIDE),
-            mesh::has_length(pos.len(), p, 3),
-        ),
-        mesh::has_length(normals.len(), p, 3),
-    );
-    let lists = common::both(
-        common::both(points, mesh::has_length(fixed.len(), n, 1)),
-        mesh::has_length(t.len(), n, 4),
-    );
+    let lists = lists_fit(n, p, h, pos, normals, fixed, t);
     common::both(
         common::both(lists, mesh::has_length(current.len(), n, 1)),
         mesh::has_length(desired.len(), n, 1),
@@ -175,7 +190,7 @@ fn check_lists(
 }
 
 // The answer with the counts, or the refusal with its number and place.
-fn answer(checked: Checked, counts: Counts) -> Spreading
+pub fn answer(checked: Checked, counts: Counts) -> Spreading
     ensures { λ r. ⌜ r ≡ answerOf checked (counts .looked) (counts .turned) ⌝ }
 {
     match checked {

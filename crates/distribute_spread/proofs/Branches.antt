@@ -1,11 +1,13 @@
 -- Each way that a step of spreading goes, as a lemma: what a proof of code cites, and what the laws of the walks go by.
-use mathlib.Core.Path.{_≡_, refl}
-use mathlib.Core.Bool.{Bool, true, false}
+use mathlib.Core.Path.{_≡_, refl, sym, ap, _∙_}
+use mathlib.Core.Bool.{Bool, true, false, true≢false}
 use mathlib.Core.List.{List, [], _∷_}
-use Prim.Native.Nat.{ℕ, suc}
+use Prim.Native.Nat.{ℕ, suc, _-_, _≤_, _<_}
+use native.Mathlib.Omega.{arith}
 use lib.Dec.{eqb}
 use Rattle.distribute_spread.specs.Steps.{Steps}
-use Rattle.distribute_spread.specs.Spread.{Found, State, marked, firstWalk, turnAt, secondWalk, walksFrom, spreadFrom, spreadOn, handedIn, fixedFrom, pass}
+use Rattle.distribute_spread.specs.Spread.{Found, State, marked, firstWalk, turnAt, secondWalk, walksFrom, spreadFrom, spreadAt, spreadOn, handedIn, fixedFrom, pass}
+use Rattle.distribute_spread.proofs.Places.{isStop, stop-is}
 
 -- ---- the first walk
 
@@ -117,6 +119,47 @@ module _ (S : Steps) (start : ℕ) (st : State S) where
   unfolding spreadFrom
   from-unmarked e = rw (e, spreadFrom)
 
+-- ---- one turn of the loop over the halfedges
+
+module _ (S : Steps) (start : ℕ) (st : State S) where
+  open Steps S using (n, fixed, turnsNone, plan)
+
+  pub at-fixed : fixed start ≡ true → spreadAt S start st ≡ spreadFrom S start st
+  unfolding spreadAt
+  at-fixed f = rw f
+
+  pub at-other : fixed start ≡ false → spreadAt S start st ≡ st
+  unfolding spreadAt
+  at-other f = rw f
+
+  -- not fixed, or marked: passed over
+  pub at-none : isStop S (st .tangents) start ≡ false → spreadAt S start st ≡ st
+  at-none d = go (fixed start) (marked S (st .tangents) start) refl refl
+    where
+      go : (a b : Bool) → fixed start ≡ a → marked S (st .tangents) start ≡ b → spreadAt S start st ≡ st
+      go false b f m = at-other f
+      go true true f m = at-fixed f ∙ from-marked S start st m
+      go true false f m = absurd (true≢false (sym f ∙ (rw m at d)))
+
+  -- a start, from which the first walk found f
+  module _ (d : isStop S (st .tangents) start ≡ true) (f : Found S) (e : f ≡ foundFrom S start st) where
+    walks : spreadAt S start st ≡ walksFrom S start st
+    walks =
+        let q = stop-is S (st .tangents) start d in
+        at-fixed (q .0) ∙ from-unmarked S start st (q .1)
+
+    none-is : {b : Bool} → turnsNone (f .gathered) ≡ b → turnsNone (foundFrom S start st .gathered) ≡ b
+    none-is t = ap (λ (x : Found S). turnsNone (x .gathered)) (sym e) ∙ t
+
+    pub at-first : turnsNone (f .gathered) ≡ true → spreadAt S start st ≡ withLooked S st (f .looked)
+    at-first t = walks ∙ walks-first S start st (none-is t) ∙ ap (λ (x : Found S). withLooked S st (x .looked)) (sym e)
+
+    pub at-both : turnsNone (f .gathered) ≡ false
+        → spreadAt S start st ≡ secondWalk S (suc n) start start (plan start (f .last) (f .gathered)) (withLooked S st (f .looked))
+    at-both t =
+        walks ∙ walks-both S start st (none-is t)
+        ∙ ap (λ (x : Found S). secondWalk S (suc n) start start (plan start (x .last) (x .gathered)) (withLooked S st (x .looked))) (sym e)
+
 -- ---- a list of starts
 
 module _ (S : Steps) where
@@ -158,3 +201,27 @@ module _ (S : Steps) where
 
   pub pass-over : (k i : ℕ) (st : State S) → fixed i ≡ false → passOn (suc k) i st ≡ passOn k (suc i) st
   pass-over k i st e = rw (fixed-later k i e)
+
+  pub pass-at : (k i : ℕ) (st : State S) → passOn (suc k) i st ≡ passOn k (suc i) (spreadAt S i st)
+  pass-at k i st = go (fixed i) refl
+    where
+      go : (b : Bool) → fixed i ≡ b → passOn (suc k) i st ≡ passOn k (suc i) (spreadAt S i st)
+      go true f = pass-start k i st f ∙ ap (passOn k (suc i)) (sym (at-fixed S i st f))
+      go false f = pass-over k i st f ∙ ap (passOn k (suc i)) (sym (at-other S i st f))
+
+  -- before the halfedge i: what is left of the pass over ts gives the whole
+  abbrev pub PassLeft : Tangents → ℕ → State S → Type 0
+  PassLeft ts i st = passOn (n - i) i st ≡ pass S ts
+
+  pub left-all : (ts : Tangents) → PassLeft ts 0 (handedIn S ts)
+  left-all ts = rw (let z : n - 0 ≡ n = omega arith in z) (sym (pass-all ts))
+
+  pub left-next : (ts : Tangents) (i : ℕ) (st : State S) → i < n → PassLeft ts i st → PassLeft ts (suc i) (spreadAt S i st)
+  left-next ts i st l e =
+      let left : n - i ≡ suc (n - suc i) = omega arith in
+      sym (pass-at (n - suc i) i st) ∙ (rw left at e)
+
+  pub left-none : (ts : Tangents) (i : ℕ) (st : State S) → n ≤ i → PassLeft ts i st → st ≡ pass S ts
+  left-none ts i st l e =
+      let none : n - i ≡ 0 = omega arith in
+      sym (pass-end i st) ∙ (rw none at e)

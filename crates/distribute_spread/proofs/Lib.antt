@@ -5,6 +5,7 @@ pub mod Sublists
 pub mod Turns
 pub mod Places
 pub mod Walks
+pub mod Bodies
 pub mod Guards
 pub mod Starts
 pub mod Own

@@ -3,7 +3,7 @@ use mathlib.Core.Path.{_≡_, refl, sym, ap, _∙_, subst}
 use mathlib.Core.Bool.{Bool, true, false, true≢false}
 use mathlib.Core.List.{List, [], _∷_, reverseAux}
 use mathlib.Core.Logic.{_≢_, _⊎_, inl, inr}
-use Prim.Native.Nat.{ℕ, _+_, _*_, _≤_, _<_}
+use Prim.Native.Nat.{ℕ, suc, _+_, _*_, _≤_, _<_}
 use native.Mathlib.Nat.{le-trans, le-antisymm, zero-mul, mul-zero}
 use native.Mathlib.Decide.{ℕ-discrete}
 use native.Mathlib.Omega.{arith}
@@ -12,10 +12,12 @@ use Rattle.cycles.specs.Count.{delta, count, _∈_, Exactly}
 use Rattle.cycles.proofs.Count.{sum, sum-ext, sum-le, sum-one, delta-equal, delta-other, total, Below, total-count, total-some, exactly, total-has, total-le, total-length, count-reverse, zero-or-more}
 use Rattle.cycles.proofs.Orbits.{iter-below, path-apart, path-index, sole-stop, stop-before, reaches-back}
 use Rattle.distribute_spread.specs.Steps.{Steps, Lawful}
-use Rattle.distribute_spread.specs.Spread.{State, marked, spreadFrom, spreadOn, handedIn, spread, fixedFrom, pass}
+use Rattle.distribute_spread.specs.Spread.{State, spreadFrom, spreadAt, spreadOn, handedIn, spread, fixedFrom, pass}
 use Rattle.distribute_spread.specs.Order.{NamesFixed, FixedUnmarked, Touched, Sole, WasTurned, OrderFree}
-use Rattle.distribute_spread.proofs.Places.{isStop}
-use Rattle.distribute_spread.proofs.Starts.{looksOf, turnsOf, afterStart, looks-of, looks-unmarked, turns-looks, turns-fixed, looks-below, looks-once, turns-below, StartDoes, start-does}
+use Rattle.distribute_spread.proofs.Branches.{at-fixed, at-other, PassLeft, left-all, left-next, left-none}
+use Rattle.distribute_spread.proofs.Turns.{SameMarks, SameCounts, onTangents}
+use Rattle.distribute_spread.proofs.Places.{isStop, stop-is}
+use Rattle.distribute_spread.proofs.Starts.{looksOf, turnsOf, afterStart, looks-of, looks-unmarked, turns-looks, turns-fixed, looks-below, looks-once, turns-below, Untouched, StartDoes, start-does, from-same}
 use Rattle.distribute_spread.proofs.Own.{own}
 
 module _ {S : Steps} (L : Lawful S) (ts : S .Tangents) (whole : L .Whole ts) where
@@ -23,10 +25,10 @@ module _ {S : Steps} (L : Lawful S) (ts : S .Tangents) (whole : L .Whole ts) whe
   open Lawful L using (permutes, Whole)
 
   -- a list of fixed halfedges, none of them twice
-  record Listed (l : List ℕ) : Type 0 where
-    below : Below n l
-    flag : (s : ℕ) → s ∈ l → fixed s ≡ true
-    once : (s : ℕ) → count s l ≤ 1
+  pub record Listed (l : List ℕ) : Type 0 where
+    pub below : Below n l
+    pub flag : (s : ℕ) → s ∈ l → fixed s ≡ true
+    pub once : (s : ℕ) → count s l ≤ 1
 
   -- the walks of two fixed halfedges have no halfedge in common
   looks-apart : (s r e : ℕ) → s < n → r < n → fixed s ≡ true → fixed r ≡ true → e ∈ looksOf S ts s → e ∈ looksOf S ts r → s ≡ r
@@ -37,14 +39,14 @@ module _ {S : Steps} (L : Lawful S) (ts : S .Tangents) (whole : L .Whole ts) whe
 
   -- ---- what holds once the starts of a list have been taken, in whatever order
 
-  record After (l : List ℕ) (st : State S) : Type 0 where
-    looked : st .looked ≡ total l (λ s. length (looksOf S ts s))
-    turned : st .turned ≡ total l (λ s. length (turnsOf S ts s))
-    places : (e : ℕ) → count e (st .places) ≡ total l (λ s. count e (turnsOf S ts s))
-    is-whole : Whole (st .tangents)
-    weights : (e : ℕ) → weight (read (st .tangents) e) ≡ weight (read ts e)
-    kept : (e : ℕ) → total l (λ s. count e (turnsOf S ts s)) ≡ 0 → read (st .tangents) e ≡ read ts e
-    value : (s e : ℕ) → s ∈ l → e ∈ turnsOf S ts s → read (st .tangents) e ≡ read (afterStart S ts s (handedIn S ts) .tangents) e
+  pub record After (l : List ℕ) (st : State S) : Type 0 where
+    pub looked : st .looked ≡ total l (λ s. length (looksOf S ts s))
+    pub turned : st .turned ≡ total l (λ s. length (turnsOf S ts s))
+    pub places : (e : ℕ) → count e (st .places) ≡ total l (λ s. count e (turnsOf S ts s))
+    pub is-whole : Whole (st .tangents)
+    pub weights : (e : ℕ) → weight (read (st .tangents) e) ≡ weight (read ts e)
+    pub kept : (e : ℕ) → total l (λ s. count e (turnsOf S ts s)) ≡ 0 → read (st .tangents) e ≡ read ts e
+    pub value : (s e : ℕ) → s ∈ l → e ∈ turnsOf S ts s → read (st .tangents) e ≡ read (afterStart S ts s (handedIn S ts) .tangents) e
 
   after-none : After [] (handedIn S ts)
   unfolding total count
@@ -58,64 +60,76 @@ module _ {S : Steps} (L : Lawful S) (ts : S .Tangents) (whole : L .Whole ts) whe
     value = λ s e h. absurd (omega arith);
   }
 
-  after-one : (s : ℕ) (l : List ℕ) (st : State S) → Listed (s ∷ l) → After l st → After (s ∷ l) (spreadFrom S s st)
-  unfolding total count
-  after-one s l st ok a = record {
-    looked = omega (arith, d .looked, a .looked);
-    turned = omega (arith, d .turning .turned, a .turned);
-    places = λ e. omega (arith, d .turning .places e, a .places e);
-    is-whole = d .whole;
-    weights = λ e. d .turning .weights e ∙ a .weights e;
-    kept = λ e h. d .turning .kept e (omega arith) ∙ a .kept e (omega arith);
-    value = λ r e hr he. by-start (ℕ-discrete r s) e hr he;
-  }
-    where
-      s-here : s ∈ (s ∷ l)
-      s-here = omega (arith, delta-equal s s refl)
+  module _ (s : ℕ) (l : List ℕ) (st : State S) (ok : Listed (s ∷ l)) (a : After l st) where
+    s-here : s ∈ (s ∷ l)
+    unfolding count
+    s-here = omega (arith, delta-equal s s refl)
 
-      s-new : count s l ≡ 0
-      s-new = omega (arith, ok .once s, delta-equal s s refl)
+    s-new : count s l ≡ 0
+    unfolding count
+    s-new = omega (arith, ok .once s, delta-equal s s refl)
 
-      s-below : s < n
-      s-below = ok .below s s-here
+    s-below : s < n
+    s-below = ok .below s s-here
 
-      s-fixed : fixed s ≡ true
-      s-fixed = ok .flag s s-here
+    s-fixed : fixed s ≡ true
+    s-fixed = ok .flag s s-here
 
-      later : (r : ℕ) → r ∈ l → r ∈ (s ∷ l)
-      later r h = omega arith
+    later : (r : ℕ) → r ∈ l → r ∈ (s ∷ l)
+    unfolding count
+    later r h = omega arith
 
-      -- a start taken before turned nothing that the new one steps onto
-      clash : (r e : ℕ) → r ∈ l → e ∈ turnsOf S ts r → e ∈ looksOf S ts s → ⊥
-      clash r e hr he h =
-          let q : r ≡ s = looks-apart r s e (ok .below r (later r hr)) s-below (ok .flag r (later r hr)) s-fixed (le-trans he (turns-looks S ts r e)) h in
-          let z : s ∈ l = rw q at hr in
-          omega (arith, s-new)
+    -- a start taken before turned nothing that the new one steps onto
+    clash : (r e : ℕ) → r ∈ l → e ∈ turnsOf S ts r → e ∈ looksOf S ts s → ⊥
+    clash r e hr he h =
+        let q : r ≡ s = looks-apart r s e (ok .below r (later r hr)) s-below (ok .flag r (later r hr)) s-fixed (le-trans he (turns-looks S ts r e)) h in
+        let z : s ∈ l = rw q at hr in
+        omega (arith, s-new)
 
-      untouched : (e : ℕ) → ((r : ℕ) → r ∈ l → e ∈ turnsOf S ts r → ⊥) → read (st .tangents) e ≡ read ts e
-      untouched e h = go (zero-or-more (total l (λ r. count e (turnsOf S ts r))))
-        where
-          go : (total l (λ r. count e (turnsOf S ts r)) ≡ 0) ⊎ (1 ≤ total l (λ r. count e (turnsOf S ts r))) → read (st .tangents) e ≡ read ts e
-          go (inl z) = a .kept e z
-          go (inr p) = let w = total-some l (λ r. count e (turnsOf S ts r)) p in absurd (h (w .0) (w .1) (w .2))
+    as-handed-in : (e : ℕ) → ((r : ℕ) → r ∈ l → e ∈ turnsOf S ts r → ⊥) → read (st .tangents) e ≡ read ts e
+    as-handed-in e h = go (zero-or-more (total l (λ r. count e (turnsOf S ts r))))
+      where
+        go : (total l (λ r. count e (turnsOf S ts r)) ≡ 0) ⊎ (1 ≤ total l (λ r. count e (turnsOf S ts r))) → read (st .tangents) e ≡ read ts e
+        go (inl z) = a .kept e z
+        go (inr p) = let w = total-some l (λ r. count e (turnsOf S ts r)) p in absurd (h (w .0) (w .1) (w .2))
 
-      d : StartDoes L ts s s-below s-fixed st (spreadFrom S s st)
-      d = start-does L ts s s-below s-fixed whole st (a .is-whole) (λ e. ap isMark (a .weights e)) record {
-        start-same = untouched s (λ r hr he. let q : s ≡ r = turns-fixed S ts r s he s-fixed in let z : s ∈ l = rw (← q) at hr in omega (arith, s-new));
-        looks-same = λ e h. untouched e (λ r hr he. clash r e hr he h);
-      }
+    -- so its walks read no tangent that another start's walks wrote
+    untouched : Untouched S ts s st
+    untouched = record {
+      start-same = as-handed-in s (λ r hr he. let q : s ≡ r = turns-fixed S ts r s he s-fixed in let z : s ∈ l = rw (← q) at hr in omega (arith, s-new));
+      looks-same = λ e h. as-handed-in e (λ r hr he. clash r e hr he h);
+    }
 
-      by-start : {r : ℕ} → Dec (r ≡ s) → (e : ℕ) → 1 ≤ delta r s + count r l → e ∈ turnsOf S ts r
-          → read (spreadFrom S s st .tangents) e ≡ read (afterStart S ts r (handedIn S ts) .tangents) e
-      by-start {r} (yes q) e hr he = rw q (d .value e (rw q at he))
-      by-start {r} (no q) e hr he = go (zero-or-more (count e (turnsOf S ts s)))
-        where
-          hr′ : r ∈ l
-          hr′ = omega (arith, delta-other r s q)
+    marks : SameMarks S ts (st .tangents)
+    marks e = ap isMark (a .weights e)
 
-          go : (count e (turnsOf S ts s) ≡ 0) ⊎ (e ∈ turnsOf S ts s) → read (spreadFrom S s st .tangents) e ≡ read (afterStart S ts r (handedIn S ts) .tangents) e
-          go (inl z) = d .turning .kept e z ∙ a .value r e hr′ he
-          go (inr p) = absurd (clash r e hr′ he (le-trans p (turns-looks S ts s e)))
+    does : StartDoes L ts s s-below s-fixed st (spreadFrom S s st)
+    does = start-does L ts s s-below s-fixed whole st (a .is-whole) marks untouched
+
+    by-start : {r : ℕ} → Dec (r ≡ s) → (e : ℕ) → r ∈ (s ∷ l) → e ∈ turnsOf S ts r
+        → read (spreadFrom S s st .tangents) e ≡ read (afterStart S ts r (handedIn S ts) .tangents) e
+    unfolding count
+    by-start {r} (yes q) e hr he = rw q (does .value e (rw q at he))
+    by-start {r} (no q) e hr he = go (zero-or-more (count e (turnsOf S ts s)))
+      where
+        hr′ : r ∈ l
+        hr′ = omega (arith, delta-other r s q)
+
+        go : (count e (turnsOf S ts s) ≡ 0) ⊎ (e ∈ turnsOf S ts s) → read (spreadFrom S s st .tangents) e ≡ read (afterStart S ts r (handedIn S ts) .tangents) e
+        go (inl z) = does .turning .kept e z ∙ a .value r e hr′ he
+        go (inr p) = absurd (clash r e hr′ he (le-trans p (turns-looks S ts s e)))
+
+    after-one : After (s ∷ l) (spreadFrom S s st)
+    unfolding total count
+    after-one = record {
+      looked = omega (arith, does .looked, a .looked);
+      turned = omega (arith, does .turning .turned, a .turned);
+      places = λ e. omega (arith, does .turning .places e, a .places e);
+      is-whole = does .whole;
+      weights = λ e. does .turning .weights e ∙ a .weights e;
+      kept = λ e h. does .turning .kept e (omega arith) ∙ a .kept e (omega arith);
+      value = λ r e hr he. by-start (ℕ-discrete r s) e hr he;
+    }
 
   listed-head : (s : ℕ) (hs l : List ℕ) → Listed (reverseAux hs (s ∷ l)) → Listed (s ∷ l)
   listed-head s hs l ok = record {
@@ -131,6 +145,81 @@ module _ {S : Steps} (L : Lawful S) (ts : S .Tangents) (whole : L .Whole ts) whe
   unfolding spreadOn
   after-all [] l st ok a = a
   after-all (s ∷ hs) l st ok a = after-all hs (s ∷ l) (spreadFrom S s st) ok (after-one s l st (listed-head s hs l ok) a)
+
+  -- ---- the unit's own pass, halfedge by halfedge
+
+  -- it has come to the halfedge i, with the state st
+  pub record PassAt (i : ℕ) (st : State S) : Type 0 where
+    pub taken : List ℕ
+    pub listed : Listed taken
+    pub earlier : Below i taken
+    pub after : After taken st
+    pub left : PassLeft S ts i st
+
+  pub pass-begin : PassAt 0 (handedIn S ts)
+  unfolding count
+  pass-begin = record {
+    taken = [];
+    listed = record { below = λ s h. absurd (omega arith); flag = λ s h. absurd (omega arith); once = λ s. omega arith };
+    earlier = λ s h. absurd (omega arith);
+    after = after-none;
+    left = left-all S ts;
+  }
+
+  module _ {i : ℕ} {st : State S} (w : PassAt i st) (b : i < n) where
+    more : fixed i ≡ true → Listed (i ∷ w .taken)
+    unfolding count
+    more f = record {
+      below = λ s h. at s (ℕ-discrete s i) h (λ q. rw q b) (w .listed .below s);
+      flag = λ s h. at s (ℕ-discrete s i) h (λ q. rw q f) (w .listed .flag s);
+      once = λ s. go s (ℕ-discrete s i) (zero-or-more (count s (w .taken)));
+    }
+      where
+        at : {P : Type 0} (s : ℕ) → Dec (s ≡ i) → s ∈ (i ∷ w .taken) → (s ≡ i → P) → (s ∈ w .taken → P) → P
+        at s (yes q) h here there = here q
+        at s (no q) h here there = there (omega (arith, delta-other s i q))
+
+        go : (s : ℕ) → Dec (s ≡ i) → (count s (w .taken) ≡ 0) ⊎ (s ∈ w .taken) → count s (i ∷ w .taken) ≤ 1
+        go s (no q) z = omega (arith, delta-other s i q, w .listed .once s)
+        go s (yes q) (inl z) = omega (arith, delta-equal s i q)
+        go s (yes q) (inr p) = absurd (omega (arith, w .earlier s p))
+
+    pub pass-next : PassAt (suc i) (spreadAt S i st)
+    unfolding count
+    pass-next = go (fixed i) refl
+      where
+        go : (c : Bool) → fixed i ≡ c → PassAt (suc i) (spreadAt S i st)
+        go true f = record {
+          taken = i ∷ w .taken;
+          listed = more f;
+          earlier = λ s h. at s (ℕ-discrete s i) h;
+          after = rw (at-fixed S i st f) (after-one i (w .taken) st (more f) (w .after));
+          left = left-next S ts i st b (w .left);
+        }
+          where
+            at : (s : ℕ) → Dec (s ≡ i) → s ∈ (i ∷ w .taken) → s < suc i
+            at s (yes q) h = omega arith
+            at s (no q) h = omega (arith, w .earlier s (omega (arith, delta-other s i q)))
+        go false f = record {
+          taken = w .taken;
+          listed = w .listed;
+          earlier = λ s h. omega (arith, w .earlier s h);
+          after = rw (at-other S i st f) (w .after);
+          left = left-next S ts i st b (w .left);
+        }
+
+    -- what a start does to the counts and the places, it does to them on the tangents handed in
+    pub pass-apart : SameCounts S (spreadAt S i st) (spreadAt S i (onTangents S ts st))
+    pass-apart = go (fixed i) refl
+      where
+        go : (c : Bool) → fixed i ≡ c → SameCounts S (spreadAt S i st) (spreadAt S i (onTangents S ts st))
+        go true f =
+            rw (at-fixed S i st f, at-fixed S i (onTangents S ts st) f)
+            (from-same L ts i b f whole st (w .after .is-whole) (marks i (w .taken) st (more f) (w .after)) (untouched i (w .taken) st (more f) (w .after)))
+        go false f = rw (at-other S i st f, at-other S i (onTangents S ts st) f) record { looked = refl; turned = refl; places = refl }
+
+  pub pass-end : {i : ℕ} {st : State S} → PassAt i st → n ≤ i → st ≡ pass S ts
+  pass-end {i} {st} w l = left-none S ts i st l (w .left)
 
   -- ---- what a list that names all fixed halfedges comes to
 
@@ -197,16 +286,9 @@ module _ {S : Steps} (L : Lawful S) (ts : S .Tangents) (whole : L .Whole ts) whe
         let ld : d < n = subst (λ (x : ℕ). x < n) (r .1) (iter-below permutes (r .0) e le) in
         let o = stop-before permutes (isStop S ts) d ld (rw (c .1) (c .0)) e (reaches-back permutes e le d r) in
         let s : ℕ = o .0 in
-        let p = stop-parts s (o .2) in
+        let p = stop-is S ts s (o .2) in
         let m : e ∈ looksOf S ts s = rw (looks-of S ts s (p .1)) (o .3) in
         le-trans m (total-has l (λ r. count e (looksOf S ts r)) s (omega (arith, names .each s (o .1) (p .0))))
-      where
-        stop-parts : (s : ℕ) → isStop S ts s ≡ true → FixedUnmarked S ts s
-        stop-parts s h = go (marked S ts s) refl
-          where
-            go : (b : Bool) → marked S ts s ≡ b → FixedUnmarked S ts s
-            go true m = absurd (true≢false (sym h ∙ rw m))
-            go false m = (rw m at h, m)
 
     module _ (st : State S) (a : After l st) where
       looked-sum : st .looked ≡ sum n looksAt
@@ -292,6 +374,9 @@ module _ {S : Steps} (L : Lawful S) (ts : S .Tangents) (whole : L .Whole ts) whe
     same-turned : st .turned ≡ sv .turned
     same-turned = a .turned ∙ same-total (λ s. length (turnsOf S ts s)) ∙ sym (b .turned)
 
+    same-places : (e : ℕ) → count e (st .places) ≡ count e (sv .places)
+    same-places e = a .places e ∙ same-total (λ s. count e (turnsOf S ts s)) ∙ sym (b .places e)
+
     same-tangents : st .tangents ≡ sv .tangents
     same-tangents = L .same-tangents (st .tangents) (sv .tangents) (a .is-whole) (b .is-whole) (λ e le. by e (zero-or-more (total l (λ s. count e (turnsOf S ts s)))))
       where
@@ -323,6 +408,7 @@ module _ {S : Steps} (L : Lawful S) (ts : S .Tangents) (whole : L .Whole ts) whe
     tangents-same = same-tangents l l₀ f f₀ st st₀ a a₀;
     looked-same = same-looked l l₀ f f₀ st st₀ a a₀;
     turned-same = same-turned l l₀ f f₀ st st₀ a a₀;
+    places-same = same-places l l₀ f f₀ st st₀ a a₀;
     looked-is = looked-exactly l₀ f₀ st₀ a₀;
     turned-is = rw (← same-turned l l₀ f f₀ st st₀ a a₀) (turned-exactly l f st a);
     turned-at-most = turned-looked l₀ f₀ st₀ a₀;

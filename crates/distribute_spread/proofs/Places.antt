@@ -1,7 +1,7 @@
 -- The places of both walks, as three lists, each a sublist of the next: `turnPlaces` are the halfedges that the second walk turns, `gatherPlaces` those whose
 -- tangents the first one gathers, `lookPlaces` those that it steps onto. The marks are those of the tangents `ts`.
-use mathlib.Core.Path.{_≡_, refl, ap, _∙_}
-use mathlib.Core.Bool.{Bool, true, false, not, _&&_, _||_}
+use mathlib.Core.Path.{_≡_, refl, sym, ap, _∙_}
+use mathlib.Core.Bool.{Bool, true, false, true≢false, not, _&&_, _||_}
 use mathlib.Core.List.{List, [], _∷_}
 use Prim.Native.Nat.{ℕ, zero, suc}
 use lib.Dec.{eqb}
@@ -9,7 +9,12 @@ use Rattle.cycles.specs.Walk.{path}
 use Rattle.cycles.proofs.Paths.{path-on, path-last}
 use Rattle.distribute_spread.specs.Steps.{Steps}
 use Rattle.distribute_spread.specs.Spread.{marked}
+use Rattle.distribute_spread.specs.Order.{FixedUnmarked}
 use Rattle.distribute_spread.proofs.Sublists.{Sublist, none, keep, select, select-nil, select-yes, select-no, select-sublist}
+
+pub and-split : (a b : Bool) → not a && b ≡ true → (b ≡ true) × (a ≡ false)
+and-split true b e = absurd (true≢false (sym e))
+and-split false b e = (e, refl)
 
 module _ (S : Steps) (ts : S .Tangents) where
   open Steps S using (step, fixed)
@@ -24,6 +29,9 @@ module _ (S : Steps) (ts : S .Tangents) where
   -- the second one ends at a fixed halfedge, and turns no fixed one but the start
   abbrev pub isTurned : ℕ → ℕ → Bool
   isTurned start e = unmarked e && (not (fixed e) || eqb e start)
+
+  pub stop-is : (e : ℕ) → isStop e ≡ true → FixedUnmarked S ts e
+  stop-is e d = and-split (marked S ts e) (fixed e) d
 
   -- with k steps to go, from `here` on
   abbrev pub lookPlaces : ℕ → ℕ → List ℕ

@@ -16,7 +16,7 @@ use Rattle.distribute_spread.specs.Steps.{Steps, Lawful}
 use Rattle.distribute_spread.specs.Spread.{Found, State, marked, secondWalk, spreadFrom, handedIn}
 use Rattle.distribute_spread.proofs.Branches.{foundFrom, withLooked, walks-first, walks-both, from-marked, from-unmarked}
 use Rattle.distribute_spread.proofs.Sublists.{Sublist, none, sublist-count, sublist-length, sublist-trans, select-passes}
-use Rattle.distribute_spread.proofs.Turns.{SameMarks, turnAll, Turning, all-whole, all-turning, all-same}
+use Rattle.distribute_spread.proofs.Turns.{SameMarks, SameCounts, onTangents, turnAll, all-counts, Turning, all-whole, all-turning, all-same}
 use Rattle.distribute_spread.proofs.Places.{isStop, isTurned, lookPlaces, gatherPlaces, turnPlaces, gathers-looks, turns-gathers}
 use Rattle.distribute_spread.proofs.Walks.{gatherAll, gather-same, foundBy, first-is, second-is}
 
@@ -113,6 +113,16 @@ module _ {S : Steps} (L : Lawful S) (ts : S .Tangents) (s : ℕ) (s-below : s < 
           ∙ ap (λ (r : Found S). secondWalk S (suc n) s s (plan s (r .last) (r .gathered)) (withLooked S st (r .looked))) f
           ∙ second-is S ts L s s-fixed (suc n) s (planOf S ts s) (withLooked S st (length (lookPlaces S ts (suc n) s) + st .looked)) s-below w same
           ∙ rw (m, qe) refl
+
+  -- so the counts and places do not depend on what other starts wrote: they are those of the start on the tangents handed in
+  pub from-same : Whole ts → (st : State S) → Whole (st .tangents) → SameMarks S ts (st .tangents) → Untouched S ts s st
+      → SameCounts S (spreadFrom S s st) (spreadFrom S s (onTangents S ts st))
+  from-same v st w same un =
+      rw (from-is st w same un, from-is (onTangents S ts st) v (λ e. refl) (record { start-same = refl; looks-same = λ e h. refl }))
+      (all-counts S (turnsOf S ts s) (planOf S ts s) (withLooked S st looks) (withLooked S (onTangents S ts st) looks) (record { looked = refl; turned = refl; places = refl }))
+    where
+      looks : ℕ
+      looks = length (looksOf S ts s) + st .looked
 
   pub looks-below : Below n (looksOf S ts s)
   looks-below e h =

@@ -1,7 +1,7 @@
 -- A list of tangents turned one after the other: what changes, what stays, and what it depends on.
 use mathlib.Core.Path.{_≡_, refl, ap, _∙_}
 use mathlib.Core.List.{List, [], _∷_}
-use Prim.Native.Nat.{ℕ, _+_, _<_}
+use Prim.Native.Nat.{ℕ, suc, _+_, _<_}
 use native.Mathlib.Decide.{ℕ-discrete}
 use native.Mathlib.Omega.{arith}
 use lib.ListN.{length}
@@ -14,10 +14,28 @@ use Rattle.distribute_spread.specs.Spread.{State, marked, turnAt}
 abbrev pub SameMarks : (S : Steps) → S .Tangents → S .Tangents → Type 0
 SameMarks S ts u = (e : ℕ) → marked S u e ≡ marked S ts e
 
+-- two states with the same counts and places, whatever their tangents
+pub record SameCounts (S : Steps) (st sv : State S) : Type 0 where
+  pub looked : st .looked ≡ sv .looked
+  pub turned : st .turned ≡ sv .turned
+  pub places : st .places ≡ sv .places
+
+-- the state with other tangents
+abbrev pub onTangents : (S : Steps) → S .Tangents → State S → State S
+onTangents S ts st = record { tangents = ts; looked = st .looked; turned = st .turned; places = st .places }
+
 -- the halfedges of a list turned in order, each at the next angle
 unfoldable pub turnAll : (S : Steps) → List ℕ → S .Plan → State S → State S
 turnAll S [] p st = st
 turnAll S (c ∷ cs) p st = turnAll S cs (S .next p) (turnAt S c p st)
+
+-- the counts and places that come of it do not depend on the tangents
+pub all-counts : (S : Steps) (cs : List ℕ) (p : S .Plan) (st sv : State S) → SameCounts S st sv → SameCounts S (turnAll S cs p st) (turnAll S cs p sv)
+unfolding turnAll
+all-counts S [] p st sv c = c
+all-counts S (e ∷ cs) p st sv c =
+    all-counts S cs (S .next p) (turnAt S e p st) (turnAt S e p sv)
+    (record { looked = c .looked; turned = ap suc (c .turned); places = ap (λ (l : List ℕ). e ∷ l) (c .places) })
 
 -- what the halfedges `cs`, turned, make of the state st
 pub record Turning (S : Steps) (cs : List ℕ) (st after : State S) : Type 0 where

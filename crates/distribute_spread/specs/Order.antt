@@ -7,7 +7,7 @@ use Prim.Native.Nat.{ℕ, suc, _+_, _≤_, _<_}
 use Rattle.cycles.specs.Count.{count, _∈_, Exactly}
 use Rattle.cycles.specs.Walk.{Reaches}
 use Rattle.distribute_spread.specs.Steps.{Steps}
-use Rattle.distribute_spread.specs.Spread.{State, marked, firstWalk, secondWalk, spread}
+use Rattle.distribute_spread.specs.Spread.{State, marked, firstWalk, secondWalk, spread, pass}
 
 module _ (S : Steps) where
   open Steps S using (Tangents, Tangent, Gathered, Plan, n, step, fixed, read, weight, begin, gather)
@@ -42,6 +42,8 @@ module _ (S : Steps) where
     pub tangents-same : spread S starts ts .tangents ≡ after
     pub looked-same : spread S starts ts .looked ≡ looked
     pub turned-same : spread S starts ts .turned ≡ turned
+    -- the halfedges turned are those of the unit's own pass
+    pub places-same : (e : ℕ) → count e (spread S starts ts .places) ≡ count e (pass S ts .places)
     -- looked is the number of halfedges in rounds that hold a fixed, unmarked halfedge
     pub looked-is : Exactly (Touched ts) n looked
     -- turned is the number of halfedges turned, at most looked

@@ -1,5 +1,5 @@
 -- Spreading: `distribute_tangents` of src/smoothing_tangents.rs, step by step, on a list of starts. Both walks go by fuel n + 1, which is the Rust's guard.
-use mathlib.Core.Bool.{Bool, true, false, not, _&&_}
+use mathlib.Core.Bool.{Bool, true, false, cond, not, _&&_}
 use mathlib.Core.List.{List, [], _∷_}
 use Prim.Native.Nat.{ℕ, zero, suc}
 use lib.Dec.{eqb}
@@ -80,6 +80,10 @@ module _ (S : Steps) where
   unfoldable pub spreadFrom : ℕ → State S → State S
   unfolding walksFrom
   spreadFrom start st = elim (marked (st .tangents) start) [ true ↦ st | false ↦ walksFrom start st ]
+
+  -- one turn of the Rust's loop over the halfedges: one that is not fixed is no start
+  unfoldable pub spreadAt : ℕ → State S → State S
+  spreadAt e st = cond (fixed e) (spreadFrom e st) st
 
   -- a list of starts, each on what the last one left
   unfoldable pub spreadOn : List ℕ → State S → State S

@@ -1,5 +1,5 @@
 -- The angles stand in the first places of the scratch lists: what the definitions say of the first k numbers of a list, the code reads in the list itself.
-use mathlib.Core.Path.{_≡_, refl, ap}
+use mathlib.Core.Path.{_≡_, refl, sym, ap, _∙_}
 use mathlib.Core.Bool.{Bool, true, false, cond}
 use mathlib.Core.List.{List}
 use Prim.Native.Nat.{ℕ, zero, suc, _+_, _-_, _≤_, _<_}
@@ -13,12 +13,11 @@ use lib.Ieee.{Float, nan}
 use Rattle.float.specs.Ops.{_⊖_, _⊗_, zero as 0f}
 use Rattle.linalg.specs.declared.Vec3.{Vec3}
 use Rattle.linalg.specs.declared.Vec4.{Vec4}
-use Rattle.linalg.specs.Vec.{add3, crossOf}
 use Rattle.common.specs.Fold.{foldTo}
 use Rattle.mesh.specs.Mesh.{Halfedges}
 use Rattle.smoothing.specs.Directions.{safeNormalize}
 use Rattle.smoothing.specs.Lists.{tangentAt}
-use Rattle.distribute_steps.specs.FloatSteps.{Gathered, begin, lastOr, tangentDirection, nextCurrent, nextDesired, gatherEdge, addOffset, offsetSum, scaleOf, offsetOf, plan, clampAngle, clampedAngle, turnAngle, turnedTangent, turn, next}
+use Rattle.distribute_steps.specs.FloatSteps.{Gathered, begin, lastOr, tangentDirection, nextCurrent, nextDesired, nextNormal, gatherEdge, turnsNone, addOffset, offsetSum, scaleOf, offsetOf, plan, clampAngle, clampedAngle, turnAngle, turnedTangent, turn, next}
 use Rattle.distribute_steps.specs.Scratch.{gatheredOf, directionsAt, planOf}
 use Rattle.distribute_steps.specs.declared.Carried.{Carried}
 use Rattle.distribute_steps.specs.declared.Turning.{Turning}
@@ -72,7 +71,7 @@ pub gather-of : (C D : List Float) (approx edge tangent : Vec3) (back : Bool) (g
     (set D (g .count) (nextDesired edge (g .«last_edge») D (g .count)))
     (record {
       count = g .count + 1;
-      normal = add3 (g .normal) (crossOf tangent (g .«last_tangent»));
+      normal = nextNormal (g .normal) tangent (g .«last_tangent»);
       «last_edge» = edge;
       «first_tangent» = g .«first_tangent»;
       «last_tangent» = tangent;
@@ -83,6 +82,10 @@ gather-of C D approx edge tangent back g p q v is =
     let full : g .count ≤ length D = omega arith in
     let same : g .count ≤ g .count = omega arith in
     rw (is, add-one (g .count), take-suc-set C (g .count) _ p, take-suc-set D (g .count) _ q, length-take-le (g .count) D full, last-take D (g .count) (g .count) 0f same)
+
+-- whether anything is turned, by the number of angles and the sum
+pub turns-none-of : (C : List Float) (k : ℕ) (normal : Vec3) → k ≤ length C → {r b : Bool} → r ≡ turnsNone k normal → r ≡ b → turnsNone (length (take k C)) normal ≡ b
+turns-none-of C k normal l e t = rw (length-take-le k C l) (sym e ∙ t)
 
 -- ---- what the second walk goes by
 

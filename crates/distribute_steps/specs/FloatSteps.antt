@@ -85,12 +85,16 @@ nextCurrent back approx tangent first = cond back two-pi (angleAround approx tan
 unfoldable pub nextDesired : Vec3 → Vec3 → List Float → ℕ → Float
 nextDesired edge lastEdge desired k = angleBetween edge lastEdge ⊕ lastOr desired k zero
 
+-- `normal`, with the cross product of one tangent more
+unfoldable pub nextNormal : Vec3 → Vec3 → Vec3 → Vec3
+nextNormal normal tangent last = add3 normal (crossOf tangent last)
+
 -- an unmarked halfedge with this direction of its edge and this tangent; `back` says that it is the start
 unfoldable pub gatherEdge : Vec3 → Vec3 → Bool → Vec4 → Gathered → Gathered
 gatherEdge approx edge back v g =
     let tangent = tangentDirection v in
     record {
-      normal = add3 (g .normal) (crossOf tangent (g .lastTangent));
+      normal = nextNormal (g .normal) tangent (g .lastTangent);
       currentAngle = g .currentAngle ++ (nextCurrent back approx tangent (g .firstTangent) ∷ []);
       desiredAngle = g .desiredAngle ++ (nextDesired edge (g .lastEdge) (g .desiredAngle) (length (g .desiredAngle)) ∷ []);
       lastEdge = edge;
@@ -103,8 +107,8 @@ abbrev pub gather : Halfedges → List Float → List Float → ℕ → ℕ → 
 gather H P N start current v g = gatherEdge (approxNormal H N start) (edgeDirection H P start current) (eqb current start) v g
 
 -- one angle, or a normal of length 0: nothing is turned
-unfoldable pub turnsNone : Gathered → Bool
-turnsNone g = eqb (length (g .currentAngle)) 1 || eq (dotOf (g .normal) (g .normal)) zero
+unfoldable pub turnsNone : ℕ → Vec3 → Bool
+turnsNone count normal = eqb count 1 || eq (dotOf normal normal) zero
 
 -- ---- the second walk
 
@@ -204,7 +208,7 @@ floatSteps H P N X n = record {
   isMark = isMark;
   begin = begin H P;
   gather = gather H P N;
-  turnsNone = turnsNone;
+  turnsNone = λ g. turnsNone (length (g .currentAngle)) (g .normal);
   plan = plan;
   turn = turn;
   next = next;

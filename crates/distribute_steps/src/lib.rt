@@ -8,7 +8,7 @@ ghost use lib.Ieee.{Float};
 ghost use Rattle.linalg.specs.declared.Vec4.{Vec4};
 ghost use Rattle.mesh.specs.Mesh.{asHalfedges};
 ghost use Rattle.smoothing.specs.Lists.{tangentAt, putTangent};
-ghost use Rattle.distribute_steps.specs.FloatSteps.{isMark, isFixed, isStart, edgeDirection, tangentDirection, lastOr, begin, angleAround, nextCurrent, nextDesired, gatherEdge, turnsNone, addOffset, offsetSum, scaleOf, offsetOf, plan, clampAngle, clampedAngle, turnedTangent, turn, next};
+ghost use Rattle.distribute_steps.specs.FloatSteps.{isMark, isFixed, isStart, edgeDirection, tangentDirection, lastOr, begin, angleAround, nextCurrent, nextDesired, nextNormal, gatherEdge, turnsNone, addOffset, offsetSum, scaleOf, offsetOf, plan, clampAngle, clampedAngle, turnedTangent, turn, next};
 ghost use Rattle.distribute_steps.specs.Scratch.{gatheredOf, planOf, EdgeFrom, GatherRoom, TurnRoom};
 use linalg::Vec3;
 use linalg::Vec4;
@@ -138,6 +138,13 @@ fn next_desired(edge: Vec3, last_edge: Vec3, desired: &[f64], k: usize) -> f64
     smoothing::angle_of_cosine(linalg::dot(edge, last_edge)) + last_or(desired, k, 0.0)
 }
 
+// The sum of the cross products, with that of one tangent more.
+pub fn next_normal(normal: Vec3, tangent: Vec3, last: Vec3) -> Vec3
+    ensures { λ r. ⌜ r ≡ nextNormal normal tangent last ⌝ }
+{
+    linalg::add(normal, linalg::cross(tangent, last))
+}
+
 // One unmarked halfedge is gathered, by its two directions: its angles go to the next place of each list.
 pub fn gather_edge(
     current: &mut [f64],
@@ -159,7 +166,7 @@ pub fn gather_edge(
     desired[k] = next_desired(edge, g.last_edge, desired, k);
     Carried {
         count: k + 1,
-        normal: linalg::add(g.normal, linalg::cross(tangent, g.last_tangent)),
+        normal: next_normal(g.normal, tangent, g.last_tangent),
         last_edge: edge,
         first_tangent,
         last_tangent: tangent,
@@ -167,10 +174,10 @@ pub fn gather_edge(
 }
 
 // One angle, or a normal of length 0: nothing is turned.
-pub fn turns_none(g: Carried) -> bool
-    ensures { λ r. ⌜ ((C D : List Float) → g .count ≤ length C → r ≡ turnsNone (gatheredOf C D g)) ⌝ }
+pub fn turns_none(count: usize, normal: Vec3) -> bool
+    ensures { λ r. ⌜ r ≡ turnsNone count normal ⌝ }
 {
-    common::either(g.count == 1, linalg::dot(g.normal, g.normal) == 0.0)
+    common::either(count == 1, linalg::dot(normal, normal) == 0.0)
 }
 
 // One turn of the loop that sums the offset.

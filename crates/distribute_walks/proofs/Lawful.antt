@@ -14,11 +14,11 @@ use Rattle.cycles.proofs.Around.{next-permutes}
 use Rattle.smoothing.proofs.Tangents.{length-put, tangent-put-same, tangent-put-other, same-tangents}
 use Rattle.distribute_spread.specs.Steps.{Lawful}
 use Rattle.distribute_spread.specs.Order.{AngleCount}
+use Rattle.distribute_spread.proofs.Places.{stop-is}
 use Rattle.distribute_spread.proofs.Loops.{anglesLeft}
 use Rattle.distribute_spread.proofs.Guards.{angles-gathered}
 use Rattle.distribute_steps.specs.FloatSteps.{Gathered, isStart, begin, gatherEdge, turnAngle, turnedTangent, floatSteps}
 use Rattle.distribute_walks.specs.Walks.{firstFrom}
-use Rattle.distribute_walks.proofs.Bodies.{stop-is}
 
 pub weight-kept : (axis : Vec3) (angle : Float) (v : Vec4) → turnedTangent axis angle v .w ≡ v .w
 unfolding turnedTangent

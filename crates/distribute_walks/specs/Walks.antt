@@ -2,14 +2,14 @@
 use Prim.Native.Nat.{ℕ, suc, _+_, _*_, _^_, _≤_, _<_}
 use mathlib.Core.Path.{_≡_}
 use mathlib.Core.List.{List}
-use mathlib.Core.Bool.{true, false, cond}
+use mathlib.Core.Bool.{true, false}
 use lib.ListN.{length}
 use lib.Ieee.{Float}
 use Rattle.mesh.specs.Mesh.{halfedgeStride, Halfedges}
 use Rattle.mesh.specs.Sound.{Sound}
 use Rattle.smoothing.specs.Lists.{tangentAt}
 use Rattle.distribute_spread.specs.Steps.{Steps}
-use Rattle.distribute_spread.specs.Spread.{Found, State, firstWalk, spreadFrom}
+use Rattle.distribute_spread.specs.Spread.{Found, State, firstWalk}
 use Rattle.distribute_steps.specs.FloatSteps.{isMark, isStart, begin, floatSteps}
 use Rattle.distribute_steps.specs.Scratch.{gatheredOf, directionsAt, EdgeFrom}
 use Rattle.distribute_steps.specs.declared.Carried.{Carried}
@@ -48,10 +48,6 @@ moreTurned k i = record { looked = k .looked; turned = k .turned + i }
 -- a part of spreading takes the tangents ts and the counts k to these, whatever was turned before
 abbrev pub Gives : (S : Steps) → (State S → State S) → S .Tangents → Counts → S .Tangents → Counts → Type 0
 Gives S part ts k ts′ k′ = (places : List ℕ) → (after : List ℕ) × (part (stateOf S ts k places) ≡ stateOf S ts′ k′ after)
-
--- one turn of the Rust's loop over the halfedges
-unfoldable pub spreadAt : (S : Steps) → ℕ → State S → State S
-spreadAt S start st = cond (S .fixed start) (spreadFrom S start st) st
 
 -- ---- the first walk
 

@@ -9,10 +9,10 @@ ghost use lib.Dec.{eqb};
 ghost use lib.Ieee.{Float};
 ghost use Rattle.mesh.specs.Mesh.{asHalfedges};
 ghost use Rattle.smoothing.specs.Lists.{tangentAt, putTangent};
-ghost use Rattle.distribute_spread.specs.Spread.{secondWalk};
+ghost use Rattle.distribute_spread.specs.Spread.{secondWalk, spreadAt};
 ghost use Rattle.distribute_steps.specs.FloatSteps.{isMark, isFixed, isStart, edgeDirection, gatherEdge, turn, next, floatSteps};
 ghost use Rattle.distribute_steps.specs.Scratch.{gatheredOf, directionsAt, planOf};
-ghost use Rattle.distribute_walks.specs.Walks.{Lists, Room, Gives, moreTurned, spreadAt, foundOf, firstFrom, CanLook, CanGather, CanTurn, SecondInput};
+ghost use Rattle.distribute_walks.specs.Walks.{Lists, Room, Gives, moreTurned, foundOf, firstFrom, CanLook, CanGather, CanTurn, SecondInput};
 ghost use Rattle.distribute_walks.specs.declared.Counts.{Counts};
 use distribute_steps::Carried;
 use distribute_steps::Directions;
@@ -141,7 +141,7 @@ fn turn_unmarked(
 }
 
 // Does the second walk from `start` leave at e, a fixed halfedge other than the start?
-fn leaves(fixed: &[u8], start: usize, e: usize) -> bool
+pub fn leaves(fixed: &[u8], start: usize, e: usize) -> bool
     requires { ⌜ e < length (now fixed) ⌝ }
     ensures { λ r. ⌜ r ≡ (not (eqb e start) && isFixed (now (fixed .entry)) e) ⌝ }
 {
@@ -215,7 +215,7 @@ pub fn spread_at(
         counts,
     );
     let carried = ended.carried;
-    if distribute_steps::turns_none(carried) {
+    if distribute_steps::turns_none(carried.count, carried.normal) {
         return Counts {
             looked: ended.looked,
             turned: counts.turned,

@@ -1,39 +1,21 @@
 -- `distribute::lengths_fit` meets its contract.
-use Rattle.mesh.specs.Mesh.{asHalfedges}
 use Rattle.distribute.proofs.lengths_fit.Statement.{statement}
 use Rattle.distribute.proofs.lengths_fit.Tie as tie
 
 returns : tie.Need-returns
-unfolding asHalfedges
 returns c =
     rw (
-      c .before .has-length7 .ensures,
-      c .before .before .both5 .ensures,
-      c .before .before .before .has-length6 .ensures,
-      c .before .before .before .before .both4 .ensures,
-      c .before .before .before .before .before .has-length5 .ensures,
-      c .before .before .before .before .before .before .both3 .ensures,
-      c .before .before .before .before .before .before .before .has-length4 .ensures,
-      c .before .before .before .before .before .before .before .before .both2 .ensures,
-      c .before .before .before .before .before .before .before .before .before .has-length3 .ensures,
-      c .before .before .before .before .before .before .before .before .before .before .both .ensures,
-      c .before .before .before .before .before .before .before .before .before .before .before .has-length2 .ensures,
-      c .before .before .before .before .before .before .before .before .before .before .before .before .has-length .ensures,
+      c .before .has-length2 .ensures,
+      c .before .before .both .ensures,
+      c .before .before .before .has-length .ensures,
+      c .before .before .before .before .lists-fit .ensures,
     )
-    at (c .both6 .ensures)
+    at (c .both2 .ensures)
 
 pub lengths-fit-spec : {M : Type 1} → statement M
 lengths-fit-spec =
     tie.close
     (tie.spec
-    (λ c κs. tt)
-    (λ c κs. tt)
-    (λ c κs. tt)
-    (λ c κs. tt)
-    (λ c κs. tt)
-    (λ c κs. tt)
-    (λ c κs. tt)
-    (λ c κs. tt)
     (λ c κs. tt)
     (λ c κs. tt)
     (λ c κs. tt)

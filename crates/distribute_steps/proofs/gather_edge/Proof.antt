@@ -7,8 +7,8 @@ use Rattle.distribute_steps.proofs.gather_edge.Tie as tie
 
 returns : tie.Need-returns
 returns c =
-    let s = c .before .before .before .before .before .before .before .before .before .before in (
-      rw (c .add .ensures, c .before .cross .ensures, c .before .before .next-desired .ensures, c .before .before .before .before .next-current .ensures) (gather-of _ _ _ _ _ _ (s .args .g) (s .pre .current-in) (s .pre .desired-in)),
+    let s = c .before .before .before .before .before .before .before .before .before in (
+      rw (c .next-normal .ensures, c .before .next-desired .ensures, c .before .before .before .next-current .ensures) (gather-of _ _ _ _ _ _ (s .args .g) (s .pre .current-in) (s .pre .desired-in)),
       refl,
     )
 
@@ -23,7 +23,6 @@ gather-edge-spec =
     (λ c. search needs)
     (λ c. search needs)
     (λ c. search needs)
-    (λ c κs. tt)
     (λ c κs. tt)
     (λ c. search needs)
     (λ c. search needs)

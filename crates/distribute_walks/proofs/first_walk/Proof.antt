@@ -9,12 +9,12 @@ use Rattle.mesh.proofs.Accepted.{inside}
 use Rattle.distribute_spread.specs.Steps.{Lawful}
 use Rattle.smoothing.specs.Lists.{tangentAt}
 use Rattle.distribute_spread.proofs.Loops.{firstLeft, first-below}
+use Rattle.distribute_spread.proofs.Bodies.{FirstGoing, first-going, first-room, first-next, first-less, first-over}
 use Rattle.distribute_steps.specs.FloatSteps.{begin, floatSteps}
 use Rattle.distribute_steps.specs.Scratch.{gatheredOf}
 use Rattle.distribute_steps.proofs.Angles.{begin-directions}
 use Rattle.distribute_walks.proofs.Lawful.{lawful}
 use Rattle.distribute_walks.proofs.Points.{edge-from}
-use Rattle.distribute_walks.proofs.Bodies.{FirstGoing, first-going, first-room, first-next, first-less, first-over}
 use Rattle.distribute_walks.proofs.first_walk.Statement.{statement}
 use Rattle.distribute_walks.proofs.first_walk.Tie as tie
 

@@ -44,16 +44,16 @@ walk-holds c =
 next-around-requires : tie.Need-next-around-requires Inv-walk μ-walk
 next-around-requires c κs =
     let p = c .before .before .before .before .before .pre in
-    inside (p .sound) (p .whole) _ (c .walk .inv .1 [] [] none [] .at .to-fixed .below)
+    inside (p .sound) (p .whole) _ (c .walk .inv .1 [] [] none [] .going .at .to-fixed .below)
 
 leaves-requires : tie.Need-leaves-requires Inv-walk μ-walk
-leaves-requires c κs = omega (arith, c .before .before .before .before .before .before .pre .flags, second-below (lawful (c .before .walk .inv .0) [] [] (now (c .before .before .before .before .before .before .args .fixed))) (c .before .walk .inv .1 [] [] none [] .at) (c .next-around .ensures))
+leaves-requires c κs = omega (arith, c .before .before .before .before .before .before .pre .flags, second-below (lawful (c .before .walk .inv .0) [] [] (now (c .before .before .before .before .before .before .args .fixed))) (c .before .walk .inv .1 [] [] none [] .going .at) (c .next-around .ensures))
 
 turn-unmarked-requires : tie.Need-turn-unmarked-requires Inv-walk μ-walk
 turn-unmarked-requires c κs =
     let p = c .before .before .before .before .before .before .before .before .before .before .pre in
     let laws = (lawful (c .before .before .before .before .before .walk .inv .0) [] [] (now (c .before .before .before .before .before .before .before .before .before .before .args .fixed))) in
-    let w = c .before .before .before .before .before .walk .inv .1 [] [] none [] .at in
+    let w = c .before .before .before .before .before .walk .inv .1 [] [] none [] .going .at in
     record {
       tangent-in = omega (arith, w .whole, second-below laws w (c .before .before .before .before .next-around .ensures));
       current-in = p .current-in;
@@ -64,7 +64,7 @@ turn-unmarked-requires c κs =
 
 walk-less : tie.Need-walk-less Inv-walk μ-walk
 walk-less c =
-    second-less (lawful (c .before .before .before .before .before .before .before .before .before .before .before .walk .inv .0) [] [] (now (c .before .before .before .before .before .before .before .before .before .before .before .before .before .before .before .before .args .fixed))) (c .before .before .before .before .before .before .before .before .before .before .before .walk .inv .1 [] [] none []) (c .before .before .before .before .before .before .before .before .before .before .next-around .ensures) (record { tangents-are = c .before .before .before .before .before .turn-unmarked .ensures .0; plan-is = c .before .before .before .before .before .turn-unmarked .ensures .1 .0; index-is = c .before .before .before .before .before .turn-unmarked .ensures .1 .1 })
+    second-less (lawful (c .before .before .before .before .before .before .before .before .before .before .before .walk .inv .0) [] [] (now (c .before .before .before .before .before .before .before .before .before .before .before .before .before .before .before .before .args .fixed))) (c .before .before .before .before .before .before .before .before .before .before .before .walk .inv .1 [] [] none []) (c .before .before .before .before .before .before .before .before .before .before .next-around .ensures)
     (sym (c .before .before .before .before .before .before .before .before .before .leaves .ensures) ∙ c .before .before .before .before .before .before .before .before .if1 .left) (c .if2 .left)
 
 walk-again : tie.Need-walk-again Inv-walk μ-walk
@@ -88,7 +88,7 @@ returns : tie.Need-returns Inv-walk μ-walk
 returns c =
     let inv = c .before .before .before .walk .inv in (
       λ P N k places. second-leaves (lawful (inv .0) P N (now (c .before .before .before .before .before .before .before .before .args .fixed))) (inv .1 P N k places) (c .before .before .next-around .ensures) (sym (c .before .leaves .ensures) ∙ c .if1 .taken),
-      omega (arith, inv .1 [] [] none [] .at .index),
+      omega (arith, inv .1 [] [] none [] .going .at .index),
     )
 
 same-length-3 : tie.Need-same-length-3 Inv-walk μ-walk
