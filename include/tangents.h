@@ -39,6 +39,13 @@ void tangents_distribute_tangents(size_t n, size_t p, const int32_t *h, size_t h
                                   size_t t_len, double *current, size_t current_len, double *desired, size_t desired_len,
                                   size_t *answer, size_t answer_len);
 
+/* The preview of spreading: normals and flags as there, and bytes a place for each halfedge. Writes bytes: 1 if spreading would
+ * write the halfedge's tangent, else 0; answer[2] is looked and answer[3] turned, as spreading would answer. */
+void tangents_preview_tangents(size_t n, size_t p, const int32_t *h, size_t h_len, const double *pos, size_t pos_len,
+                               const double *normals, size_t normals_len, const uint8_t *flags, size_t flags_len,
+                               const double *t, size_t t_len, uint8_t *bytes, size_t bytes_len, size_t *answer,
+                               size_t answer_len);
+
 /* Making from sharp edges: normals has three numbers for each point, face_normals and refs three for each triangle, entries and
  * values the halfedge and the smoothness of each sharp entry. old is 0 where t holds no old tangents; t has 4 n numbers all the
  * same. Of the scratch lists at has a place for each point, each other one for each halfedge; they hold zeros afterwards.

@@ -12,8 +12,8 @@ normals in the list of floats, u32 the end of the halfedges in the list of i32; 
 face normals, and the smoothness of the entries or the row list), the list of i32 (halfedges, references of the triangles), the
 halfedges of the entries, the old tangents, and the tangents after the call.
 """
-import collections, math, random, struct, sys
-from cases import answered, counts, floats, halfedges, one_nan, oracle, record, refusal, refused, signed, text, u32, write
+import collections, math, random, sys
+from cases import Mesh, answered, chosen, count, counts, floats, halfedges, mesh_features, number, one_nan, oracle, record, refusal, refused, signed, text, u32, word, write
 
 LARGEST = 24  # halfedges of a mesh that is taken
 SMALL = 12  # and of one with no rare feature
@@ -49,68 +49,14 @@ def fits(case):
     return lists and get("sh") <= ROOM["sh"] and get("tan") <= ROOM["tan"] and points
 
 
-def number(word):
-    return struct.unpack(">d", bytes.fromhex(word))[0]
-
-
-def word(x):
-    return struct.pack(">d", x).hex()
-
-
-class Mesh:
-    def __init__(self, case):
-        self.p, self.n = (int(x) for x in case["counts"])
-        he = [int(x) for x in case.get("he", [])]
-        self.start, self.end, self.pair = he[0::3], he[1::3], he[2::3]
-        refs = [int(x) for x in case.get("ref", [])]
-        self.ref = [tuple(refs[k : k + 3]) for k in range(0, len(refs), 3)]
-        self.weight = [number(x) for x in case.get("tan", [])[3::4]]
-        self.old = "tan" in case
-
-    def next(self, e):
-        return e - 2 if e % 3 == 2 else e + 1
-
-    def round(self, e):
-        out, x = [e], self.next(self.pair[e])
-        while x != e:
-            out.append(x)
-            x = self.next(self.pair[x])
-        return out
-
-    def same_face(self, e, f):
-        return self.ref[e // 3] == self.ref[f // 3]
-
-    def diagonal(self, e):
-        """is_inside_quad, or the mark of an old tangent."""
-        if self.old:
-            return self.weight[e] < 0
-        f, next = self.pair[e], self.next
-        others = [(e, next(e)), (e, next(next(e))), (f, next(f)), (f, next(next(f)))]
-        return self.same_face(e, f) and not any(self.same_face(x, self.pair[y]) for x, y in others)
-
-    def flat_faces(self):
-        flat = set()
-        for t in range(self.n // 3):
-            near = [self.pair[e] // 3 for e in range(3 * t, 3 * t + 3) if self.same_face(e, self.pair[e])]
-            if len(near) > 1:
-                flat |= {t, *near}
-        return flat
+def is_small(case):
+    return int(case["counts"][1]) <= SMALL
 
 
 def shared_features(case, answer, m):
     """The features of a case of either making."""
-    out = {f"{m.n} halfedges", "old tangents" if m.old else "no old tangents"}
+    out = mesh_features(case, m) | {"old tangents" if m.old else "no old tangents"}
     out |= {f"old weight {x}" for x in (-1, -2, -3) if x in m.weight}
-    rounds = {(m.start[e], min(m.round(e))) for e in range(m.n)}
-    if len(rounds) > len(set(m.start)):
-        out.add("several rounds at a point")
-    if len(set(m.start)) < m.p:
-        out.add("a point without halfedges")
-    lent = [number(x) for k in ("pos", "vn", "fn", "nrm", "prop", "tan") for x in case.get(k, [])]
-    if any(math.isinf(x) for x in lent):
-        out.add("an infinity")
-    if any(math.isnan(x) for x in lent):
-        out.add("a not-a-number")
     if any(math.isnan(number(x)) for x in answer.get("tan", [])):
         out.add("a not-a-number in the answer")
     return out
@@ -286,22 +232,6 @@ def changed(case, how, rnd):
     return c
 
 
-def chosen(pairs, most=ACCEPTED):
-    """So many pairs, those of the rarer features first, and what they have."""
-    have, first, rest = collections.Counter(), [], []
-    for c, a in pairs:
-        found = features(c, a)
-        if any(have[x] < RARE for x in found):
-            have.update(found)
-            first.append((c, a))
-        elif int(c["counts"][1]) <= SMALL:
-            rest.append((c, a))
-    taken = (first + rest)[:most]
-    for x, k in sorted(collections.Counter(x for c, a in taken for x in features(c, a)).items()):
-        print(f"{k:6} {x}", file=sys.stderr)
-    return taken
-
-
 def main():
     rnd, accepted, rest = random.Random(5), [], []
     for kind in ("sharp", "normals"):
@@ -309,17 +239,16 @@ def main():
         pairs += answered(text([changed(c, k % 4, rnd) for k, (c, a) in enumerate(pairs) if c.get("he")]), LARGEST)
         rnd.shuffle(pairs)
         print(kind, file=sys.stderr)
-        accepted += [record(c, packed(c, a)) for c, a in chosen([(c, a) for c, a in pairs if fits(c)])]
+        accepted += [record(c, packed(c, a)) for c, a in chosen([(c, a) for c, a in pairs if fits(c)], features, ACCEPTED, RARE, is_small)]
         damaged = [c for c in refused("7", 4 * 18) if c["op"] == kind and fits(c)][:REFUSED]
         print("refused:", collections.Counter(refusal(c)[0] for c in damaged), file=sys.stderr)
         rest += [record(c, packed(c, None), *refusal(c)) for c in damaged]
     pairs = [(c, a) for c, a in answered(oracle(["gen", "rows", "3", "8000"]), LARGEST) if fits(c)]
     print("rows", file=sys.stderr)
-    accepted += [record(c, packed(c, a)) for c, a in chosen(pairs, ROWS)]
+    accepted += [record(c, packed(c, a)) for c, a in chosen(pairs, features, ROWS, RARE, is_small)]
     damaged = [c for c in refused("7", 4 * 18, "refuse-rows", "4000") if fits(c)][:ROWS_REFUSED]
     print("refused:", collections.Counter(refusal(c)[0] for c in damaged), file=sys.stderr)
-    for x, k in sorted(collections.Counter(x for c in damaged for x in refused_features(c)).items()):
-        print(f"{k:6} {x}", file=sys.stderr)
+    count(refused_features(c) for c in damaged)
     rest += [record(c, packed(c, None), *refusal(c)) for c in damaged]
     assert max(map(len, accepted + rest)) <= ROOM["bytes"]
     write(accepted, rest)

@@ -8,7 +8,7 @@ ORACLE is the checking build of the oracle (the unchanged Rust behind a text for
 A case (tools/cases.py) has the lists positions, halfedges, point normals, flags and tangents, u32 looked, u32 turned, and the
 tangents after the call.
 """
-from cases import answered, floats, halfedges, one_nan, oracle, record, refusal, refused, signed, small, u32, write
+from cases import answered, floats, one_nan, oracle, record, refusal, refused, spread_lists, u32, write
 
 LARGEST = 18  # halfedges of a mesh that is taken
 ACCEPTED = 5100
@@ -16,12 +16,10 @@ REFUSED = 300
 
 
 def packed(case, answer):
-    get = case.get
-    looked, turned, after = 0, 0, one_nan(get("tan") or [])
+    looked, turned, after = 0, 0, one_nan(case.get("tan", []))
     if answer:
         looked, turned, after = int(answer["looked"][0]), int(answer["looked"][2]), answer.get("tan") or []
-    body = floats(get("pos") or []) + signed(halfedges(case)) + floats(get("vn") or []) + small(get("fl") or []) + floats(get("tan") or [])
-    return body + u32(looked) + u32(turned) + floats(after)
+    return spread_lists(case) + u32(looked) + u32(turned) + floats(after)
 
 
 def main():

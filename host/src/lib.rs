@@ -25,6 +25,11 @@ mod raw {
             flags: *const u8, flags_len: usize, t: *mut f64, t_len: usize, current: *mut f64, current_len: usize,
             desired: *mut f64, desired_len: usize, answer: *mut usize, answer_len: usize,
         );
+        pub fn tangents_preview_tangents(
+            n: usize, p: usize, h: *const i32, h_len: usize, pos: *const f64, pos_len: usize, normals: *const f64, normals_len: usize,
+            flags: *const u8, flags_len: usize, t: *const f64, t_len: usize, bytes: *mut u8, bytes_len: usize,
+            answer: *mut usize, answer_len: usize,
+        );
         pub fn tangents_create_tangents(
             n: usize, p: usize, h: *const i32, h_len: usize, pos: *const f64, pos_len: usize, normals: *const f64, normals_len: usize,
             face_normals: *const f64, face_normals_len: usize, refs: *const i32, refs_len: usize,
@@ -100,7 +105,7 @@ pub fn sharpen_edges(
     outcome(answer).map(|[entries, tally]| Listed { entries, tally })
 }
 
-/// The two counts of spreading.
+/// The two counts of spreading and of its preview.
 #[derive(Clone, Copy, Debug, PartialEq, Eq)]
 pub struct Counts {
     pub looked: usize,
@@ -117,6 +122,22 @@ pub fn distribute_tangents(
         raw::tangents_distribute_tangents(
             n, p, h.as_ptr(), h.len(), pos.as_ptr(), pos.len(), normals.as_ptr(), normals.len(), flags.as_ptr(), flags.len(),
             t.as_mut_ptr(), t.len(), current.as_mut_ptr(), current.len(), desired.as_mut_ptr(), desired.len(), answer.as_mut_ptr(), 4,
+        );
+    }
+    outcome(answer).map(|[looked, turned]| Counts { looked, turned })
+}
+
+/// The preview of spreading: the counts that `distribute_tangents` would give. `bytes` has one place per halfedge, 1 afterwards if its
+/// tangent would be written, else 0.
+#[allow(clippy::too_many_arguments)]
+pub fn preview_tangents(
+    n: usize, p: usize, h: &[i32], pos: &[f64], normals: &[f64], flags: &[u8], t: &[f64], bytes: &mut [u8],
+) -> Result<Counts, Refused> {
+    let mut answer = [0; 4];
+    unsafe {
+        raw::tangents_preview_tangents(
+            n, p, h.as_ptr(), h.len(), pos.as_ptr(), pos.len(), normals.as_ptr(), normals.len(), flags.as_ptr(), flags.len(),
+            t.as_ptr(), t.len(), bytes.as_mut_ptr(), bytes.len(), answer.as_mut_ptr(), 4,
         );
     }
     outcome(answer).map(|[looked, turned]| Counts { looked, turned })

@@ -1,6 +1,6 @@
 -- The laws of `distribute`, for the crates above.
 mod Pass
-mod Values
+pub mod Values
 pub mod Accepted
 pub mod Order
 pub mod Claims

@@ -10,4 +10,4 @@ pub mod Guards
 pub mod Starts
 pub mod Own
 pub mod Order
-mod Pillow
+pub mod Pillow

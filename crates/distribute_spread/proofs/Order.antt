@@ -3,17 +3,17 @@ use mathlib.Core.Path.{_≡_, refl, sym, ap, _∙_, subst}
 use mathlib.Core.Bool.{Bool, true, false, true≢false}
 use mathlib.Core.List.{List, [], _∷_, reverseAux}
 use mathlib.Core.Logic.{_≢_, _⊎_, inl, inr}
-use Prim.Native.Nat.{ℕ, suc, _+_, _*_, _≤_, _<_}
+use Prim.Native.Nat.{ℕ, suc, _*_, _≤_, _<_}
 use native.Mathlib.Nat.{le-trans, le-antisymm, zero-mul, mul-zero}
 use native.Mathlib.Decide.{ℕ-discrete}
 use native.Mathlib.Omega.{arith}
 use lib.ListN.{length}
-use Rattle.cycles.specs.Count.{delta, count, _∈_, Exactly}
+use Rattle.cycles.specs.Count.{count, _∈_, Exactly}
 use Rattle.cycles.proofs.Count.{sum, sum-ext, sum-le, sum-one, delta-equal, delta-other, total, Below, total-count, total-some, exactly, total-has, total-le, total-length, count-reverse, zero-or-more}
 use Rattle.cycles.proofs.Orbits.{iter-below, path-apart, path-index, sole-stop, stop-before, reaches-back}
 use Rattle.distribute_spread.specs.Steps.{Steps, Lawful}
 use Rattle.distribute_spread.specs.Spread.{State, spreadFrom, spreadAt, spreadOn, handedIn, spread, fixedFrom, pass}
-use Rattle.distribute_spread.specs.Order.{NamesFixed, FixedUnmarked, Touched, Sole, WasTurned, OrderFree}
+use Rattle.distribute_spread.specs.Order.{NamesFixed, Touched, Sole, WasTurned, OrderFree}
 use Rattle.distribute_spread.proofs.Branches.{at-fixed, at-other, PassLeft, left-all, left-next, left-none}
 use Rattle.distribute_spread.proofs.Turns.{SameMarks, SameCounts, onTangents}
 use Rattle.distribute_spread.proofs.Places.{isStop, stop-is}

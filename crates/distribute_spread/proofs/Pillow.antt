@@ -9,7 +9,7 @@ use Rattle.distribute_spread.specs.Steps.{Steps}
 use Rattle.distribute_spread.specs.Spread.{spread, pass}
 
 -- the rounds are {0, 3}, {1, 5} and {2, 4}
-abbrev pillow : List Bool → Steps
+abbrev pub pillow : List Bool → Steps
 pillow flags = record {
   Tangents = List ℕ;
   Tangent = ℕ;
@@ -32,7 +32,7 @@ pillow flags = record {
 }
 
 -- a sole fixed halfedge is turned with its round
-one-fixed : pass (pillow (true ∷ [])) (1 ∷ 2 ∷ 3 ∷ 4 ∷ 5 ∷ 6 ∷ [])
+pub one-fixed : pass (pillow (true ∷ [])) (1 ∷ 2 ∷ 3 ∷ 4 ∷ 5 ∷ 6 ∷ [])
     ≡ record { tangents = 71 ∷ 2 ∷ 3 ∷ 64 ∷ 5 ∷ 6 ∷ []; looked = 2; turned = 2; places = 0 ∷ 3 ∷ [] }
 unfolding pass
 one-fixed = refl
@@ -44,7 +44,7 @@ unfolding pass
 all-fixed = refl
 
 -- a marked start is passed over, and a marked halfedge is looked at but not turned
-marks : pass (pillow (true ∷ true ∷ [])) (1 ∷ 9 ∷ 3 ∷ 9 ∷ 5 ∷ 6 ∷ [])
+pub marks : pass (pillow (true ∷ true ∷ [])) (1 ∷ 9 ∷ 3 ∷ 9 ∷ 5 ∷ 6 ∷ [])
     ≡ record { tangents = 21 ∷ 9 ∷ 3 ∷ 9 ∷ 5 ∷ 6 ∷ []; looked = 2; turned = 1; places = 0 ∷ [] }
 unfolding pass
 marks = refl

@@ -29,14 +29,6 @@ unfoldable pub turnAll : (S : Steps) → List ℕ → S .Plan → State S → St
 turnAll S [] p st = st
 turnAll S (c ∷ cs) p st = turnAll S cs (S .next p) (turnAt S c p st)
 
--- the counts and places that come of it do not depend on the tangents
-pub all-counts : (S : Steps) (cs : List ℕ) (p : S .Plan) (st sv : State S) → SameCounts S st sv → SameCounts S (turnAll S cs p st) (turnAll S cs p sv)
-unfolding turnAll
-all-counts S [] p st sv c = c
-all-counts S (e ∷ cs) p st sv c =
-    all-counts S cs (S .next p) (turnAt S e p st) (turnAt S e p sv)
-    (record { looked = c .looked; turned = ap suc (c .turned); places = ap (λ (l : List ℕ). e ∷ l) (c .places) })
-
 -- what the halfedges `cs`, turned, make of the state st
 pub record Turning (S : Steps) (cs : List ℕ) (st after : State S) : Type 0 where
   pub looked : after .looked ≡ st .looked
@@ -116,3 +108,11 @@ module _ {S : Steps} (L : Lawful S) where
       turn-same c p st sv (below-first c cs b) w v (h c (omega (arith, delta-equal c c refl))) in
       all-same cs (next p) (turnAt S c p st) (turnAt S c p sv) (below-rest c cs b) (turn-whole c p st w) (turn-whole c p sv v)
       (λ x m. at x (h x (omega arith))) e (at e q)
+
+-- the counts and places that come of turning a list do not depend on the tangents
+pub all-counts : (S : Steps) (cs : List ℕ) (p : S .Plan) (st sv : State S) → SameCounts S st sv → SameCounts S (turnAll S cs p st) (turnAll S cs p sv)
+unfolding turnAll
+all-counts S [] p st sv c = c
+all-counts S (e ∷ cs) p st sv c =
+    all-counts S cs (S .next p) (turnAt S e p st) (turnAt S e p sv)
+    (record { looked = c .looked; turned = ap suc (c .turned); places = ap (λ (l : List ℕ). e ∷ l) (c .places) })

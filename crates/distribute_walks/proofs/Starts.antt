@@ -1,7 +1,6 @@
 -- One turn of the loop over the halfedges, as the code holds its state: a start is passed over, or both its walks go.
 use mathlib.Core.Path.{_≡_, sym, ap, _∙_}
 use mathlib.Core.Bool.{true, false}
-use mathlib.Core.List.{List}
 use Prim.Native.Nat.{ℕ, suc}
 use Rattle.distribute_spread.specs.Steps.{Steps}
 use Rattle.distribute_spread.specs.Spread.{Found, firstWalk, secondWalk, spreadAt}

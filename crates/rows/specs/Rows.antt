@@ -15,6 +15,7 @@ use Rattle.linearize.specs.Linearize as Linearize
 use Rattle.validate.specs.Validate as Validate
 use Rattle.sharpen.specs.Sharpen as Sharpen
 use Rattle.distribute.specs.Distribute as Distribute
+use Rattle.preview.specs.Preview as Preview
 use Rattle.create_smoothness.specs.declared.Smoothness.{Smoothness}
 use Rattle.create.specs.Create as Create
 use Rattle.create_entries.specs.CreateEntries as CreateEntries
@@ -39,6 +40,8 @@ pub record RowUnread (list other : List ℤ) : Type 0 where
   pub spread-questions : (P N : List Float) (X : List ℕ) (T C D : List Float) (n p : ℕ) → Same list other (λ H. Distribute.checkLists H P N X T C D n p)
   pub spread-answer : (P N : List Float) (X : List ℕ) (T C D : List Float) (n p : ℕ) → Same list other (λ H. Distribute.distributeTangents H P N X T C D n p)
   pub spread-tangents : (P N : List Float) (X : List ℕ) (T C D : List Float) (n p : ℕ) → Same list other (λ H. Distribute.tangentsAfter H P N X T C D n p)
+  pub preview-answer : (P N : List Float) (X : List ℕ) (T : List Float) (Y : List ℕ) (n p : ℕ) → Same list other (λ H. Preview.previewTangents H P N X T Y n p)
+  pub preview-bytes : (P N : List Float) (X : List ℕ) (T : List Float) (Y : List ℕ) (n p : ℕ) → Same list other (λ H. Preview.bytesAfter H P N X T Y n p)
   pub sharp-answer : (P N A : List Float) (R : List ℤ) (I : List ℕ) (Q T : List Float) (X F : List ℕ) (M D : List Float) (W L : List ℕ) (n p : ℕ) → Same list other (λ H. Create.checkLists H P N A R I Q T X F M D W L n p)
   pub entries-answer : (P N A : List Float) (R : List ℤ) (E : List Smoothness) (T : List Float) (X F : List ℕ) (M D : List Float) (W L : List ℕ) (n p : ℕ) → Same list other (λ H. CreateEntries.checkLists H P N A R E T X F M D W L n p)
   pub sharp-tangents : (answer : Checked) (P N A : List Float) (R : List ℤ) (E : List Smoothness) (T : List Float) (old : Bool) (n p : ℕ) → Same list other (λ H. Create.tangentsAfter answer H P N A R E T old n p)

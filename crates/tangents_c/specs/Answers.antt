@@ -26,6 +26,6 @@ putValidity answer r = put answer (Valid.numberOf r) (Valid.placeOf r) (Valid.va
 abbrev pub putListing : List ℕ → Listing → List ℕ
 putListing answer r = put answer (Sharp.numberOf r) (Sharp.placeOf r) (Sharp.entriesOf r) (Sharp.tallyOf r)
 
--- spreading: looked and turned
+-- spreading and its preview: looked and turned
 abbrev pub putSpreading : List ℕ → Spreading → List ℕ
 putSpreading answer r = put answer (Spread.numberOf r) (Spread.placeOf r) (Spread.lookedOf r) (Spread.turnedOf r)

@@ -11,6 +11,7 @@ ghost use Rattle.validate.specs.Validate.{validAnswer};
 ghost use Rattle.sharpen.specs.Sharpen.{sharpenEdges, entriesAfter};
 ghost use Rattle.distribute.specs.Distribute.{distributeTangents, scratchAfter, checkLists};
 ghost use Rattle.distribute.specs.Distribute.{tangentsAfter as spreadAfter};
+ghost use Rattle.preview.specs.Preview.{previewTangents, bytesAfter};
 ghost use Rattle.mesh.specs.Mesh.{asHalfedges};
 ghost use Rattle.mesh.specs.Check.{whenAccepted};
 ghost use Rattle.create_smoothness.specs.Entries.{entriesOf};
@@ -78,7 +79,7 @@ fn put_listing(answer: &mut [usize], listing: Listing)
     );
 }
 
-// Spreading: looked and turned.
+// Spreading and its preview: looked and turned.
 fn put_spreading(answer: &mut [usize], spreading: Spreading)
     ensures { λ _. ⌜ now (answer .exit) ≡ putSpreading (now (answer .entry)) spreading ⌝ }
 {
@@ -176,6 +177,26 @@ pub extern "C" fn tangents_distribute_tangents(
         desired,
     );
     put_spreading(answer, spreading);
+}
+
+// The preview of spreading: a byte for each halfedge, and the answer's two counts looked and turned.
+#[no_mangle]
+pub extern "C" fn tangents_preview_tangents(
+    n: usize,
+    p: usize,
+    h: &[i32],
+    pos: &[f64],
+    normals: &[f64],
+    flags: &[u8],
+    t: &[f64],
+    bytes: &mut [u8],
+    answer: &mut [usize],
+)
+    ensures { λ _. ⌜ now (bytes .exit) ≡ bytesAfter (asHalfedges (now (h .entry))) (now (pos .entry)) (now (normals .entry)) (now (flags .entry)) (now (t .entry)) (now (bytes .entry)) n p ⌝ }
+    ensures { λ _. ⌜ now (answer .exit) ≡ putSpreading (now (answer .entry)) (previewTangents (asHalfedges (now (h .entry))) (now (pos .entry)) (now (normals .entry)) (now (flags .entry)) (now (t .entry)) (now (bytes .entry)) n p) ⌝ }
+{
+    let previewed = preview::preview_tangents(n, p, h, pos, normals, flags, t, bytes);
+    put_spreading(answer, previewed);
 }
 
 // Making from sharp edges. `old` says whether the tangents lent are old ones: 0 for no.

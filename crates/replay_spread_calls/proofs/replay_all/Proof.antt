@@ -1,7 +1,7 @@
--- `replay_spread::main` is safe and ends: the number of cases that may still be read falls. Assumes nothing.
+-- `replay_spread_calls::replay_all` is safe and ends: the number of cases that may still be read falls. Assumes nothing.
 use borrow.Author.Needs.{needs}
-use Rattle.replay_spread.proofs.main.Statement.{statement}
-use Rattle.replay_spread.proofs.main.Tie as tie
+use Rattle.replay_spread_calls.proofs.replay_all.Statement.{statement}
+use Rattle.replay_spread_calls.proofs.replay_all.Tie as tie
 
 abbrev Inv-loop : tie.InvT-loop
 Inv-loop t₀ cases₀ more₀ t cases more = Unit {0}
@@ -33,8 +33,8 @@ report-requires c κs = search needs
 returns-2 : tie.Need-returns-2 Inv-loop μ-loop
 returns-2 c = search needs
 
-pub main-spec : {M : Type 1} → statement M
-main-spec =
+pub replay-all-spec : {M : Type 1} → statement M
+replay-all-spec =
     tie.close
     (tie.spec
     Inv-loop

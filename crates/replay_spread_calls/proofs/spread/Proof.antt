@@ -1,8 +1,8 @@
--- `replay_spread::spread` is safe and ends. Assumes nothing.
+-- `replay_spread_calls::spread` is safe and ends. Assumes nothing.
 use Rattle.little_endian.proofs.Fronts.{front}
 use borrow.Author.Needs.{needs}
-use Rattle.replay_spread.proofs.spread.Statement.{statement}
-use Rattle.replay_spread.proofs.spread.Tie as tie
+use Rattle.replay_spread_calls.proofs.spread.Statement.{statement}
+use Rattle.replay_spread_calls.proofs.spread.Tie as tie
 
 slice-aggregate-current : tie.Need-slice-aggregate-current
 slice-aggregate-current c = front _ _ (c .before .places .ensures) .1

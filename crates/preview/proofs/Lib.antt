@@ -1,0 +1,4 @@
+-- The laws of `preview`, for the crates above.
+mod Pass
+pub mod Accepted
+mod Order

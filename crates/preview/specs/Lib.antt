@@ -1,0 +1,2 @@
+-- The specs of `preview`.
+pub mod Preview

@@ -1,0 +1,3 @@
+-- The specs of `preview_walks`, in the order of reading.
+pub mod Bytes
+pub mod Walks
