@@ -67,7 +67,7 @@ module _ {H : Halfedges} {P N A : List Float} {C : List ℕ} {T : List Float} {n
   inside-there : (e : ℕ) → e < n → isInsideQuad H R T false (pairedHalfedge H e) ≡ isInsideQuad H R T false e
   inside-there = inside-pair H R n (length C) T w.lists.sound
 
-  pub edge-inside : (e : ℕ) → e < n → isInsideQuad H R T false e ≡ true → edgeTangents H P N A R C T e ≡ record { here = insideQuadTangent; there = insideQuadTangent }
+  pub edge-inside : (e : ℕ) → e < n → isInsideQuad H R T false e ≡ true → edgeTangents H P N A R C T e ≡ record { here = insideQuadTangent; there = insideQuadTangent; directionless = false }
   unfolding edgeTangents firstTangent
   edge-inside e h q = rw (inside-there e h, q)
 

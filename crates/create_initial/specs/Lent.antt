@@ -1,12 +1,13 @@
 -- What the lent lists must be for a call. Only contracts inside a call name these; `first-lists-in` of `proofs/Lent.antt` gives them on an accepted mesh.
-use Rattle.std.specs.Prelude.{ℕ, ◌*◌, ◌+◌, ◌≤◌, ◌<◌, ◌≡◌, List, Bool, false, length, get_or, ℤ, Float}
+use Rattle.std.specs.Prelude.{ℕ, ◌*◌, ◌+◌, ◌≤◌, ◌<◌, ◌≡◌, List, Bool, false, not, ◌&&◌, length, get_or, ℤ, Float}
 use Rattle.linalg.specs.declared.Vec3.{Vec3}
 use Rattle.linalg.specs.declared.Vec4.{Vec4}
 use Rattle.mesh.specs.Mesh.{halfedgeStride, startVert, pairedHalfedge, Halfedges}
 use Rattle.mesh.specs.Sound.{Sound}
 use Rattle.mesh.specs.Inside.{Inside}
 use Rattle.smoothing.specs.declared.TwoTangents.{TwoTangents}
-use Rattle.smoothing.specs.Edges.{isInsideQuad}
+use Rattle.smoothing.specs.Directions.{directionless}
+use Rattle.smoothing.specs.Edges.{edgeVec, isInsideQuad}
 use Rattle.create_shared.specs.declared.FlatFace.{FlatFace}
 use Rattle.create_shared.specs.declared.FlatFace.TheVariants.{NoFace, OneFace, MoreFaces}
 use Rattle.create_shared.specs.Lent.{faceOf}
@@ -52,9 +53,10 @@ normalAt H N A W e = vertNormal N A (startVert H e) (faceAt W (startVert H e))
 abbrev pub firstAt : Halfedges → List Float → List Float → List Float → List ℤ → List ℕ → List Float → Bool → ℕ → Vec4
 firstAt H P N A R W T old e = firstTangent H P N A (isInsideQuad H R T old) (faceAt W (startVert H e)) e
 
--- those of halfedge e and of its pair, where there are no old tangents
+-- those of halfedge e and of its pair, where there are no old tangents; and whether they are circular tangents on an edge without direction
 unfoldable pub edgeTangents : Halfedges → List Float → List Float → List Float → List ℤ → List ℕ → List Float → ℕ → TwoTangents
 edgeTangents H P N A R W T e = record {
   here = firstAt H P N A R W T false e;
   there = firstAt H P N A R W T false (pairedHalfedge H e);
+  directionless = not (isInsideQuad H R T false e) && directionless (edgeVec H P e);
 }

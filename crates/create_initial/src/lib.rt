@@ -69,7 +69,7 @@ fn first_tangent(
         return inside_quad_tangent();
     }
     let normal = normal_at(h, normals, face_normals, at, e);
-    smoothing::tangent_from_normal(h, pos, face_normals, normal, e)
+    smoothing::tangent_from_normal(h, pos, face_normals, normal, e).tangent
 }
 
 // Writes it, in the list that the old weights are read from. That is safe: of the old weights only e's own is read, before it is
@@ -134,6 +134,7 @@ fn edge_tangents(
         return TwoTangents {
             here: mark,
             there: mark,
+            directionless: false,
         };
     }
     let a = normal_at(h, normals, face_normals, at, e);

@@ -190,7 +190,7 @@ fn put_circular_tangent(h: &[i32], pos: &[f64], t: &mut [f64], e: usize, dir: Ve
     requires { (e * 4 + 4 ≤ length t.old) × EdgeIn (asHalfedges h.now) pos.now e }
     ensures { t.new ≡ putCircularTangent (asHalfedges h.now) pos.now t.old e dir }
 {
-    let tangent = smoothing::circular_tangent(dir, smoothing::edge_vec(h, pos, e));
+    let tangent = smoothing::circular_tangent(dir, smoothing::edge_vec(h, pos, e)).tangent;
     smoothing::put_tangent(t, e, tangent);
 }
 

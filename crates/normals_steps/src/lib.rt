@@ -60,7 +60,7 @@ fn tangent_between(
 {
     let edge = smoothing::edge_vec(h, pos, e);
     let dir = direction_between(h, face_normals, a, b, equal, edge, e);
-    smoothing::circular_tangent(dir, edge)
+    smoothing::circular_tangent(dir, edge).tangent
 }
 
 fn with_weight(v: Vec3, w: f64) -> Vec4
@@ -155,7 +155,7 @@ pub fn vert_normal_step(
     if smoothing::is_marked_inside_quad(t, e) {
         return;
     }
-    let tangent = smoothing::tangent_from_normal(h, pos, face_normals, normal, e);
+    let tangent = smoothing::tangent_from_normal(h, pos, face_normals, normal, e).tangent;
     smoothing::put_tangent(t, e, tangent);
 }
 
@@ -174,10 +174,10 @@ fn fill_tangent(
 {
     let next = normals_state::normal_or(smoothing::vec3_from_vec4(t), last);
     if smoothing::equal_normals(prev, next) {
-        return smoothing::tangent_from_normal(h, pos, face_normals, prev, e);
+        return smoothing::tangent_from_normal(h, pos, face_normals, prev, e).tangent;
     }
     let edge = smoothing::edge_vec(h, pos, e);
-    smoothing::circular_tangent(signed_dir(prev, next, edge), edge)
+    smoothing::circular_tangent(signed_dir(prev, next, edge), edge).tangent
 }
 
 // The same, written.

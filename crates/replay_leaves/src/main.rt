@@ -156,11 +156,11 @@ fn of_smoothing(call: u64, s: &[u8], at: usize) -> Results
     let x = argument(s, at, 0);
     let v = vector(s, at, 0);
     match call {
-        13 => three(smoothing::safe_normalize(v)),
+        13 => three(smoothing::safe_normalize(v).vec),
         14 => one(smoothing::wrap(x)),
         15 => one(smoothing::angle_between(v, vector(s, at, 3))),
         16 => flag(smoothing::equal_normals(v, vector(s, at, 3))),
-        17 => tangent(smoothing::circular_tangent(v, vector(s, at, 3))),
+        17 => tangent(smoothing::circular_tangent(v, vector(s, at, 3)).tangent),
         _ => one(mesh::radians(x)),
     }
 }

@@ -30,8 +30,8 @@ fn tfn_all(
     let mut from = replay::after(at, 4);
     for e in 0..n {
         let normal = smoothing::point_at(own, e);
-        let tangent = smoothing::tangent_from_normal(h, pos, normals, normal, e);
-        if !same_tangent(s, from, tangent) {
+        let made = smoothing::tangent_from_normal(h, pos, normals, normal, e);
+        if !same_tangent(s, from, made.tangent) {
             return false;
         }
         from = replay::after(from, 32);

@@ -9,7 +9,7 @@ use Rattle.linalg.specs.Vec.{crossOf, dotOf}
 use Rattle.mesh.specs.Mesh.{halfedgeStride, startVert, endVert, pairedHalfedge, Halfedges}
 use Rattle.mesh.specs.Sound.{Sound}
 use Rattle.smoothing.specs.declared.EdgeVecs.{EdgeVecs}
-use Rattle.smoothing.specs.Directions.{angleBetween, circularTangent}
+use Rattle.smoothing.specs.Directions.{angleBetween, isDegenerate, directionless, circularTangent}
 use Rattle.smoothing.specs.Lists.{pointAt}
 use Rattle.smoothing.specs.Edges.{edgeVec, biTangent, tangentFromNormal}
 use Rattle.smoothing.specs.Inner.{angleOfCosine, LengthOf, edgeNormal, directionFromNormal, EdgesIn, PairIn, edgeVecs}
@@ -46,6 +46,11 @@ squared-there : {H : Halfedges} {P : List Float} {e : ℕ} → EdgesIn H P e →
 unfolding edgeVec
 squared-there {H} {P} {e} w =
     rw (w.paired-start, w.paired-end) (dot-sub3 (pointAt P (endVert H e)) (pointAt P (startVert H e)))
+
+-- neither has a direction, or both have one
+pub directionless-there : {H : Halfedges} {P : List Float} {e : ℕ} → EdgesIn H P e → directionless (edgeVec H P (pairedHalfedge H e)) ≡ directionless (edgeVec H P e)
+unfolding directionless
+directionless-there w = ap isDegenerate (sym (squared-there w))
 
 -- one length serves both
 pub length-there : {H : Halfedges} {P : List Float} {e : ℕ} {len2 len : Float} (v : EdgeVecs) → EdgesIn H P e → v ≡ edgeVecs H P e → LengthOf v.here len2 len → LengthOf v.there len2 len

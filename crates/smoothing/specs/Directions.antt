@@ -8,6 +8,8 @@ use Rattle.math.specs.Acos.{acosOf}
 use Rattle.linalg.specs.declared.Vec3.{Vec3}
 use Rattle.linalg.specs.declared.Vec4.{Vec4}
 use Rattle.linalg.specs.Vec.{dotOf, div3, lengthOf}
+use Rattle.smoothing.specs.declared.Direction.{Direction}
+use Rattle.smoothing.specs.declared.CircularTangent.{CircularTangent}
 
 -- `vec3_from_vec4`
 unfoldable pub vec3FromVec4 : Vec4 → Vec3
@@ -24,6 +26,14 @@ directionBy v len2 len = cond (isDegenerate len2) (record { x = zero; y = zero; 
 -- `safe_normalize`
 unfoldable pub safeNormalize : Vec3 → Vec3
 safeNormalize v = let len2 = dotOf v v in directionBy v len2 (sqrtOf len2)
+
+-- v has no direction: the whole test of `safe_normalize` says so. A zero that its division gives does not count.
+unfoldable pub directionless : Vec3 → Bool
+directionless v = isDegenerate (dotOf v v)
+
+-- `safe_normalize`, and that test
+abbrev pub directionOf : Vec3 → Direction
+directionOf v = record { vec = safeNormalize v; directionless = directionless v }
 
 -- `wrap`
 unfoldable pub wrapOf : Float → Float
@@ -57,3 +67,7 @@ circularTangent tangent edge =
       w = one ⊕ (bz2.w ⊖ one) ⊗ (two ⊘ three);
     } in
     record { x = bz3.x ⊘ bz3.w; y = bz3.y ⊘ bz3.w; z = bz3.z ⊘ bz3.w; w = bz3.w }
+
+-- `circular_tangent`, and whether its edge has no direction
+abbrev pub circularTangentOf : Vec3 → Vec3 → CircularTangent
+circularTangentOf tangent edge = record { tangent = circularTangent tangent edge; directionless = directionless edge }

@@ -7,7 +7,8 @@ use Rattle.linalg.specs.declared.Vec4.{Vec4}
 use Rattle.linalg.specs.Vec.{add3, sub3, dotOf, crossOf}
 use Rattle.mesh.specs.Mesh.{startVert, endVert, pairedHalfedge, nextHalfedge, sameFace, Halfedges}
 use Rattle.mesh.specs.Inside.{Inside}
-use Rattle.smoothing.specs.Directions.{circularTangent}
+use Rattle.smoothing.specs.declared.CircularTangent.{CircularTangent}
+use Rattle.smoothing.specs.Directions.{directionless, circularTangent}
 use Rattle.smoothing.specs.Lists.{pointAt, weightAt}
 
 -- ---- what the lists must hold for a call: `edge-in`, `normals-in`, `faces-in`, `quad-in` and `inside-quad-in` of `proofs/Edges.antt` give it on an accepted mesh
@@ -62,6 +63,10 @@ tangentFromNormal H P A normal e =
     let edge = edgeVec H P e in
     let edgeNormal = add3 (pointAt A (e / 3)) (pointAt A (pairedHalfedge H e / 3)) in
     circularTangent (crossOf (biTangent normal edgeNormal edge) normal) edge
+
+-- `tangent_from_normal`, and whether its edge has no direction
+abbrev pub tangentFromNormalOf : Halfedges → List Float → List Float → Vec3 → ℕ → CircularTangent
+tangentFromNormalOf H P A normal e = record { tangent = tangentFromNormal H P A normal e; directionless = directionless (edgeVec H P e) }
 
 -- ---- inside a quad
 

@@ -1,4 +1,4 @@
--- Only contracts inside a call name these: the steps of `angle_between`, `circular_tangent` and `tangent_from_normal` that are worked out apart, and both halfedges of an edge at once. H are the halfedges, P the positions, A the face normals.
+-- Only contracts inside a call name these: the steps of `safe_normalize`, `angle_between`, `circular_tangent` and `tangent_from_normal` that are worked out apart, and both halfedges of an edge at once. H are the halfedges, P the positions, A the face normals.
 use Rattle.std.specs.Prelude.{ℕ, ◌/◌, ◌≡◌, List, cond, Float}
 use Rattle.std.specs.Float.Ieee.{le, neg}
 use Rattle.float.specs.Ops.{zero, one, pi}
@@ -9,10 +9,16 @@ use Rattle.linalg.specs.Vec.{add3, dotOf, crossOf}
 use Rattle.mesh.specs.Mesh.{startVert, endVert, pairedHalfedge, isForward, Halfedges}
 use Rattle.smoothing.specs.declared.EdgeVecs.{EdgeVecs}
 use Rattle.smoothing.specs.declared.TwoTangents.{TwoTangents}
+use Rattle.smoothing.specs.declared.Direction.{Direction}
+use Rattle.smoothing.specs.Directions.{isDegenerate, directionBy, directionless}
 use Rattle.smoothing.specs.Lists.{pointAt}
 use Rattle.smoothing.specs.Edges.{EdgeIn, NormalsIn, edgeVec, biTangent, tangentFromNormal}
 
 -- ---- the steps
+
+-- the end of `safe_normalize`, and its test
+abbrev pub directionByOf : Vec3 → Float → Float → Direction
+directionByOf v len2 len = record { vec = directionBy v len2 len; directionless = isDegenerate len2 }
 
 -- `angle_between`, of the dot product
 unfoldable pub angleOfCosine : Float → Float
@@ -48,11 +54,12 @@ pub record PairIn (H : Halfedges) (P A : List Float) (e : ℕ) : Type 0 where
 unfoldable pub edgeVecs : Halfedges → List Float → ℕ → EdgeVecs
 edgeVecs H P e = record { here = edgeVec H P e; there = edgeVec H P (pairedHalfedge H e) }
 
--- a is the normal at e, b that at its pair
+-- a is the normal at e, b that at its pair; the edge is that of e, and the pair's has no direction where it has none
 unfoldable pub tangentsFromNormals : Halfedges → List Float → List Float → Vec3 → Vec3 → ℕ → TwoTangents
 tangentsFromNormals H P A a b e = record {
   here = tangentFromNormal H P A a e;
   there = tangentFromNormal H P A b (pairedHalfedge H e);
+  directionless = directionless (edgeVec H P e);
 }
 
 -- the body of a loop that writes a value of each halfedge edge by edge: at the forward one of a pair those of both

@@ -5,13 +5,28 @@
 ghost use Rattle.std.specs.Prelude.{◌≡◌, ◌+◌, ◌*◌, ◌≤◌, length};
 ghost use Rattle.mesh.specs.Mesh.{asHalfedges};
 ghost use Rattle.mesh.specs.Inside.{Inside};
-ghost use Rattle.smoothing.specs.Directions.{vec3FromVec4, isDegenerate, directionBy, safeNormalize, wrapOf, angleBetween, equalNormals, equalUnits, circularTangent};
+ghost use Rattle.smoothing.specs.Directions.{vec3FromVec4, isDegenerate, directionOf, wrapOf, angleBetween, equalNormals, equalUnits, circularTangentOf};
 ghost use Rattle.smoothing.specs.Lists.{pointAt, tangentAt, putTangent, weightAt, isMarkedInsideQuad};
-ghost use Rattle.smoothing.specs.Edges.{EdgeIn, NormalsIn, FacesIn, TriangleIn, InsideQuadIn, edgeVec, biTangent, tangentFromNormal, sameFaceAcross, noOtherNeighbor, isInsideQuad};
-ghost use Rattle.smoothing.specs.Inner.{angleOfCosine, LengthOf, edgeNormal, directionFromNormal, EdgesIn, PairIn, edgeVecs, tangentsFromNormals};
+ghost use Rattle.smoothing.specs.Edges.{EdgeIn, NormalsIn, FacesIn, TriangleIn, InsideQuadIn, edgeVec, biTangent, tangentFromNormalOf, sameFaceAcross, noOtherNeighbor, isInsideQuad};
+ghost use Rattle.smoothing.specs.Inner.{directionByOf, angleOfCosine, LengthOf, edgeNormal, directionFromNormal, EdgesIn, PairIn, edgeVecs, tangentsFromNormals};
 ghost use Rattle.linalg.specs.Vec.{crossOf};
 
 use linalg::{Vec3, Vec4};
+
+// The direction of a vector, and whether it has none by the test of `safe_normalize`: then `vec` is zero. A zero that the division gives
+// does not count.
+#[derive(Clone, Copy)]
+pub struct Direction {
+    pub vec: Vec3,
+    pub directionless: bool,
+}
+
+// A circular tangent, and whether its edge has no direction.
+#[derive(Clone, Copy)]
+pub struct CircularTangent {
+    pub tangent: Vec4,
+    pub directionless: bool,
+}
 
 // The edges of a halfedge and of its pair.
 #[derive(Clone, Copy)]
@@ -20,11 +35,12 @@ pub struct EdgeVecs {
     pub there: Vec3,
 }
 
-// The tangents of a halfedge and of its pair.
+// The tangents of a halfedge and of its pair, and whether their edge, the same for both, has no direction.
 #[derive(Clone, Copy)]
 pub struct TwoTangents {
     pub here: Vec4,
     pub there: Vec4,
+    pub directionless: bool,
 }
 
 const K_PI: f64 = 3.14159265358979323846264338327950288;
@@ -52,21 +68,29 @@ fn is_degenerate(len2: f64) -> bool
 }
 
 // The direction of v, where its squared length and its length are known.
-fn direction_by(v: Vec3, len2: f64, len: f64) -> Vec3
-    ensures { result ≡ directionBy v len2 len }
+fn direction_by(v: Vec3, len2: f64, len: f64) -> Direction
+    ensures { result ≡ directionByOf v len2 len }
 {
     if is_degenerate(len2) {
-        return Vec3 {
+        let zero = Vec3 {
             x: 0.0,
             y: 0.0,
             z: 0.0,
         };
+        return Direction {
+            vec: zero,
+            directionless: true,
+        };
     }
-    linalg::divide(v, len)
+    let vec = linalg::divide(v, len);
+    Direction {
+        vec,
+        directionless: false,
+    }
 }
 
-pub fn safe_normalize(v: Vec3) -> Vec3
-    ensures { result ≡ safeNormalize v }
+pub fn safe_normalize(v: Vec3) -> Direction
+    ensures { result ≡ directionOf v }
 {
     let len2 = linalg::dot(v, v);
     direction_by(v, len2, sqrt::sqrt(len2))
@@ -113,20 +137,21 @@ pub fn equal_units(u: Vec3, v: Vec3) -> bool
 pub fn equal_normals(a: Vec3, b: Vec3) -> bool
     ensures { result ≡ equalNormals a b }
 {
-    equal_units(safe_normalize(a), safe_normalize(b))
+    equal_units(safe_normalize(a).vec, safe_normalize(b).vec)
 }
 
 // `circular_tangent`, where the edge's squared length and its length are known.
-pub fn circular_tangent_by(tangent: Vec3, edge_vec: Vec3, len2: f64, len: f64) -> Vec4
+pub fn circular_tangent_by(tangent: Vec3, edge_vec: Vec3, len2: f64, len: f64) -> CircularTangent
     requires { LengthOf edge_vec len2 len }
-    ensures { result ≡ circularTangent tangent edge_vec }
+    ensures { result ≡ circularTangentOf tangent edge_vec }
 {
     let dir = safe_normalize(tangent);
-    let weight = float::max(0.5, linalg::dot(dir, direction_by(edge_vec, len2, len)));
+    let edge_dir = direction_by(edge_vec, len2, len);
+    let weight = float::max(0.5, linalg::dot(dir.vec, edge_dir.vec));
     let bz2 = Vec4 {
-        x: dir.x * 0.5 * len,
-        y: dir.y * 0.5 * len,
-        z: dir.z * 0.5 * len,
+        x: dir.vec.x * 0.5 * len,
+        y: dir.vec.y * 0.5 * len,
+        z: dir.vec.z * 0.5 * len,
         w: weight,
     };
     let bz3 = Vec4 {
@@ -135,17 +160,21 @@ pub fn circular_tangent_by(tangent: Vec3, edge_vec: Vec3, len2: f64, len: f64) -
         z: bz2.z * (2.0 / 3.0),
         w: 1.0 + (bz2.w - 1.0) * (2.0 / 3.0),
     };
-    Vec4 {
+    let made = Vec4 {
         x: bz3.x / bz3.w,
         y: bz3.y / bz3.w,
         z: bz3.z / bz3.w,
         w: bz3.w,
+    };
+    CircularTangent {
+        tangent: made,
+        directionless: edge_dir.directionless,
     }
 }
 
 // The length of the edge is worked out once, for its direction and for itself.
-pub fn circular_tangent(tangent: Vec3, edge_vec: Vec3) -> Vec4
-    ensures { result ≡ circularTangent tangent edge_vec }
+pub fn circular_tangent(tangent: Vec3, edge_vec: Vec3) -> CircularTangent
+    ensures { result ≡ circularTangentOf tangent edge_vec }
 {
     let len2 = linalg::dot(edge_vec, edge_vec);
     circular_tangent_by(tangent, edge_vec, len2, sqrt::sqrt(len2))
@@ -257,9 +286,9 @@ pub fn tangent_from_normal(
     face_normals: &[f64],
     normal: Vec3,
     e: usize,
-) -> Vec4
+) -> CircularTangent
     requires { FacesIn (asHalfedges h.now) pos.now face_normals.now e }
-    ensures { result ≡ tangentFromNormal (asHalfedges h.now) pos.now face_normals.now normal e }
+    ensures { result ≡ tangentFromNormalOf (asHalfedges h.now) pos.now face_normals.now normal e }
 {
     let edge = edge_vec(h, pos, e);
     circular_tangent(
@@ -282,16 +311,22 @@ fn edge_vecs(h: &[i32], pos: &[f64], e: usize) -> EdgeVecs
 }
 
 // The tangent from a normal, where the edge, its length and its normal are known.
-fn tangent_across(normal: Vec3, edge_normal: Vec3, edge: Vec3, len2: f64, len: f64) -> Vec4
+fn tangent_across(
+    normal: Vec3,
+    edge_normal: Vec3,
+    edge: Vec3,
+    len2: f64,
+    len: f64,
+) -> CircularTangent
     requires { LengthOf edge len2 len }
-    ensures { result ≡ circularTangent (crossOf (biTangent normal edge_normal edge) normal) edge }
+    ensures { result ≡ circularTangentOf (crossOf (biTangent normal edge_normal edge) normal) edge }
 {
     let bi = bi_tangent(normal, edge_normal, edge);
     circular_tangent_by(linalg::cross(bi, normal), edge, len2, len)
 }
 
 // The tangents of halfedge e and of its pair from a normal each. The squared length and the sum of the two triangles' normals are the
-// same either way, so each is worked out once, with one root.
+// same either way, so each is worked out once, with one root; and so is whether the edge has no direction.
 pub fn tangents_from_normals(
     h: &[i32],
     pos: &[f64],
@@ -309,7 +344,11 @@ pub fn tangents_from_normals(
     let len = sqrt::sqrt(len2);
     let here = tangent_across(a, normal, edges.here, len2, len);
     let there = tangent_across(b, normal, edges.there, len2, len);
-    TwoTangents { here, there }
+    TwoTangents {
+        here: here.tangent,
+        there: there.tangent,
+        directionless: here.directionless,
+    }
 }
 
 // Is the triangle across halfedge e of triangle t's face?

@@ -1,5 +1,6 @@
 -- `create_initial::first_tangent` meets its contract: each way is what the test picks. Assumes nothing.
 use Rattle.smoothing.proofs.Edges.{inside-quad-in}
+use Rattle.smoothing.proofs.Directions.{tangent-of}
 use Rattle.create_initial.specs.First.{firstTangent}
 use Rattle.create_initial.proofs.first_tangent.Goals as goal
 
@@ -16,4 +17,4 @@ returns-then-is_inside_quad c =
 pub returns : goal.returns
 unfolding firstTangent
 returns c =
-    simp (← c.is_inside_quad.ensures, c.if-is_inside_quad.false, ← c.normal_at-normal.ensures) c.tangent_from_normal.ensures
+    simp (← c.is_inside_quad.ensures, c.if-is_inside_quad.false, ← c.normal_at-normal.ensures) (tangent-of c.tangent_from_normal.ensures)

@@ -8,6 +8,6 @@ pub point_at-normal-requires : goal.point_at-normal-requires
 point_at-normal-requires c =
     omega (arith, c.requires.normals, c.loop-e-test.true)
 
-pub tangent_from_normal-tangent-requires : goal.tangent_from_normal-tangent-requires
-tangent_from_normal-tangent-requires c =
+pub tangent_from_normal-made-requires : goal.tangent_from_normal-made-requires
+tangent_from_normal-made-requires c =
     let l = c.requires in faces-in _ _ _ _ _ l.sound l.whole l.positions l.faces c.loop-e.e c.loop-e-test.true

@@ -10,4 +10,4 @@ returns-then-is_degenerate c =
 pub returns : goal.returns
 unfolding directionBy
 returns c =
-    simp (← c.is_degenerate.ensures, c.if-is_degenerate.false) c.divide.ensures
+    simp (← c.is_degenerate.ensures, c.if-is_degenerate.false, ← c.divide-vec.ensures)
