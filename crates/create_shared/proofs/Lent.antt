@@ -1,6 +1,5 @@
 -- On an accepted mesh the lent lists hold what `create_shared` reads and writes. Assumes nothing.
-use Prim.Native.Nat.{ℕ, ◌*◌, ◌<◌}
-use native.Mathlib.Omega.{arith}
+use Prim.Native.Nat.{ℕ, ◌*◌}
 use mathlib.Core.Path.{◌≡◌, sym, subst}
 use Rattle.mesh.specs.Mesh.{halfedgeStride, Halfedges}
 use Rattle.mesh.specs.Sound.{Sound}
@@ -14,8 +13,5 @@ pub verts-in : (H : Halfedges) (n p : ℕ) → Sound H n p → H.numbers ≡ n *
 verts-in H n p s whole = record { start-in = s.start-below; inside = inside s whole }
 
 -- a list that keeps its length
-pub flat-still : (H : Halfedges) (j a b : ℕ) → b ≡ a → j < a → FlatIn H a → (j < b) × FlatIn H b
-flat-still H j a b q l f = (omega arith, subst (FlatIn H) (sym q) f)
-
 pub verts-still : (H : Halfedges) (n a b : ℕ) → b ≡ a → VertsIn H n a → VertsIn H n b
 verts-still H n a b q f = subst (VertsIn H n) (sym q) f

@@ -4,4 +4,3 @@ pub mod Flat
 pub mod Verts
 mod Codes
 pub mod Lengths
-pub mod Makings

@@ -1,19 +1,16 @@
 -- The steps of `tangent_from_normal` that are worked out apart make it; and what both halfedges of an edge share. Assumes nothing.
-use Prim.Native.Nat.{ℕ, ◌*◌, ◌/◌, ◌<◌}
+use Prim.Native.Nat.{ℕ, ◌/◌}
 use mathlib.Core.Path.{◌≡◌, refl, sym, ap, ◌∙◌}
 use mathlib.Core.List.{List}
-use lib.ListN.{length}
 use lib.Ieee.{Float}
 use Rattle.linalg.specs.declared.Vec3.{Vec3}
 use Rattle.linalg.specs.Vec.{crossOf, dotOf}
-use Rattle.mesh.specs.Mesh.{halfedgeStride, startVert, endVert, pairedHalfedge, Halfedges}
-use Rattle.mesh.specs.Sound.{Sound}
+use Rattle.mesh.specs.Mesh.{startVert, endVert, pairedHalfedge, Halfedges}
 use Rattle.smoothing.specs.declared.EdgeVecs.{EdgeVecs}
 use Rattle.smoothing.specs.Directions.{angleBetween, isDegenerate, directionless, circularTangent}
 use Rattle.smoothing.specs.Lists.{pointAt}
 use Rattle.smoothing.specs.Edges.{edgeVec, biTangent, tangentFromNormal}
-use Rattle.smoothing.specs.Inner.{angleOfCosine, LengthOf, edgeNormal, directionFromNormal, EdgesIn, PairIn, edgeVecs}
-use Rattle.smoothing.proofs.Edges.{edge-in, normals-in}
+use Rattle.smoothing.specs.Inner.{angleOfCosine, LengthOf, edgeNormal, directionFromNormal, EdgesIn, edgeVecs}
 use Rattle.smoothing.proofs.Floats.{add3-flip, dot-sub3}
 
 pub angle-between-is : (a b : Vec3) → angleBetween a b ≡ angleOfCosine (dotOf a b)
@@ -29,14 +26,6 @@ unfolding directionFromNormal
 tangent-by-direction = tangent-across
 
 -- ---- halfedge e and its pair
-
--- on an accepted mesh
-pub pair-in : (H : Halfedges) (n p : ℕ) (P A : List Float) → Sound H n p → H.numbers ≡ n * halfedgeStride → length P ≡ p * 3 → length A ≡ n → (e : ℕ) → e < n → PairIn H P A e
-pair-in H n p P A s whole l m e h = record {
-  edges = record { edge = edge-in H n p P s whole l e h; paired-start = s.paired-start e h; paired-end = s.paired-end e h };
-  normals = normals-in H n p A s whole m e h;
-  paired-back = s.paired-back e h;
-}
 
 pub normal-there : (H : Halfedges) (A : List Float) (e : ℕ) → pairedHalfedge H (pairedHalfedge H e) ≡ e → edgeNormal H A (pairedHalfedge H e) ≡ edgeNormal H A e
 unfolding edgeNormal
