@@ -100,14 +100,7 @@ pub fn safe_normalize(v: Vec3) -> Direction
 fn unit_by(v: Vec3, len2: f64, len: f64) -> Vec3
     ensures { result ≡ directionBy v len2 len }
 {
-    if is_degenerate(len2) {
-        return Vec3 {
-            x: 0.0,
-            y: 0.0,
-            z: 0.0,
-        };
-    }
-    linalg::divide(v, len)
+    direction_by(v, len2, len).vec
 }
 
 // The vector of `safe_normalize` alone, for callers who do not ask whether there is a direction: it is fewer instructions, as long

@@ -1,13 +1,7 @@
--- `smoothing::unit_by` meets its contract: each way is what the test picks. Assumes nothing.
-use Rattle.smoothing.specs.Directions.{directionBy}
+-- `smoothing::unit_by` meets its contract: it is a part of what `direction_by` gives. Assumes nothing.
+use Rattle.smoothing.proofs.Directions.{vec-of}
 use Rattle.smoothing.proofs.unit_by.Goals as goal
 
-pub returns-then-is_degenerate : goal.returns-then-is_degenerate
-unfolding directionBy
-returns-then-is_degenerate c =
-    simp (← c.is_degenerate.ensures, c.if-is_degenerate.true)
-
 pub returns : goal.returns
-unfolding directionBy
 returns c =
-    simp (← c.is_degenerate.ensures, c.if-is_degenerate.false, ← c.divide.ensures)
+    vec-of c.direction_by.ensures
