@@ -6,8 +6,8 @@
  * (3 p), t the tangents (4 n: x, y, z and the weight).
  *
  * Every call answers through `answer`, four numbers: the number of the first question of documents 01 and 02 that the mesh does
- * not meet (0 if it is accepted), its lowest place, and the two numbers of an accepted call. A shorter list gets as many as it
- * holds. A refused call writes nothing else. */
+ * not meet (0 if it is accepted), its lowest place, and the two numbers of an accepted call, 0 where nothing is said of them
+ * below. A refused call has 0 for both, and writes nothing else. A shorter list gets as many as it holds. */
 #ifndef TANGENTS_H
 #define TANGENTS_H
 
@@ -49,7 +49,8 @@ void tangents_preview_tangents(size_t n, size_t p, const int32_t *h, size_t h_le
 /* Making from sharp edges: normals has three numbers for each point, face_normals and refs three for each triangle, entries and
  * values the halfedge and the smoothness of each sharp entry. old is 0 where t holds no old tangents; t has 4 n numbers all the
  * same. Of the scratch lists at has a place for each point, each other one for each halfedge; they hold zeros afterwards.
- * Writes t. */
+ * Writes t; answer[2] is how many circular tangents were computed on an edge without direction, those that were overwritten
+ * included. */
 void tangents_create_tangents(size_t n, size_t p, const int32_t *h, size_t h_len, const double *pos, size_t pos_len,
                               const double *normals, size_t normals_len, const double *face_normals, size_t face_normals_len,
                               const int32_t *refs, size_t refs_len, const size_t *entries, size_t entries_len,
@@ -61,7 +62,7 @@ void tangents_create_tangents(size_t n, size_t p, const int32_t *h, size_t h_len
 /* Making from normals: as above, with rows, three numbers for each row and any number of rows, for the entries: the normal of a
  * halfedge is that of its row. A length of rows that is no multiple of 3 is refused with 2; a row that is not in the list (no
  * negative one is) with 12 and the lowest such halfedge, asked after 7 and before 8. Of the scratch lists first has a place for
- * each point, each other one for each halfedge; they hold zeros afterwards. Writes t. */
+ * each point, each other one for each halfedge; they hold zeros afterwards. Writes t; answer[2] is the same count. */
 void tangents_create_tangents_from_normals(size_t n, size_t p, const int32_t *h, size_t h_len, const double *pos,
                                            size_t pos_len, const double *normals, size_t normals_len,
                                            const double *face_normals, size_t face_normals_len, const int32_t *refs,

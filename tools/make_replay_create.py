@@ -4,24 +4,30 @@
     tools/make_replay_create.py ORACLE > crates/replay_create/stdin
 
 ORACLE is the checking build of the oracle (the unchanged Rust behind a text format). The cases are the same in every run: random
-meshes of the oracle, as they are and with other entries, normals and old weights, the rarer features first, and its damaged meshes.
-What they have is counted on standard error.
+meshes of the oracle, as they are and with other entries, normals and old weights, and with edges without direction, the rarer
+features first, and its damaged meshes. What they have is counted on standard error; tools/makings.py works it out by the Rust's
+steps, and with it the count of circular tangents on an edge without direction, which has to be the oracle's.
 
-A case (tools/cases.py) has u32 old (1 where there are old tangents), u32 the ends of the positions, the point normals and the face
-normals in the list of floats, u32 the end of the halfedges in the list of i32; then the list of floats (positions, point normals,
-face normals, and the smoothness of the entries or the row list), the list of i32 (halfedges, references of the triangles), the
-halfedges of the entries, the old tangents, and the tangents after the call.
+A case (tools/cases.py) has u32 old (1 where there are old tangents), u32 the count (0 where refused), u32 the ends of the positions,
+the point normals and the face normals in the list of floats, u32 the end of the halfedges in the list of i32; then the list of floats
+(positions, point normals, face normals, and the smoothness of the entries or the row list), the list of i32 (halfedges, references of
+the triangles), the halfedges of the entries, the old tangents, and the tangents after the call.
 """
 import collections, math, random, sys
-from cases import Mesh, answered, chosen, count, counts, floats, halfedges, mesh_features, number, one_nan, oracle, record, refusal, refused, signed, text, u32, word, write
+from cases import Mesh, answered, blocks, chosen, count, counts, floats, halfedges, mesh_features, number, one_nan, oracle, record, refusal, refused, signed, text, u32, word, write
+from makings import count_features, lent_normals, triples
 
 LARGEST = 24  # halfedges of a mesh that is taken
 SMALL = 12  # and of one with no rare feature
+LARGEST_COUNTED = 18  # the same of the counted cases
+SMALL_COUNTED = 6
 ACCEPTED = 4000  # cases of each making
 REFUSED = 300
 ROWS = 1050  # cases with rows of their own
 ROWS_REFUSED = 320
+COUNTED = 1050  # counted cases of each making: many of their edges have no direction
 RARE = 150  # cases of a feature that are taken before the others
+RARE_COUNTED = 32  # the same of the counted ones
 ROOM = {"floats": 256, "signed": 128, "sh": 64, "tan": 128, "points": 32, "bytes": 4096}  # places of the lists in the program
 LENT = "3fe0000000000000"  # a tangent's numbers where there are no old ones: 0.5
 
@@ -31,7 +37,7 @@ def packed(case, answer):
     old = "tan" in case
     lent = one_nan(get("tan")) if old else [LENT] * (4 * min(int(case["counts"][1]), LARGEST))
     ends = [len(get("pos")), len(get("vn")), len(get("fn"))]
-    lists = u32(old) + b"".join(u32(sum(ends[: k + 1])) for k in range(3)) + u32(len(halfedges(case)))
+    lists = u32(old) + u32(int(answer["directionless"][0]) if answer else 0) + b"".join(u32(sum(ends[: k + 1])) for k in range(3)) + u32(len(halfedges(case)))
     lists += floats(get("pos") + get("vn") + get("fn") + get("ss") + row_list(case)) + signed(halfedges(case) + get("ref")) + counts(get("sh"))
     return lists + floats(get("tan")) + floats(answer.get("tan", []) if answer else lent)
 
@@ -116,7 +122,9 @@ def sharp_features(case, m, out):
                 out.add("a meeting across two rounds")
 
 
-def equal_normals(a, b):
+def alike(a, b):
+    """Nearly `equal_normals`, with lengths whose squares may overflow; the cases were chosen by it."""
+
     def unit(v):
         length = math.hypot(*v)
         return [x / length if 0 < length < math.inf else 0.0 for x in v]
@@ -159,12 +167,9 @@ def refused_features(case):
 
 
 def normals_features(case, m, out):
-    triples = lambda k: [tuple(number(x) for x in case.get(k, [])[i : i + 3]) for i in range(0, len(case.get(k, [])), 3)]
-    lent, faces = triples("nrm"), triples("fn")
+    lent, faces = lent_normals(case), triples(case["fn"])
     if "prop" in case:
-        rows, used = triples("prop"), [int(x) for x in case["row"]]
-        lent = [rows[x] for x in used]
-        out |= row_features(used, len(rows))
+        out |= row_features([int(x) for x in case["row"]], len(case["prop"]) // 3)
     missing = [x == (0.0, 0.0, 0.0) for x in lent]
     if any(missing[e] and math.copysign(1, x) < 0 for e in range(m.n) for x in lent[e]):
         out.add("a normal missing, zeros of the other sign")
@@ -178,9 +183,9 @@ def normals_features(case, m, out):
             out.add("all normals missing at a point")
         if runs:
             out.add("a run of normals missing" if runs == 1 else "several runs of normals missing")
-        kept = [equal_normals(lent[e], lent[f]) for e, f in steps if not (missing[e] or missing[f] or m.diagonal(e))]
+        kept = [alike(lent[e], lent[f]) for e, f in steps if not (missing[e] or missing[f] or m.diagonal(e))]
         out |= {"normals equal" if x else "normals different" for x in kept}
-        flat = [equal_normals(lent[e], faces[e // 3]) for e in round]
+        flat = [alike(lent[e], faces[e // 3]) for e in round]
         edges = sum(flat[k] != flat[k - 1] for k in range(len(flat)))
         if edges and all(kept):
             out.add("flat faces on one side" if edges == 2 else "flat faces on several sides")
@@ -232,24 +237,79 @@ def changed(case, how, rnd):
     return c
 
 
+def counting(cases):
+    """Cases as the oracle reads them, with the line that asks for the count."""
+    return text([{**c, "count": []} for c in cases])
+
+
+def moved(case, how, e, rnd):
+    """The positions with the ends of halfedge e, all points or those of its triangle together, with its ends apart by a number of
+    which a part vanishes, by more than a number holds, or by very little, or with one end that is not finite."""
+    pos, start = list(case["pos"]), [int(x) for x in case["he"][0::3]]
+    at = lambda v: slice(3 * v, 3 * v + 3)
+    u, v = start[e], int(case["he"][3 * e + 1])
+    if how < 3:
+        for x in ([v], range(len(pos) // 3), start[e - e % 3 : e - e % 3 + 3])[how]:
+            pos[at(x)] = pos[at(u)]
+        return pos
+    far = rnd.choice([-1.0, 1.0]) * rnd.choice([1.2e308, 1.7e308])
+    near = rnd.choice([1e-163, 1.5e-162, 3e-162, -1e-161, 1e-155])
+    ends = ([(0.0, 0.0, 0.0), (5e-324, rnd.choice([-3.0, 7.0]), 0.0)], [(far, 0.0, 1.0), (-far, 0.0, 1.0)], [(0.0, 0.0, 0.0), (near, 0.0, near)])
+    strange = rnd.choice([math.inf, -math.inf, math.nan])
+    for x, place in zip((u, v), ends[how - 3] if how < 6 else [(strange, 0.0, 0.0)]):
+        pos[at(x)] = [word(y) for y in place]
+    return pos
+
+
+def pinched(case, how, rnd):
+    """The case with edges without direction, or nearly, and a crease through a point, a single flat face, normals missing at a point or
+    other entries, normals and old weights there."""
+    c, n = dict(case) if "prop" in case else changed(case, how % 4, rnd), int(case["counts"][1])
+    e, start, pair = rnd.randrange(n), [int(x) for x in c["he"][0::3]], [int(x) for x in c["he"][2::3]]
+    c["pos"] = moved(c, how % 7, e, rnd)
+    here = [x for x in range(n) if start[x] == start[e]]
+    if c["op"] == "sharp" and how % 3:
+        c["sh"] = [e, rnd.choice(here), pair[e]][: how % 5 + 1]
+        c["ss"] = [word(rnd.choice([0.0, 0.25, 0.5])) for _ in c["sh"]]
+    if "nrm" in c and how % 3:
+        for x in here:
+            c["nrm"][3 * x : 3 * x + 3] = [word(0.0)] * 3 if how % 3 == 1 else c["fn"][e - e % 3 : e - e % 3 + 3]
+    return c
+
+
+def counted_cases(rnd):
+    """Accepted cases of both makings, many with edges without direction."""
+    pairs = answered(counting(blocks(oracle(["gen", "count", "3", "12000"]))), LARGEST_COUNTED)
+    pairs += answered(counting(pinched(c, k, rnd) for k, (c, a) in enumerate(pairs) if c.get("he")), LARGEST_COUNTED)
+    rnd.shuffle(pairs)
+    pairs = [(c, a) for c, a in sorted(pairs, key=lambda x: not is_small(x[0])) if fits(c)]
+    found, out = lambda c, a: count_features(c, a) | shared_features(c, a, Mesh(c)), []
+    for kind in ("sharp", "normals"):
+        print("count,", kind, file=sys.stderr)
+        out += chosen([(c, a) for c, a in pairs if c["op"] == kind], found, COUNTED, RARE_COUNTED, lambda c: int(c["counts"][1]) <= SMALL_COUNTED)
+    print(sum("prop" in c for c, a in out), "with rows of their own", file=sys.stderr)
+    return [record(c, packed(c, a)) for c, a in out]
+
+
 def main():
     rnd, accepted, rest = random.Random(5), [], []
     for kind in ("sharp", "normals"):
-        pairs = answered(oracle(["gen", kind, "3", "20000"]), LARGEST)
-        pairs += answered(text([changed(c, k % 4, rnd) for k, (c, a) in enumerate(pairs) if c.get("he")]), LARGEST)
+        pairs = answered(counting(blocks(oracle(["gen", kind, "3", "20000"]))), LARGEST)
+        pairs += answered(counting(changed(c, k % 4, rnd) for k, (c, a) in enumerate(pairs) if c.get("he")), LARGEST)
         rnd.shuffle(pairs)
         print(kind, file=sys.stderr)
         accepted += [record(c, packed(c, a)) for c, a in chosen([(c, a) for c, a in pairs if fits(c)], features, ACCEPTED, RARE, is_small)]
         damaged = [c for c in refused("7", 4 * 18) if c["op"] == kind and fits(c)][:REFUSED]
         print("refused:", collections.Counter(refusal(c)[0] for c in damaged), file=sys.stderr)
         rest += [record(c, packed(c, None), *refusal(c)) for c in damaged]
-    pairs = [(c, a) for c, a in answered(oracle(["gen", "rows", "3", "8000"]), LARGEST) if fits(c)]
+    pairs = [(c, a) for c, a in answered(counting(blocks(oracle(["gen", "rows", "3", "8000"]))), LARGEST) if fits(c)]
     print("rows", file=sys.stderr)
     accepted += [record(c, packed(c, a)) for c, a in chosen(pairs, features, ROWS, RARE, is_small)]
     damaged = [c for c in refused("7", 4 * 18, "refuse-rows", "4000") if fits(c)][:ROWS_REFUSED]
     print("refused:", collections.Counter(refusal(c)[0] for c in damaged), file=sys.stderr)
     count(refused_features(c) for c in damaged)
     rest += [record(c, packed(c, None), *refusal(c)) for c in damaged]
+    accepted += counted_cases(random.Random(7))
     assert max(map(len, accepted + rest)) <= ROOM["bytes"]
     write(accepted, rest)
 

@@ -1,7 +1,7 @@
 //! The oracle's text format: cases, answers, and the unit's answer to a case, written as the oracle writes it.
 
 use crate::{create_tangents, create_tangents_from_normals, distribute_tangents, linearize_flat_tangents, preview_tangents, sharpen_edges};
-use crate::{valid_tangents, Counts, CreateScratch, NormalsScratch, Refused};
+use crate::{valid_tangents, Counts, CreateScratch, Made, NormalsScratch, Refused};
 use std::fmt::{Display, Write as _};
 use std::hint::black_box;
 use std::io::BufRead;
@@ -148,6 +148,15 @@ fn old_tangents(c: &Block, n: usize, t: Vec<f64>) -> (bool, Vec<f64>) {
     if c.has("tan") { (true, t) } else { (false, vec![-1.0; 4 * n.min(1 << 20)]) }
 }
 
+/// The lines of a making. The count is answered only where the case asks for it, as the oracle does.
+fn made_lines(c: &Block, t: &[f64], made: Made) -> Vec<String> {
+    let mut lines = vec![hex("tan", t)];
+    if c.has("count") {
+        lines.push(format!("directionless {}", made.directionless));
+    }
+    lines
+}
+
 fn same_bits(a: &[f64], b: &[f64]) -> bool {
     a.iter().map(|x| x.to_bits()).eq(b.iter().map(|x| x.to_bits()))
 }
@@ -237,9 +246,9 @@ pub fn answer(c: &Block) -> Option<Result<Vec<String>, Refused>> {
             create_tangents(
                 n, p, &h, &pos, &c.floats("vn"), &c.floats("fn"), &c.signed("ref"), &c.numbers("sh"), &c.floats("ss"), old, &mut t, &mut scratch,
             )
-            .map(|()| {
+            .map(|made| {
                 assert!(scratch.is_zero(), "scratch is left");
-                vec![hex("tan", &t)]
+                made_lines(c, &t, made)
             })
         }
         "normals" => {
@@ -248,9 +257,9 @@ pub fn answer(c: &Block) -> Option<Result<Vec<String>, Refused>> {
             create_tangents_from_normals(
                 n, p, &h, &pos, &c.floats("vn"), &c.floats("fn"), &c.signed("ref"), &c.rows(), old, &mut t, &mut scratch,
             )
-            .map(|()| {
+            .map(|made| {
                 assert!(scratch.is_zero(), "scratch is left");
-                vec![hex("tan", &t)]
+                made_lines(c, &t, made)
             })
         }
         _ => return None,

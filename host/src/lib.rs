@@ -143,6 +143,12 @@ pub fn preview_tangents(
     outcome(answer).map(|[looked, turned]| Counts { looked, turned })
 }
 
+/// What the makings count: the circular tangents that were computed on an edge without direction, those that were overwritten included.
+#[derive(Clone, Copy, Debug, PartialEq, Eq)]
+pub struct Made {
+    pub directionless: usize,
+}
+
 /// The scratch lists of `create_tangents`: one place per point in `at`, one per halfedge in each other. They hold zeros afterwards.
 #[derive(Clone, Debug)]
 pub struct CreateScratch {
@@ -173,7 +179,7 @@ impl CreateScratch {
 pub fn create_tangents(
     n: usize, p: usize, h: &[i32], pos: &[f64], normals: &[f64], face_normals: &[f64], refs: &[i32], entries: &[usize], values: &[f64],
     old: bool, t: &mut [f64], scratch: &mut CreateScratch,
-) -> Result<(), Refused> {
+) -> Result<Made, Refused> {
     let mut answer = [0; 4];
     let s = scratch;
     unsafe {
@@ -184,7 +190,7 @@ pub fn create_tangents(
             s.desired.as_mut_ptr(), s.desired.len(), s.at.as_mut_ptr(), s.at.len(), s.link.as_mut_ptr(), s.link.len(), answer.as_mut_ptr(), 4,
         );
     }
-    outcome(answer).map(|_| ())
+    outcome(answer).map(|[directionless, _]| Made { directionless })
 }
 
 /// The scratch lists of `create_tangents_from_normals`: one place per point in `first`, one per halfedge in each other. They hold zeros
@@ -218,7 +224,7 @@ impl NormalsScratch {
 pub fn create_tangents_from_normals(
     n: usize, p: usize, h: &[i32], pos: &[f64], normals: &[f64], face_normals: &[f64], refs: &[i32], rows: &[f64], old: bool,
     t: &mut [f64], scratch: &mut NormalsScratch,
-) -> Result<(), Refused> {
+) -> Result<Made, Refused> {
     let mut answer = [0; 4];
     let s = scratch;
     unsafe {
@@ -229,5 +235,5 @@ pub fn create_tangents_from_normals(
             s.desired.as_mut_ptr(), s.desired.len(), s.first.as_mut_ptr(), s.first.len(), answer.as_mut_ptr(), 4,
         );
     }
-    outcome(answer).map(|_| ())
+    outcome(answer).map(|[directionless, _]| Made { directionless })
 }

@@ -1,3 +1,5 @@
 -- The specs of `common`.
 pub mod Fold
+pub mod Count
+pub mod Counted
 pub mod Pillow

@@ -1,7 +1,7 @@
-// What several crates share: two tests joined, and a value in every place of a list.
+// What several crates share: two tests joined, a test as a number, and a value in every place of a list.
 #![tactic(auto)]
 
-ghost use Rattle.std.specs.Prelude.{◌≡◌, ◌&&◌, ◌||◌, length, replicate};
+ghost use Rattle.std.specs.Prelude.{◌≡◌, cond, ◌≤◌, ◌&&◌, ◌||◌, length, replicate};
 
 // Both hold. A call, so that what it says stays one term in a proof.
 pub fn both(a: bool, b: bool) -> bool
@@ -15,6 +15,12 @@ pub fn either(a: bool, b: bool) -> bool
     ensures { result ≡ a || b }
 {
     a || b
+}
+
+pub fn one_if(b: bool) -> usize
+    ensures { (result ≡ cond b 1 0) × (result ≤ 1) }
+{
+    if b { 1 } else { 0 }
 }
 
 // x in every place.

@@ -1,6 +1,6 @@
 -- What an accepted call establishes of its lists, and what it makes. Assumes nothing.
-use Prim.Native.Nat.{ℕ, ◌*◌, ◌<◌}
-use mathlib.Core.Path.{◌≡◌, ap, ◌∙◌}
+use Prim.Native.Nat.{ℕ, ◌*◌, ◌≤◌, ◌<◌}
+use mathlib.Core.Path.{◌≡◌, sym, ap₂, ◌∙◌}
 use mathlib.Core.Bool.{Bool, true, ◌&&◌}
 use mathlib.Core.List.{List}
 use lib.ListN.{length, get_or}
@@ -10,6 +10,7 @@ use Rattle.mesh.specs.Mesh.{Halfedges}
 use Rattle.mesh.specs.Sound.{Sound}
 use Rattle.mesh.specs.Questions.{hasLength, signClear}
 use Rattle.mesh.specs.Check.{checkMesh, checkRefs}
+use Rattle.mesh.specs.declared.Checked.{Checked}
 use Rattle.mesh.specs.declared.Checked.TheVariants.{Accepted}
 use Rattle.common.proofs.Tests.{and-true}
 use Rattle.mesh.proofs.Tests.{has-length, has-one}
@@ -17,11 +18,14 @@ use Rattle.mesh.proofs.Accepted.{accepted, refs-accepted, entries-accepted}
 use Rattle.create_smoothness.specs.EntrySmoothness.{EntriesIn, entrySmoothness}
 use Rattle.create_smoothness.specs.declared.Smoothness.{Smoothness}
 use Rattle.create_core.proofs.Lent.{create-lists-in}
-use Rattle.create_core.specs.Core.{createTangents}
-use Rattle.create_core.specs.Filled.{Lists, createFilled}
-use Rattle.create_core.proofs.Filled.{filled-same}
+use Rattle.create_core.specs.Core.{createDirectionless}
+use Rattle.create_core.specs.Filled.{Lists, createFilled, filledDirectionless}
+use Rattle.create_core.proofs.Filled.{filled-same, create-within}
+use Rattle.create_shared.specs.Answer.{directionlessOf, answerOf, checkedOf}
+use Rattle.create_shared.specs.declared.Making.{Making}
+use Rattle.create_shared.proofs.Answered.{answer-within}
 use Rattle.create_shared.proofs.Lengths.{MeshListsFit, mesh-lists-fit}
-use Rattle.create.specs.Create.{listsFit, scratchFits, checkCreate, checkLists}
+use Rattle.create.specs.Create.{listsFit, scratchFits, checkCreate, checkLists, tangentsAfter}
 
 -- question 2 of the lists read and of the tangents
 pub record ListsFit (h l m a r i q t n p : ℕ) : Type 0 where
@@ -96,7 +100,25 @@ accepted-lists H P N A R I Q T X F S D C L n p e =
       };
     }
 
--- the tangents U, made with the smoothness S that the entries E give
-pub made : (H : Halfedges) (P N A : List Float) (R : List ℤ) (E : List Smoothness) (T : List Float) (old : Bool) (n p : ℕ) → Sound H n p → EntriesIn E n
-    → {S U : List Float} {m : ℕ} → m ≡ n → S ≡ entrySmoothness E m → U ≡ createFilled H P N A R S T old n p → U ≡ createTangents H P N A R E T old n p
-made H P N A R E T old n p s i q e u = u ∙ ap (λ (Z : List Float). createFilled H P N A R Z T old n p) (e ∙ ap (entrySmoothness E) q) ∙ filled-same H P N A R E T old n p s i
+-- What a call answers and leaves, whose questions are answered c, and whose sharp entries E pass them: U are the tangents, and k the count, of the core with the smoothness M that the entries give; r is the answer.
+module _ (H : Halfedges) (P N A : List Float) (R : List ℤ) (I : List ℕ) (Q T : List Float) (X F : List ℕ) (S D : List Float) (C L : List ℕ) (n p : ℕ) (E : List Smoothness) (old : Bool)
+    {c : Checked} (is : c ≡ checkLists H P N A R I Q T X F S D C L n p) (entries : AcceptedLists H P N A I Q T X F S D C L n p → EntriesIn E n) where
+  abbrev checked : Checked
+  checked = checkLists H P N A R I Q T X F S D C L n p
+
+  abbrev count : ℕ
+  count = createDirectionless H P R E T old n p
+
+  within : checked ≡ Accepted → count ≤ 2 * n
+  within a =
+      let w = accepted-lists H P N A R I Q T X F S D C L n p a in
+      create-within w.sound R E (entries w) P T old
+
+  pub made : c ≡ Accepted → {M U : List Float} {k : ℕ} {r : Making}
+      → M ≡ entrySmoothness E (length S) → U ≡ createFilled H P N A R M T old n p → k ≡ filledDirectionless H P R M T old n p → r ≡ answerOf c k
+      → (r ≡ answerOf checked count) × (U ≡ tangentsAfter (checkedOf r) H P N A R E T old n p) × (directionlessOf r ≤ 2 * n)
+  made a m u q r =
+      let w = accepted-lists H P N A R I Q T X F S D C L n p (sym is ∙ a) in
+      let same = filled-same w.sound R E (entries w) w.smooth m P N A T old in
+      let told = r ∙ ap₂ answerOf is (q ∙ same.1) in
+      (told, rw (r, a) (u ∙ same.0), answer-within checked count (2 * n) told within)

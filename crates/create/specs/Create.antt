@@ -5,8 +5,11 @@ use Rattle.mesh.specs.Questions.{hasLength}
 use Rattle.mesh.specs.Check.{checkMesh, checkRefs, checkEntries, whenAccepted}
 use Rattle.mesh.specs.declared.Checked.{Checked}
 use Rattle.create_shared.specs.Lengths.{meshListsFit}
+use Rattle.create_shared.specs.Answer.{answerOf}
+use Rattle.create_shared.specs.declared.Making.{Making}
 use Rattle.create_smoothness.specs.declared.Smoothness.{Smoothness}
-use Rattle.create_core.specs.Core.{createTangents}
+use Rattle.create_smoothness.specs.Entries.{entriesOf}
+use Rattle.create_core.specs.Core.{createTangents, createDirectionless}
 
 -- ---- the questions
 
@@ -24,7 +27,7 @@ scratchFits fixed flat smooth desired at link n p =
 unfoldable pub checkCreate : Halfedges → List ℤ → List ℕ → List Float → ℕ → ℕ → Bool → Checked
 checkCreate H R I Q n p lengths = checkEntries (checkRefs (checkMesh H n p lengths) R n) I Q n
 
--- the answer, for every input
+-- the answer of the questions, for every input
 abbrev pub checkLists : Halfedges → List Float → List Float → List Float → List ℤ → List ℕ → List Float → List Float → List ℕ → List ℕ → List Float → List Float → List ℕ → List ℕ → ℕ → ℕ → Checked
 checkLists H P N A R I Q T X F M D W L n p =
     let lists = listsFit H.numbers (length P) (length N) (length A) (length R) (length I) (length Q) (length T) n p in
@@ -33,6 +36,11 @@ checkLists H P N A R I Q T X F M D W L n p =
 
 -- ---- the call
 
--- the tangents after a call with this answer and the sharp entries E
+-- the tangents after a call whose questions are answered so, with the sharp entries E
 abbrev pub tangentsAfter : Checked → Halfedges → List Float → List Float → List Float → List ℤ → List Smoothness → List Float → Bool → ℕ → ℕ → List Float
-tangentsAfter answer H P N A R E T old n p = whenAccepted answer (createTangents H P N A R E T old n p) T
+tangentsAfter checked H P N A R E T old n p = whenAccepted checked (createTangents H P N A R E T old n p) T
+
+-- the answer, for every input
+abbrev pub createAnswer : Halfedges → List Float → List Float → List Float → List ℤ → List ℕ → List Float → List Float → List ℕ → List ℕ → List Float → List Float → List ℕ → List ℕ → Bool → ℕ → ℕ → Making
+createAnswer H P N A R I Q T X F M D W L old n p =
+    answerOf (checkLists H P N A R I Q T X F M D W L n p) (createDirectionless H P R (entriesOf I Q) T old n p)

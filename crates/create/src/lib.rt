@@ -2,13 +2,16 @@
 // questions, the smoothness that the entries give, and then `create_core`.
 #![tactic(auto)]
 
-ghost use Rattle.std.specs.Prelude.{◌≡◌, length, replicate};
+ghost use Rattle.std.specs.Prelude.{◌≡◌, ◌*◌, ◌≤◌, length, replicate};
 ghost use Rattle.float.specs.Ops.{zero};
 ghost use Rattle.mesh.specs.Mesh.{asHalfedges};
-ghost use Rattle.mesh.specs.Check.{whenAccepted, Values};
+ghost use Rattle.mesh.specs.Check.{whenAccepted};
+ghost use Rattle.create_shared.specs.Answer.{directionlessOf, checkedOf, Values};
 ghost use Rattle.create_smoothness.specs.Entries.{entriesOf};
-ghost use Rattle.create.specs.Create.{listsFit, scratchFits, checkCreate, checkLists, tangentsAfter};
+ghost use Rattle.create_core.specs.Core.{createDirectionless};
+ghost use Rattle.create.specs.Create.{listsFit, scratchFits, checkCreate, checkLists, tangentsAfter, createAnswer};
 
+use create_shared::Making;
 use mesh::Checked;
 
 // Question 2 of the lists that the call reads, and of the tangents, from the length of each.
@@ -109,7 +112,7 @@ fn check_create(
 // Making from sharp edges, for lists of any length and content. `pos` and `normals` have three numbers for each point,
 // `face_normals` and `refs` three for each triangle; `entries` and `values` are the halfedges and the smoothness of the
 // sharp entries. With `old` the tangents t hold the old ones. Of the scratch lists `at` has a place for each point, each
-// other one for each halfedge.
+// other one for each halfedge. The answer counts the circular tangents on an edge without direction.
 pub fn create_tangents(
     n: usize,
     p: usize,
@@ -128,16 +131,17 @@ pub fn create_tangents(
     desired: &mut [f64],
     at: &mut [usize],
     link: &mut [usize],
-) -> Checked
-    ensures answer { result ≡ checkLists (asHalfedges h.now) pos.now normals.now face_normals.now refs.now entries.now values.now t.old fixed.old flat.old smooth.old desired.old at.old link.old n p }
-    ensures tangents { t.new ≡ tangentsAfter result (asHalfedges h.now) pos.now normals.now face_normals.now refs.now (entriesOf entries.now values.now) t.old old n p }
-    ensures fixed { fixed.new ≡ whenAccepted result (replicate n 0) fixed.old }
-    ensures flat { flat.new ≡ whenAccepted result (replicate n 0) flat.old }
-    ensures smooth { smooth.new ≡ whenAccepted result (replicate n zero) smooth.old }
-    ensures desired { desired.new ≡ whenAccepted result (replicate n zero) desired.old }
-    ensures at { at.new ≡ whenAccepted result (replicate p 0) at.old }
-    ensures link { link.new ≡ whenAccepted result (replicate n 0) link.old }
-    ensures values { Values (checkLists (asHalfedges h.now) pos.now normals.now face_normals.now refs.now entries.now values.now t.old fixed.old flat.old smooth.old desired.old at.old link.old n p) result }
+) -> Making
+    ensures answer { result ≡ createAnswer (asHalfedges h.now) pos.now normals.now face_normals.now refs.now entries.now values.now t.old fixed.old flat.old smooth.old desired.old at.old link.old old n p }
+    ensures tangents { t.new ≡ tangentsAfter (checkedOf result) (asHalfedges h.now) pos.now normals.now face_normals.now refs.now (entriesOf entries.now values.now) t.old old n p }
+    ensures fixed { fixed.new ≡ whenAccepted (checkedOf result) (replicate n 0) fixed.old }
+    ensures flat { flat.new ≡ whenAccepted (checkedOf result) (replicate n 0) flat.old }
+    ensures smooth { smooth.new ≡ whenAccepted (checkedOf result) (replicate n zero) smooth.old }
+    ensures desired { desired.new ≡ whenAccepted (checkedOf result) (replicate n zero) desired.old }
+    ensures at { at.new ≡ whenAccepted (checkedOf result) (replicate p 0) at.old }
+    ensures link { link.new ≡ whenAccepted (checkedOf result) (replicate n 0) link.old }
+    ensures bound { directionlessOf result ≤ 2 * n }
+    ensures values { Values (checkLists (asHalfedges h.now) pos.now normals.now face_normals.now refs.now entries.now values.now t.old fixed.old flat.old smooth.old desired.old at.old link.old n p) (createDirectionless (asHalfedges h.now) pos.now refs.now (entriesOf entries.now values.now) t.old old n p) result }
 {
     let lists = lists_fit(
         n,
@@ -155,10 +159,10 @@ pub fn create_tangents(
     let lengths = common::both(lists, scratch);
     let checked = check_create(n, p, h, refs, entries, values, lengths);
     let Checked::Accepted = checked else {
-        return checked;
+        return create_shared::answer(checked, 0);
     };
     create_smoothness::entry_smoothness(entries, values, smooth);
-    create_core::make_tangents(
+    let directionless = create_core::make_tangents(
         n,
         p,
         h,
@@ -175,5 +179,5 @@ pub fn create_tangents(
         at,
         link,
     );
-    checked
+    create_shared::answer(checked, directionless)
 }

@@ -1,28 +1,33 @@
 -- Worked examples on document 01's pillow. Assumes nothing.
+use Prim.Native.Nat.{ℕ}
 use mathlib.Core.Path.{◌≡◌, refl}
 use mathlib.Core.List.{List, [], ◌∷◌, ◌++◌}
-use mathlib.Core.Bool.{true}
+use mathlib.Core.Bool.{true, false}
 use lib.ListN.{replicate}
-use lib.Ieee.{Float, lt, le, eq, ne, neg, mul, of_bits}
+use lib.Ieee.{Float, lt, le, eq, ne, neg, add, sub, mul, of_bits}
 use Rattle.float.specs.Ops.{zero, half, one}
-use Rattle.float.specs.F64.{minOf}
+use Rattle.float.specs.F64.{minOf, isFinite}
 use Rattle.mesh.specs.Mesh.{nextHalfedge, numberAt, indexOf, field, asHalfedges, eqZ, sameFace}
 use Rattle.mesh.specs.Lowest.{lowest, lowestFrom}
 use Rattle.common.specs.Fold.{foldTo}
-use Rattle.common.specs.Pillow.{pillow, refs}
-use Rattle.smoothing.specs.Lists.{tangentAt, putTangent, weightAt}
-use Rattle.smoothing.specs.Edges.{isInsideQuad}
+use Rattle.common.specs.Count.{sum, countBelow}
+use Rattle.common.specs.Pillow.{pillow, refs, positions}
+use Rattle.linalg.specs.Vec.{sub3, dotOf}
+use Rattle.smoothing.specs.Lists.{pointAt, tangentAt, putTangent, weightAt}
+use Rattle.smoothing.specs.Directions.{isDegenerate, directionless}
+use Rattle.smoothing.specs.Edges.{edgeVec, sameFaceAcross, noOtherNeighbor, isInsideQuad}
 use Rattle.cycles.specs.Walk.{cycleFrom}
 use Rattle.cycles.specs.Cycles.{nextAround}
 use Rattle.create_shared.specs.Faces.{isFaceNeighbor, faceNeighbors, markNeighbor, markFlat, flatFaces, isFlat, vertHalfedge}
 use Rattle.create_smoothness.specs.declared.Smoothness.{Smoothness}
 use Rattle.create_edges.specs.Edges.{sideOf, pushBoundary, pushBoundaries, sharpenedEdges, andModify, orInsert, modify, keyOf, insert, edgesOf}
-use Rattle.create_creases.specs.Creases.{pushAt, pushEdge, vertTangents, creaseOf}
-use Rattle.create_initial.specs.First.{firstTangent, putFirstTangent, firstTangents}
+use Rattle.create_creases.specs.Creases.{pushAt, pushEdge, vertTangents, throughOf, creaseOf}
+use Rattle.create_initial.specs.First.{firstTangent, putFirstTangent, firstTangents, firstDirectionless}
 use Rattle.create_sharpen.specs.Sharpen.{sharpened, sharpenTangent, meetingSmoothness, sharpenMeetingAt, sharpenMeeting}
-use Rattle.create_shared.specs.Makings.{Tangents, tangentsOf}
-use Rattle.create_sharpen.specs.Shapes.{fixHalfedge, shapeCrease, shapeVert, shapeVerts}
+use Rattle.create_shared.specs.Makings.{Tangents, tangentsOf, directionlessAt, alignedDirectionless}
+use Rattle.create_sharpen.specs.Shapes.{fixHalfedge, shapeCrease, shapeVert, shapeVerts, creaseDirectionless}
 use Rattle.create_core.specs.Shape.{shapedTangents}
+use Rattle.create_core.specs.Core.{directionlessWith, createDirectionless}
 
 abbrev mark : List Float
 mark = zero ∷ zero ∷ zero ∷ neg one ∷ []
@@ -50,6 +55,36 @@ without-creases = refl
 with-crease : shaped (sideOf 0 half ∷ []) ≡ tangentsOf marks (0 ∷ 0 ∷ 1 ∷ 0 ∷ 0 ∷ 0 ∷ [])
 unfolding all
 with-crease = refl
+
+-- ---- the count, where all points are the same, so that no edge has a direction
+
+-- without old tangents; no halfedge is inside a quad
+abbrev counted : List Float → List Smoothness → ℕ
+counted points entries = createDirectionless (asHalfedges pillow) points refs entries [] false 6 3
+
+unfoldable counting : Unit {0}
+unfolding createDirectionless directionlessWith firstDirectionless creaseDirectionless alignedDirectionless directionlessAt countBelow sum directionless isDegenerate isFinite edgeVec pointAt sub3 dotOf throughOf sameFaceAcross noOtherNeighbor nextHalfedge add sub mul
+counting = tt
+
+-- each first tangent
+all-first : counted (replicate 9 one) [] ≡ 6
+unfolding all counting
+all-first = refl
+
+-- the edges 0-1 and 1-2 are creases: both tangents of the crease through point 1 too
+one-through : counted (replicate 9 one) (sideOf 0 half ∷ sideOf 1 half ∷ []) ≡ 8
+unfolding all counting
+one-through = refl
+
+-- each edge is a crease: no mesh of six halfedges counts more
+all-through : counted (replicate 9 one) (sideOf 0 half ∷ sideOf 1 half ∷ sideOf 2 half ∷ []) ≡ 12
+unfolding all counting
+all-through = refl
+
+-- at the pillow's own points none
+none : counted positions (sideOf 0 half ∷ sideOf 1 half ∷ sideOf 2 half ∷ []) ≡ 0
+unfolding all counting
+none = refl
 
 -- ---- a meeting, as if there were one, at point 1: its halfedges are 1 and 5, and 5 is marked
 

@@ -1,5 +1,5 @@
 // `create_tangents` of src/smoothing_tangents.rs on an accepted mesh: the initial tangents, the creases and what they do at each
-// point, then straightening and spreading.
+// point, then straightening and spreading; and how many circular tangents are computed on an edge without direction.
 #![tactic(auto)]
 
 ghost use Rattle.std.specs.Prelude.{◌≡◌, length, replicate};
@@ -12,10 +12,11 @@ ghost use Rattle.distribute_walks.specs.Walks.{Lists as SpreadLists};
 ghost use Rattle.distribute.specs.Distribute.{spreadTangents};
 ghost use Rattle.create_core.specs.Shape.{shapedTangents};
 ghost use Rattle.create_core.specs.Lent.{CreateLists, pairsOf};
-ghost use Rattle.create_core.specs.Filled.{Lists, createFilled};
+ghost use Rattle.create_core.specs.Core.{directionlessWith};
+ghost use Rattle.create_core.specs.Filled.{Lists, createFilled, filledDirectionless};
 
-// The tangents and the fixed flags, where `smooth` holds the smoothness of the caller's entries, and whatever the flags and the
-// other scratch lists held: `flat`, `smooth` and `link` with a place for each halfedge, `at` with one for each point.
+// The tangents and the fixed flags, and the count, where `smooth` holds the smoothness of the caller's entries, and whatever the
+// flags and the other scratch lists held: `flat`, `smooth` and `link` with a place for each halfedge, `at` with one for each point.
 fn shape_tangents(
     n: usize,
     h: &[i32],
@@ -30,14 +31,27 @@ fn shape_tangents(
     smooth: &mut [f64],
     at: &mut [usize],
     link: &mut [usize],
-)
+) -> usize
     requires { CreateLists (asHalfedges h.now) pos.now normals.now face_normals.now t.old fixed.old flat.old smooth.old at.old link.old n }
-    ensures { tangentsOf t.new fixed.new ≡ shapedTangents (asHalfedges h.now) pos.now normals.now face_normals.now refs.now (isInsideQuad (asHalfedges h.now) refs.now t.old old) (pairsOf (asHalfedges h.now) refs.now smooth.old n) n (length at.old) }
+    ensures tangents { tangentsOf t.new fixed.new ≡ shapedTangents (asHalfedges h.now) pos.now normals.now face_normals.now refs.now (isInsideQuad (asHalfedges h.now) refs.now t.old old) (pairsOf (asHalfedges h.now) refs.now smooth.old n) n (length at.old) }
+    ensures directionless { result ≡ directionlessWith (asHalfedges h.now) pos.now refs.now (pairsOf (asHalfedges h.now) refs.now smooth.old n) t.old old n (length at.old) }
 {
-    create_initial::first_tangents(n, h, refs, pos, normals, face_normals, old, t, flat, at);
+    let first = create_initial::first_tangents(
+        n,
+        h,
+        refs,
+        pos,
+        normals,
+        face_normals,
+        old,
+        t,
+        flat,
+        at,
+    );
     create_creases::find_creases(n, h, refs, flat, smooth, at, link);
     common::fill_bytes(fixed, 0);
-    create_sharpen::shape_verts(n, h, pos, flat, smooth, at, link, t, fixed);
+    let creases = create_sharpen::shape_verts(n, h, pos, flat, smooth, at, link, t, fixed);
+    first + creases
 }
 
 // Straightening, then spreading by the point normals and the halfedges that are fixed, with `smooth` and `desired` as its
@@ -75,7 +89,8 @@ fn clear_scratch(fixed: &mut [u8], flat: &mut [u8], at: &mut [usize], link: &mut
     common::fill_numbers(link, 0);
 }
 
-// The tangents of an accepted call, where `smooth` holds the smoothness of the entries, and zeros in all scratch lists.
+// The tangents of an accepted call, where `smooth` holds the smoothness of the entries, and zeros in all scratch lists; and the
+// count.
 pub fn make_tangents(
     n: usize,
     p: usize,
@@ -92,7 +107,7 @@ pub fn make_tangents(
     desired: &mut [f64],
     at: &mut [usize],
     link: &mut [usize],
-)
+) -> usize
     requires { Lists (asHalfedges h.now) pos.now normals.now face_normals.now t.old fixed.old flat.old smooth.old desired.old at.old link.old n p }
     ensures tangents { t.new ≡ createFilled (asHalfedges h.now) pos.now normals.now face_normals.now refs.now smooth.old t.old old n p }
     ensures fixed { fixed.new ≡ replicate n 0 }
@@ -101,8 +116,9 @@ pub fn make_tangents(
     ensures desired { desired.new ≡ replicate n zero }
     ensures at { at.new ≡ replicate p 0 }
     ensures link { link.new ≡ replicate n 0 }
+    ensures directionless { result ≡ filledDirectionless (asHalfedges h.now) pos.now refs.now smooth.old t.old old n p }
 {
-    shape_tangents(
+    let directionless = shape_tangents(
         n,
         h,
         refs,
@@ -119,4 +135,5 @@ pub fn make_tangents(
     );
     finish_tangents(n, p, h, pos, normals, fixed, t, smooth, desired);
     clear_scratch(fixed, flat, at, link);
+    directionless
 }

@@ -1,4 +1,4 @@
--- What the calls of `create_entries` establish, put together. Assumes nothing.
+-- The answer of the questions, from what the calls of `create_entries` answer. Assumes nothing.
 use Prim.Native.Nat.{ℕ}
 use mathlib.Core.Path.{◌≡◌, sym, ap, ◌∙◌}
 use mathlib.Core.Bool.{Bool, ◌&&◌}
@@ -9,16 +9,12 @@ use lib.Ieee.{Float}
 use Rattle.mesh.specs.Mesh.{Halfedges}
 use Rattle.mesh.specs.Check.{checkMesh, checkRefs}
 use Rattle.mesh.specs.declared.Checked.{Checked}
-use Rattle.mesh.specs.declared.Checked.TheVariants.{Accepted}
 use Rattle.create_smoothness.specs.Entries.{halfedgesOf, smoothnessOf}
 use Rattle.create_smoothness.specs.Questions.{passedOf, checkPassed}
-use Rattle.create_smoothness.specs.EntrySmoothness.{EntriesIn}
 use Rattle.create_smoothness.specs.declared.Smoothness.{Smoothness}
 use Rattle.create_smoothness.specs.declared.Passed.{Passed}
-use Rattle.create_smoothness.proofs.Flat.{entries-in}
 use Rattle.create_smoothness.proofs.Passing.{scanned}
 use Rattle.create.specs.Create.{listsFit, scratchFits, checkCreate}
-use Rattle.create.proofs.Accepted.{AcceptedLists, accepted-lists}
 use Rattle.create_entries.specs.CreateEntries.{checkLists}
 
 -- the lists as lent, and the counts
@@ -26,24 +22,13 @@ module _ (H : Halfedges) (P N A : List Float) (R : List ℤ) (E : List Smoothnes
   abbrev lengths : ℕ → ℕ → Bool
   lengths i q = listsFit H.numbers (length P) (length N) (length A) (length R) i q (length T) n p && scratchFits (length X) (length F) (length S) (length D) (length C) (length L) n p
 
-  abbrev pub answer : Checked
-  answer = checkLists H P N A R E T X F S D C L n p
-
   -- what `check_lists` finds, where `passed` is what `scan` counted
-  abbrev pub found : Passed → Checked
+  abbrev found : Passed → Checked
   found passed = checkPassed (checkRefs (checkMesh H n p (lengths (length E) (length E))) R n) passed (length E)
 
-  pub is-answer : (passed : Passed) → passed ≡ passedOf E n (length E) → (c : Checked) → c ≡ found passed → c ≡ answer
+  pub is-answer : (passed : Passed) → passed ≡ passedOf E n (length E) → (c : Checked) → c ≡ found passed → c ≡ checkLists H P N A R E T X F S D C L n p
   unfolding checkCreate
   is-answer passed e c a =
       let flat : ℕ → ℕ → Checked = λ i q. checkCreate H R (halfedgesOf E) (smoothnessOf E) n p (lengths i q) in
       a ∙ ap found e ∙ scanned E n (checkRefs (checkMesh H n p (lengths (length E) (length E))) R n)
       ∙ ap (λ (i : ℕ). flat i (length E)) (sym (length-map E (λ e. e.halfedge))) ∙ ap (flat (length (halfedgesOf E))) (sym (length-map E (λ e. e.smoothness)))
-
-  -- where the answer is that the call is accepted
-  module _ (a : Accepted ≡ answer) where
-    pub given : AcceptedLists H P N A (halfedgesOf E) (smoothnessOf E) T X F S D C L n p
-    given = accepted-lists H P N A R (halfedgesOf E) (smoothnessOf E) T X F S D C L n p (sym a)
-
-    pub inside : EntriesIn E n
-    inside = entries-in E n given.named given.clear

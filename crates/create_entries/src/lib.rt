@@ -2,14 +2,17 @@
 // `create` is. It lends the list of structs on.
 #![tactic(auto)]
 
-ghost use Rattle.std.specs.Prelude.{◌≡◌, ◌&&◌, length, replicate};
+ghost use Rattle.std.specs.Prelude.{◌≡◌, ◌*◌, ◌≤◌, ◌&&◌, length, replicate};
 ghost use Rattle.float.specs.Ops.{zero};
 ghost use Rattle.mesh.specs.Mesh.{asHalfedges};
-ghost use Rattle.mesh.specs.Check.{checkMesh, checkRefs, whenAccepted, Values};
+ghost use Rattle.mesh.specs.Check.{checkMesh, checkRefs, whenAccepted};
+ghost use Rattle.create_shared.specs.Answer.{directionlessOf, checkedOf, Values};
 ghost use Rattle.create_smoothness.specs.Questions.{checkPassed};
 ghost use Rattle.create.specs.Create.{listsFit, scratchFits, tangentsAfter};
-ghost use Rattle.create_entries.specs.CreateEntries.{checkLists};
+ghost use Rattle.create_core.specs.Core.{createDirectionless};
+ghost use Rattle.create_entries.specs.CreateEntries.{checkLists, createAnswer};
 
+use create_shared::Making;
 use create_smoothness::{Passed, Smoothness};
 use mesh::Checked;
 
@@ -70,16 +73,17 @@ pub fn create_entries(
     desired: &mut [f64],
     at: &mut [usize],
     link: &mut [usize],
-) -> Checked
-    ensures answer { result ≡ checkLists (asHalfedges h.now) pos.now normals.now face_normals.now refs.now sharp.now t.old fixed.old flat.old smooth.old desired.old at.old link.old n p }
-    ensures tangents { t.new ≡ tangentsAfter result (asHalfedges h.now) pos.now normals.now face_normals.now refs.now sharp.now t.old old n p }
-    ensures fixed { fixed.new ≡ whenAccepted result (replicate n 0) fixed.old }
-    ensures flat { flat.new ≡ whenAccepted result (replicate n 0) flat.old }
-    ensures smooth { smooth.new ≡ whenAccepted result (replicate n zero) smooth.old }
-    ensures desired { desired.new ≡ whenAccepted result (replicate n zero) desired.old }
-    ensures at { at.new ≡ whenAccepted result (replicate p 0) at.old }
-    ensures link { link.new ≡ whenAccepted result (replicate n 0) link.old }
-    ensures values { Values (checkLists (asHalfedges h.now) pos.now normals.now face_normals.now refs.now sharp.now t.old fixed.old flat.old smooth.old desired.old at.old link.old n p) result }
+) -> Making
+    ensures answer { result ≡ createAnswer (asHalfedges h.now) pos.now normals.now face_normals.now refs.now sharp.now t.old fixed.old flat.old smooth.old desired.old at.old link.old old n p }
+    ensures tangents { t.new ≡ tangentsAfter (checkedOf result) (asHalfedges h.now) pos.now normals.now face_normals.now refs.now sharp.now t.old old n p }
+    ensures fixed { fixed.new ≡ whenAccepted (checkedOf result) (replicate n 0) fixed.old }
+    ensures flat { flat.new ≡ whenAccepted (checkedOf result) (replicate n 0) flat.old }
+    ensures smooth { smooth.new ≡ whenAccepted (checkedOf result) (replicate n zero) smooth.old }
+    ensures desired { desired.new ≡ whenAccepted (checkedOf result) (replicate n zero) desired.old }
+    ensures at { at.new ≡ whenAccepted (checkedOf result) (replicate p 0) at.old }
+    ensures link { link.new ≡ whenAccepted (checkedOf result) (replicate n 0) link.old }
+    ensures bound { directionlessOf result ≤ 2 * n }
+    ensures values { Values (checkLists (asHalfedges h.now) pos.now normals.now face_normals.now refs.now sharp.now t.old fixed.old flat.old smooth.old desired.old at.old link.old n p) (createDirectionless (asHalfedges h.now) pos.now refs.now sharp.now t.old old n p) result }
 {
     let checked = check_lists(
         n,
@@ -100,10 +104,10 @@ pub fn create_entries(
         link.len(),
     );
     let Checked::Accepted = checked else {
-        return checked;
+        return create_shared::answer(checked, 0);
     };
     create_smoothness::sharp_smoothness(sharp, smooth);
-    create_core::make_tangents(
+    let directionless = create_core::make_tangents(
         n,
         p,
         h,
@@ -120,5 +124,5 @@ pub fn create_entries(
         at,
         link,
     );
-    checked
+    create_shared::answer(checked, directionless)
 }

@@ -5,8 +5,10 @@ use Rattle.mesh.specs.Questions.{hasLength}
 use Rattle.mesh.specs.Check.{checkMesh, checkRows, checkRefs, whenAccepted}
 use Rattle.mesh.specs.declared.Checked.{Checked}
 use Rattle.create_shared.specs.Lengths.{meshListsFit}
+use Rattle.create_shared.specs.Answer.{answerOf}
+use Rattle.create_shared.specs.declared.Making.{Making}
 use Rattle.normals_state.specs.State.{getNormal}
-use Rattle.normals_core.specs.Core.{createTangentsFromNormals}
+use Rattle.normals_core.specs.Core.{createTangentsFromNormals, fromNormalsDirectionless}
 
 -- ---- the questions
 
@@ -24,7 +26,7 @@ scratchFits fixed inside current desired first n p =
 unfoldable pub checkNormals : List ℤ → List ℤ → ℕ → ℕ → ℕ → Bool → Checked
 checkNormals list R rows n p lengths = checkRefs (checkRows (checkMesh (asHalfedges list) n p lengths) list rows n) R n
 
--- the answer, for every input
+-- the answer of the questions, for every input
 abbrev pub checkLists : List ℤ → List Float → List Float → List Float → List ℤ → List Float → List Float → List ℕ → List ℕ → List Float → List Float → List ℕ → ℕ → ℕ → Checked
 checkLists list P N A R G T X B C D W n p =
     let lists = listsFit (length list) (length P) (length N) (length A) (length R) (length G) (length T) n p in
@@ -33,7 +35,12 @@ checkLists list P N A R G T X B C D W n p =
 
 -- ---- the call
 
--- the tangents after a call with this answer: the normal of each halfedge is that of its row
+-- the tangents after a call whose questions are answered so: the normal of each halfedge is that of its row
 abbrev pub tangentsAfter : Checked → List ℤ → List Float → List Float → List Float → List ℤ → List Float → List Float → Bool → ℕ → ℕ → List Float
-tangentsAfter answer list P N A R G T old n p =
-    whenAccepted answer (createTangentsFromNormals (asHalfedges list) P N A R (getNormal list G) T old n p) T
+tangentsAfter checked list P N A R G T old n p =
+    whenAccepted checked (createTangentsFromNormals (asHalfedges list) P N A R (getNormal list G) T old n p) T
+
+-- the answer, for every input
+abbrev pub createAnswer : List ℤ → List Float → List Float → List Float → List ℤ → List Float → List Float → List ℕ → List ℕ → List Float → List Float → List ℕ → Bool → ℕ → ℕ → Making
+createAnswer list P N A R G T X B C D W old n p =
+    answerOf (checkLists list P N A R G T X B C D W n p) (fromNormalsDirectionless (asHalfedges list) P N A R (getNormal list G) T old n p)

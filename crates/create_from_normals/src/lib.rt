@@ -2,11 +2,16 @@
 // questions, and then `normals_core`.
 #![tactic(auto)]
 
-ghost use Rattle.std.specs.Prelude.{◌≡◌, length, replicate};
+ghost use Rattle.std.specs.Prelude.{◌≡◌, ◌*◌, ◌≤◌, length, replicate};
 ghost use Rattle.float.specs.Ops.{zero};
-ghost use Rattle.mesh.specs.Check.{whenAccepted, Values};
-ghost use Rattle.create_from_normals.specs.FromNormals.{listsFit, scratchFits, checkNormals, checkLists, tangentsAfter};
+ghost use Rattle.mesh.specs.Mesh.{asHalfedges};
+ghost use Rattle.mesh.specs.Check.{whenAccepted};
+ghost use Rattle.create_shared.specs.Answer.{directionlessOf, checkedOf, Values};
+ghost use Rattle.normals_state.specs.State.{getNormal};
+ghost use Rattle.normals_core.specs.Core.{fromNormalsDirectionless};
+ghost use Rattle.create_from_normals.specs.FromNormals.{listsFit, scratchFits, checkNormals, checkLists, tangentsAfter, createAnswer};
 
+use create_shared::Making;
 use mesh::Checked;
 
 // Question 2 of the lists that the call reads, and of the tangents, from the length of each.
@@ -73,7 +78,7 @@ fn check_normals(n: usize, p: usize, h: &[i32], refs: &[i32], rows: usize, lengt
 // Making from normals, for lists of any length and content. `pos` and `normals` have three numbers for each point,
 // `face_normals` and `refs` three for each triangle, `rows` three for each row: the normal of the corners whose halfedges have
 // this row, 0 where it is missing. With `old` the tangents t hold the old ones. Of the scratch lists `first` has a place for
-// each point, each other one for each halfedge.
+// each point, each other one for each halfedge. The answer counts the circular tangents on an edge without direction.
 pub fn create_tangents_from_normals(
     n: usize,
     p: usize,
@@ -90,15 +95,16 @@ pub fn create_tangents_from_normals(
     current: &mut [f64],
     desired: &mut [f64],
     first: &mut [usize],
-) -> Checked
-    ensures answer { result ≡ checkLists h.now pos.now normals.now face_normals.now refs.now rows.now t.old fixed.old inside.old current.old desired.old first.old n p }
-    ensures tangents { t.new ≡ tangentsAfter result h.now pos.now normals.now face_normals.now refs.now rows.now t.old old n p }
-    ensures fixed { fixed.new ≡ whenAccepted result (replicate n 0) fixed.old }
-    ensures inside { inside.new ≡ whenAccepted result (replicate n 0) inside.old }
-    ensures current { current.new ≡ whenAccepted result (replicate n zero) current.old }
-    ensures desired { desired.new ≡ whenAccepted result (replicate n zero) desired.old }
-    ensures first { first.new ≡ whenAccepted result (replicate p 0) first.old }
-    ensures values { Values (checkLists h.now pos.now normals.now face_normals.now refs.now rows.now t.old fixed.old inside.old current.old desired.old first.old n p) result }
+) -> Making
+    ensures answer { result ≡ createAnswer h.now pos.now normals.now face_normals.now refs.now rows.now t.old fixed.old inside.old current.old desired.old first.old old n p }
+    ensures tangents { t.new ≡ tangentsAfter (checkedOf result) h.now pos.now normals.now face_normals.now refs.now rows.now t.old old n p }
+    ensures fixed { fixed.new ≡ whenAccepted (checkedOf result) (replicate n 0) fixed.old }
+    ensures inside { inside.new ≡ whenAccepted (checkedOf result) (replicate n 0) inside.old }
+    ensures current { current.new ≡ whenAccepted (checkedOf result) (replicate n zero) current.old }
+    ensures desired { desired.new ≡ whenAccepted (checkedOf result) (replicate n zero) desired.old }
+    ensures first { first.new ≡ whenAccepted (checkedOf result) (replicate p 0) first.old }
+    ensures bound { directionlessOf result ≤ 3 * n }
+    ensures values { Values (checkLists h.now pos.now normals.now face_normals.now refs.now rows.now t.old fixed.old inside.old current.old desired.old first.old n p) (fromNormalsDirectionless (asHalfedges h.now) pos.now normals.now face_normals.now refs.now (getNormal h.now rows.now) t.old old n p) result }
 {
     let lists = lists_fit(
         n,
@@ -115,9 +121,9 @@ pub fn create_tangents_from_normals(
     let lengths = common::both(lists, scratch);
     let checked = check_normals(n, p, h, refs, rows.len() / 3, lengths);
     let Checked::Accepted = checked else {
-        return checked;
+        return create_shared::answer(checked, 0);
     };
-    normals_core::make_tangents(
+    let directionless = normals_core::make_tangents(
         n,
         p,
         h,
@@ -134,5 +140,5 @@ pub fn create_tangents_from_normals(
         desired,
         first,
     );
-    checked
+    create_shared::answer(checked, directionless)
 }

@@ -1,3 +1,4 @@
 -- The laws of `create_initial`: those that the crates above cite are public.
 pub mod Lent
+pub mod Counts
 mod First

@@ -1,13 +1,15 @@
--- The first tangent of each halfedge in `create_tangents`. H are the halfedges, R the face references, P the positions, N the point normals, A the face normals; `inside` is `is_inside_quad`.
-use Rattle.std.specs.Prelude.{ℕ, ◌*◌, List, Bool, cond, replicate, ℤ, Float}
+-- The first tangent of each halfedge in `create_tangents`, and how many of them are circular tangents on an edge without direction. H are the halfedges, R the face references, P the positions, N the point normals, A the face normals; `inside` is `is_inside_quad`.
+use Rattle.std.specs.Prelude.{ℕ, ◌*◌, List, Bool, cond, not, ◌&&◌, replicate, ℤ, Float}
 use Rattle.std.specs.Float.Ieee.{neg}
 use Rattle.float.specs.Ops.{zero, one}
 use Rattle.linalg.specs.declared.Vec3.{Vec3}
 use Rattle.linalg.specs.declared.Vec4.{Vec4}
 use Rattle.mesh.specs.Mesh.{startVert, Halfedges}
 use Rattle.common.specs.Fold.{foldTo}
+use Rattle.common.specs.Count.{countBelow}
 use Rattle.smoothing.specs.Lists.{pointAt, putTangent}
-use Rattle.smoothing.specs.Edges.{tangentFromNormal}
+use Rattle.smoothing.specs.Directions.{directionless}
+use Rattle.smoothing.specs.Edges.{edgeVec, tangentFromNormal}
 use Rattle.create_shared.specs.declared.FlatFace.{FlatFace}
 use Rattle.create_shared.specs.declared.FlatFace.TheVariants.{NoFace, OneFace, MoreFaces}
 use Rattle.create_shared.specs.Faces.{flatFaces, isFlat, vertFlatFace}
@@ -39,3 +41,13 @@ putFirstTangent H P N A inside faces T e = putTangent T e (firstTangent H P N A 
 unfoldable pub firstTangents : Halfedges → List Float → List Float → List Float → List ℤ → (ℕ → Bool) → ℕ → List Float
 firstTangents H P N A R inside n =
     foldTo (putFirstTangent H P N A inside (vertFlatFace H R (isFlat (flatFaces H R n)) n)) (replicate (n * 4) zero) n
+
+-- ---- request 3's count
+
+-- The `else` of the loop's `is_inside_quad(edge_idx)`: `tangent_from_normal` of halfedge e, whose `circular_tangent` is on the edge of e. That edge has no direction.
+unfoldable pub firstDirectionless : Halfedges → List Float → (ℕ → Bool) → ℕ → Bool
+firstDirectionless H P inside e = not (inside e) && directionless (edgeVec H P e)
+
+-- how many of the n
+abbrev pub firstsDirectionless : Halfedges → List Float → (ℕ → Bool) → ℕ → ℕ
+firstsDirectionless H P inside n = countBelow (firstDirectionless H P inside) n

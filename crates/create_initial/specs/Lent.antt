@@ -1,17 +1,17 @@
 -- What the lent lists must be for a call. Only contracts inside a call name these; `first-lists-in` of `proofs/Lent.antt` gives them on an accepted mesh.
-use Rattle.std.specs.Prelude.{ℕ, ◌*◌, ◌+◌, ◌≤◌, ◌<◌, ◌≡◌, List, Bool, false, not, ◌&&◌, length, get_or, ℤ, Float}
+use Rattle.std.specs.Prelude.{ℕ, ◌*◌, ◌+◌, ◌≤◌, ◌<◌, ◌≡◌, List, Bool, false, cond, ◌&&◌, length, get_or, ℤ, Float}
 use Rattle.linalg.specs.declared.Vec3.{Vec3}
 use Rattle.linalg.specs.declared.Vec4.{Vec4}
-use Rattle.mesh.specs.Mesh.{halfedgeStride, startVert, pairedHalfedge, Halfedges}
+use Rattle.mesh.specs.Mesh.{halfedgeStride, startVert, pairedHalfedge, isForward, Halfedges}
 use Rattle.mesh.specs.Sound.{Sound}
 use Rattle.mesh.specs.Inside.{Inside}
+use Rattle.smoothing.specs.declared.CircularTangent.{CircularTangent}
 use Rattle.smoothing.specs.declared.TwoTangents.{TwoTangents}
-use Rattle.smoothing.specs.Directions.{directionless}
-use Rattle.smoothing.specs.Edges.{edgeVec, isInsideQuad}
+use Rattle.smoothing.specs.Edges.{isInsideQuad}
 use Rattle.create_shared.specs.declared.FlatFace.{FlatFace}
 use Rattle.create_shared.specs.declared.FlatFace.TheVariants.{NoFace, OneFace, MoreFaces}
 use Rattle.create_shared.specs.Lent.{faceOf}
-use Rattle.create_initial.specs.First.{vertNormal, firstTangent}
+use Rattle.create_initial.specs.First.{vertNormal, firstTangent, firstDirectionless}
 
 -- Each list has a place for each point, triangle or halfedge. H are the halfedges, P the positions, N the point normals, A the face normals; W has a place for each point, T a tangent for each of the n halfedges.
 pub record FirstLists (H : Halfedges) (P N A : List Float) (W : List ℕ) (T : List Float) (n : ℕ) : Type 0 where
@@ -53,10 +53,21 @@ normalAt H N A W e = vertNormal N A (startVert H e) (faceAt W (startVert H e))
 abbrev pub firstAt : Halfedges → List Float → List Float → List Float → List ℤ → List ℕ → List Float → Bool → ℕ → Vec4
 firstAt H P N A R W T old e = firstTangent H P N A (isInsideQuad H R T old) (faceAt W (startVert H e)) e
 
--- those of halfedge e and of its pair, where there are no old tangents; and whether they are circular tangents on an edge without direction
+-- the same, and whether it is a circular tangent on an edge without direction
+abbrev pub firstMade : Halfedges → List Float → List Float → List Float → List ℤ → List ℕ → List Float → Bool → ℕ → CircularTangent
+firstMade H P N A R W T old e = record {
+  tangent = firstAt H P N A R W T old e;
+  directionless = firstDirectionless H P (isInsideQuad H R T old) e;
+}
+
+-- those of halfedge e and of its pair, where there are no old tangents; and whether they are such circular tangents, both or neither
 unfoldable pub edgeTangents : Halfedges → List Float → List Float → List Float → List ℤ → List ℕ → List Float → ℕ → TwoTangents
 edgeTangents H P N A R W T e = record {
   here = firstAt H P N A R W T false e;
   there = firstAt H P N A R W T false (pairedHalfedge H e);
-  directionless = not (isInsideQuad H R T false e) && directionless (edgeVec H P e);
+  directionless = firstDirectionless H P (isInsideQuad H R T false) e;
 }
+
+-- what halfedge e counts where both tangents of an edge are written at its forward halfedge
+unfoldable pub edgeDirectionless : Halfedges → List Float → (ℕ → Bool) → ℕ → ℕ
+edgeDirectionless H P inside e = cond (isForward H e && firstDirectionless H P inside e) 2 0

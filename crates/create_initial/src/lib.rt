@@ -1,19 +1,19 @@
-// The first tangent of each halfedge in `create_tangents`.
+// The first tangent of each halfedge in `create_tangents`, and how many of them are circular tangents on an edge without direction.
 #![tactic(auto)]
 
-ghost use Rattle.std.specs.Prelude.{◌≡◌, true, false, ◌+◌, ◌*◌, ◌≤◌, ◌<◌, length};
+ghost use Rattle.std.specs.Prelude.{◌≡◌, true, false, cond, ◌+◌, ◌*◌, ◌≤◌, ◌<◌, length};
 ghost use Rattle.common.specs.Fold.{foldTo};
 ghost use Rattle.mesh.specs.Mesh.{asHalfedges};
 ghost use Rattle.smoothing.specs.Edges.{isInsideQuad};
 ghost use Rattle.create_shared.specs.Lent.{flatFlags};
 ghost use Rattle.smoothing.specs.Lists.{putTangent};
 ghost use Rattle.smoothing.specs.Inner.{putEdge};
-ghost use Rattle.create_initial.specs.First.{vertNormal, insideQuadTangent, putFirstTangent, firstTangents};
-ghost use Rattle.create_initial.specs.Lent.{FaceIn, FirstLists, faceAt, FirstIn, NormalIn, normalAt, firstAt, edgeTangents};
+ghost use Rattle.create_initial.specs.First.{vertNormal, insideQuadTangent, putFirstTangent, firstTangents, firstDirectionless, firstsDirectionless};
+ghost use Rattle.create_initial.specs.Lent.{FaceIn, FirstLists, faceAt, FirstIn, NormalIn, normalAt, firstAt, firstMade, edgeTangents, edgeDirectionless};
 
 use create_shared::FlatFace;
 use linalg::{Vec3, Vec4};
-use smoothing::TwoTangents;
+use smoothing::{CircularTangent, TwoTangents};
 
 // The normal of point v, or that of the one flat face at it.
 fn vert_normal(normals: &[f64], face_normals: &[f64], v: usize, face: FlatFace) -> Vec3
@@ -50,7 +50,8 @@ fn inside_quad_tangent() -> Vec4
 
 // ---- with old tangents: halfedge by halfedge
 
-// The first tangent of halfedge e. `t` still holds its old weight.
+// The first tangent of halfedge e, and whether it is a circular tangent on an edge without direction. `t` still holds its old
+// weight.
 fn first_tangent(
     n: usize,
     h: &[i32],
@@ -61,19 +62,22 @@ fn first_tangent(
     at: &[usize],
     t: &[f64],
     e: usize,
-) -> Vec4
+) -> CircularTangent
     requires { (e < n) × FirstIn (asHalfedges h.now) pos.now normals.now face_normals.now at.now t.now n }
-    ensures { result ≡ firstAt (asHalfedges h.now) pos.now normals.now face_normals.now refs.now at.now t.now true e }
+    ensures { result ≡ firstMade (asHalfedges h.now) pos.now normals.now face_normals.now refs.now at.now t.now true e }
 {
     if smoothing::is_inside_quad(h, refs, t, true, e) {
-        return inside_quad_tangent();
+        return CircularTangent {
+            tangent: inside_quad_tangent(),
+            directionless: false,
+        };
     }
     let normal = normal_at(h, normals, face_normals, at, e);
-    smoothing::tangent_from_normal(h, pos, face_normals, normal, e).tangent
+    smoothing::tangent_from_normal(h, pos, face_normals, normal, e)
 }
 
-// Writes it, in the list that the old weights are read from. That is safe: of the old weights only e's own is read, before it is
-// written here, and no other turn of the loop writes it.
+// Writes it, in the list that the old weights are read from, and says what it counts. That is safe: of the old weights only e's own
+// is read, before it is written here, and no other turn of the loop writes it.
 fn put_first_tangent(
     n: usize,
     h: &[i32],
@@ -84,12 +88,14 @@ fn put_first_tangent(
     at: &[usize],
     t: &mut [f64],
     e: usize,
-)
+) -> usize
     requires { (e < n) × FirstIn (asHalfedges h.now) pos.now normals.now face_normals.now at.now t.old n }
-    ensures { t.new ≡ putFirstTangent (asHalfedges h.now) pos.now normals.now face_normals.now (isInsideQuad (asHalfedges h.now) refs.now t.old true) (faceAt at.now) t.old e }
+    ensures tangents { t.new ≡ putFirstTangent (asHalfedges h.now) pos.now normals.now face_normals.now (isInsideQuad (asHalfedges h.now) refs.now t.old true) (faceAt at.now) t.old e }
+    ensures directionless { result ≡ cond (firstDirectionless (asHalfedges h.now) pos.now (isInsideQuad (asHalfedges h.now) refs.now t.old true) e) 1 0 }
 {
-    let tangent = first_tangent(n, h, refs, pos, normals, face_normals, at, t, e);
-    smoothing::put_tangent(t, e, tangent);
+    let first = first_tangent(n, h, refs, pos, normals, face_normals, at, t, e);
+    smoothing::put_tangent(t, e, first.tangent);
+    common::one_if(first.directionless)
 }
 
 fn put_each(
@@ -101,15 +107,18 @@ fn put_each(
     face_normals: &[f64],
     at: &[usize],
     t: &mut [f64],
-)
+) -> usize
     requires { FirstIn (asHalfedges h.now) pos.now normals.now face_normals.now at.now t.old n }
-    ensures { t.new ≡ foldTo (putFirstTangent (asHalfedges h.now) pos.now normals.now face_normals.now (isInsideQuad (asHalfedges h.now) refs.now t.old true) (faceAt at.now)) t.old n }
+    ensures tangents { t.new ≡ foldTo (putFirstTangent (asHalfedges h.now) pos.now normals.now face_normals.now (isInsideQuad (asHalfedges h.now) refs.now t.old true) (faceAt at.now)) t.old n }
+    ensures directionless { result ≡ firstsDirectionless (asHalfedges h.now) pos.now (isInsideQuad (asHalfedges h.now) refs.now t.old true) n }
 {
+    let mut directionless = 0;
     let mut e = 0;
     while e < n {
-        put_first_tangent(n, h, refs, pos, normals, face_normals, at, t, e);
+        directionless += put_first_tangent(n, h, refs, pos, normals, face_normals, at, t, e);
         e += 1;
     }
+    directionless
 }
 
 // ---- without: edge by edge
@@ -142,7 +151,7 @@ fn edge_tangents(
     smoothing::tangents_from_normals(h, pos, face_normals, a, b, e)
 }
 
-// Writes both, at the forward one of the two.
+// Writes both, at the forward one of the two, and says what they count.
 fn put_edge(
     n: usize,
     h: &[i32],
@@ -153,17 +162,19 @@ fn put_edge(
     at: &[usize],
     t: &mut [f64],
     e: usize,
-)
+) -> usize
     requires { (e < n) × FirstIn (asHalfedges h.now) pos.now normals.now face_normals.now at.now t.old n }
-    ensures { t.new ≡ putEdge putTangent (asHalfedges h.now) (firstAt (asHalfedges h.now) pos.now normals.now face_normals.now refs.now at.now t.old false) t.old e }
+    ensures tangents { t.new ≡ putEdge putTangent (asHalfedges h.now) (firstAt (asHalfedges h.now) pos.now normals.now face_normals.now refs.now at.now t.old false) t.old e }
+    ensures directionless { result ≡ edgeDirectionless (asHalfedges h.now) pos.now (isInsideQuad (asHalfedges h.now) refs.now t.old false) e }
 {
     if !mesh::is_forward(h, e) {
-        return;
+        return 0;
     }
     let tangents = edge_tangents(n, h, refs, pos, normals, face_normals, at, t, e);
     let pair = mesh::paired_halfedge(h, e);
     smoothing::put_tangent(t, e, tangents.here);
     smoothing::put_tangent(t, pair, tangents.there);
+    if tangents.directionless { 2 } else { 0 }
 }
 
 fn put_edges(
@@ -175,20 +186,23 @@ fn put_edges(
     face_normals: &[f64],
     at: &[usize],
     t: &mut [f64],
-)
+) -> usize
     requires { FirstIn (asHalfedges h.now) pos.now normals.now face_normals.now at.now t.old n }
-    ensures { t.new ≡ foldTo (putFirstTangent (asHalfedges h.now) pos.now normals.now face_normals.now (isInsideQuad (asHalfedges h.now) refs.now t.old false) (faceAt at.now)) t.old n }
+    ensures tangents { t.new ≡ foldTo (putFirstTangent (asHalfedges h.now) pos.now normals.now face_normals.now (isInsideQuad (asHalfedges h.now) refs.now t.old false) (faceAt at.now)) t.old n }
+    ensures directionless { result ≡ firstsDirectionless (asHalfedges h.now) pos.now (isInsideQuad (asHalfedges h.now) refs.now t.old false) n }
 {
+    let mut directionless = 0;
     let mut e = 0;
     while e < n {
-        put_edge(n, h, refs, pos, normals, face_normals, at, t, e);
+        directionless += put_edge(n, h, refs, pos, normals, face_normals, at, t, e);
         e += 1;
     }
+    directionless
 }
 
 // ---- all of them
 
-// The first tangents, where `at` is the result of `vert_flat_face`.
+// The first tangents, where `at` is the result of `vert_flat_face`, and what they count.
 fn put_first_tangents(
     n: usize,
     h: &[i32],
@@ -199,19 +213,19 @@ fn put_first_tangents(
     at: &[usize],
     old: bool,
     t: &mut [f64],
-)
+) -> usize
     requires { FirstIn (asHalfedges h.now) pos.now normals.now face_normals.now at.now t.old n }
-    ensures { t.new ≡ foldTo (putFirstTangent (asHalfedges h.now) pos.now normals.now face_normals.now (isInsideQuad (asHalfedges h.now) refs.now t.old old) (faceAt at.now)) t.old n }
+    ensures tangents { t.new ≡ foldTo (putFirstTangent (asHalfedges h.now) pos.now normals.now face_normals.now (isInsideQuad (asHalfedges h.now) refs.now t.old old) (faceAt at.now)) t.old n }
+    ensures directionless { result ≡ firstsDirectionless (asHalfedges h.now) pos.now (isInsideQuad (asHalfedges h.now) refs.now t.old old) n }
 {
     if old {
-        put_each(n, h, refs, pos, normals, face_normals, at, t);
-        return;
+        return put_each(n, h, refs, pos, normals, face_normals, at, t);
     }
-    put_edges(n, h, refs, pos, normals, face_normals, at, t);
+    put_edges(n, h, refs, pos, normals, face_normals, at, t)
 }
 
-// Which triangles lie in flat faces, and the first tangents, whatever `flat` and `at` held. Each tangent is written whole, so `t` may
-// stand for the Rust's list of zeros.
+// Which triangles lie in flat faces, and the first tangents, whatever `flat` and `at` held; and how many of these are circular
+// tangents on an edge without direction. Each tangent is written whole, so `t` may stand for the Rust's list of zeros.
 pub fn first_tangents(
     n: usize,
     h: &[i32],
@@ -223,11 +237,13 @@ pub fn first_tangents(
     t: &mut [f64],
     flat: &mut [u8],
     at: &mut [usize],
-)
+) -> usize
     requires { FirstLists (asHalfedges h.now) pos.now normals.now face_normals.now at.old t.old n × (length flat.old ≡ n) }
-    ensures { (flat.new ≡ flatFlags (asHalfedges h.now) refs.now n) × (t.new ≡ firstTangents (asHalfedges h.now) pos.now normals.now face_normals.now refs.now (isInsideQuad (asHalfedges h.now) refs.now t.old old) n) }
+    ensures flat { flat.new ≡ flatFlags (asHalfedges h.now) refs.now n }
+    ensures tangents { t.new ≡ firstTangents (asHalfedges h.now) pos.now normals.now face_normals.now refs.now (isInsideQuad (asHalfedges h.now) refs.now t.old old) n }
+    ensures directionless { result ≡ firstsDirectionless (asHalfedges h.now) pos.now (isInsideQuad (asHalfedges h.now) refs.now t.old old) n }
 {
     create_shared::flat_faces(h, refs, flat);
     create_shared::vert_flat_face(h, refs, flat, at);
-    put_first_tangents(n, h, refs, pos, normals, face_normals, at, old, t);
+    put_first_tangents(n, h, refs, pos, normals, face_normals, at, old, t)
 }

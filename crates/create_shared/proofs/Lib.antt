@@ -4,3 +4,5 @@ pub mod Flat
 pub mod Verts
 mod Codes
 pub mod Lengths
+pub mod Counts
+pub mod Answered

@@ -3,3 +3,4 @@ pub mod Faces
 pub mod Lent
 pub mod Lengths
 pub mod Makings
+pub mod Answer

@@ -1,10 +1,10 @@
--- What both makings write: the tangents, and a flag for each halfedge that is fixed. H are the halfedges, P the positions, T the tangents, n how many halfedges there are.
-use Rattle.std.specs.Prelude.{ℕ, ◌*◌, ◌≡◌, List, length, set, Float}
+-- What both makings write: the tangents, and a flag for each halfedge that is fixed; and what they count. H are the halfedges, P the positions, T the tangents, n how many halfedges there are.
+use Rattle.std.specs.Prelude.{ℕ, ◌*◌, ◌+◌, ◌≡◌, List, cond, length, set, Float}
 use Rattle.linalg.specs.declared.Vec3.{Vec3}
 use Rattle.linalg.specs.Vec.{neg3}
 use Rattle.mesh.specs.Mesh.{halfedgeStride, Halfedges}
 use Rattle.mesh.specs.Sound.{Sound}
-use Rattle.smoothing.specs.Directions.{circularTangent}
+use Rattle.smoothing.specs.Directions.{directionless, circularTangent}
 use Rattle.smoothing.specs.Lists.{putTangent}
 use Rattle.smoothing.specs.Edges.{edgeVec}
 
@@ -44,3 +44,13 @@ alignTangents H P m first second dir =
     tangentsOf
     (putCircularTangent H P (putCircularTangent H P m.tangents first dir) second (neg3 dir))
     (set (set m.fixed first 1) second 1)
+
+-- ---- request 3's count: the circular tangents on an edge without direction, those that are written over later too
+
+-- a circular tangent of halfedge e, with its edge, counts 1 where the edge has no direction
+unfoldable pub directionlessAt : Halfedges → List Float → ℕ → ℕ
+directionlessAt H P e = cond (directionless (edgeVec H P e)) 1 0
+
+-- both of `alignTangents`
+unfoldable pub alignedDirectionless : Halfedges → List Float → ℕ → ℕ → ℕ
+alignedDirectionless H P first second = directionlessAt H P first + directionlessAt H P second

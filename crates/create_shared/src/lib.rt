@@ -1,18 +1,20 @@
 // What both makings share: which triangles lie in flat faces (`flat_faces`), the flat faces at each point (`vert_flat_face`), the
-// lowest halfedge of each point (`vert_halfedge`), question 2 of the lists that both read, and two halfedges of a point along
-// one line.
+// lowest halfedge of each point (`vert_halfedge`), question 2 of the lists that both read, two halfedges of a point along one
+// line, and the answer.
 #![tactic(auto)]
 
-ghost use Rattle.std.specs.Prelude.{◌≡◌, cond, ℕ, ◌+◌, ◌*◌, ◌≤◌, ◌<◌, ◌^◌, length, get_or, replicate};
+ghost use Rattle.std.specs.Prelude.{◌≡◌, ℕ, ◌+◌, ◌*◌, ◌≤◌, ◌<◌, ◌^◌, length, get_or, replicate};
 ghost use Rattle.mesh.specs.Mesh.{asHalfedges};
 ghost use Rattle.mesh.specs.Inside.{Inside};
 ghost use Rattle.smoothing.specs.Edges.{EdgeIn};
 ghost use Rattle.create_shared.specs.Faces.{neighborTri, isFaceNeighbor, faceNeighbors, markNeighbor, markFlat, isFlat, addFlatFace, vertFaceAt, vertFlatFace, vertHalfedge};
 ghost use Rattle.create_shared.specs.Lent.{FlatIn, VertsIn, faceOf, flatFlags};
 ghost use Rattle.create_shared.specs.Lengths.{meshListsFit};
-ghost use Rattle.create_shared.specs.Makings.{MakingIn, tangentsOf, putCircularTangent, alignTangents};
+ghost use Rattle.create_shared.specs.Makings.{MakingIn, tangentsOf, putCircularTangent, alignTangents, directionlessAt, alignedDirectionless};
+ghost use Rattle.create_shared.specs.Answer.{numberOf, placeOf, directionlessOf, answerOf};
 
 use linalg::Vec3;
+use mesh::Checked;
 
 // The flat faces at a point, the Rust's -1, triangle and -2: none; one, with its lowest triangle; or more, with the last
 // triangle that brought another face.
@@ -22,6 +24,16 @@ pub enum FlatFace {
     OneFace(usize),
     MoreFaces(usize),
 }
+
+// The answer of a making: how many circular tangents it computed on an edge without direction, or the first question answered no
+// and its lowest place.
+#[derive(Clone, Copy)]
+pub enum Making {
+    Made { directionless: usize },
+    Refused { number: usize, place: usize },
+}
+
+// ---- flat faces
 
 // The triangle across edge j of triangle t.
 fn neighbor_tri(h: &[i32], t: usize, j: usize) -> usize
@@ -38,19 +50,13 @@ fn is_face_neighbor(h: &[i32], refs: &[i32], t: usize, j: usize) -> bool
     mesh::same_face(refs, neighbor_tri(h, t, j), t)
 }
 
-fn one_if(b: bool) -> usize
-    ensures { (result ≡ cond b 1 0) × (result ≤ 1) }
-{
-    if b { 1 } else { 0 }
-}
-
 fn face_neighbors(h: &[i32], refs: &[i32], t: usize) -> usize
     requires { (j : ℕ) → j < 3 → Inside (asHalfedges h.now) (t * 3 + j) }
     ensures { result ≡ faceNeighbors (asHalfedges h.now) refs.now t }
 {
-    let a = one_if(is_face_neighbor(h, refs, t, 0));
-    let b = one_if(is_face_neighbor(h, refs, t, 1));
-    let c = one_if(is_face_neighbor(h, refs, t, 2));
+    let a = common::one_if(is_face_neighbor(h, refs, t, 0));
+    let b = common::one_if(is_face_neighbor(h, refs, t, 1));
+    let c = common::one_if(is_face_neighbor(h, refs, t, 2));
     a + b + c
 }
 
@@ -185,16 +191,21 @@ pub fn mesh_lists_fit(
     )
 }
 
-// The circular tangent of halfedge e that leaves in the direction `dir`.
-fn put_circular_tangent(h: &[i32], pos: &[f64], t: &mut [f64], e: usize, dir: Vec3)
+// ---- two halfedges of a point along one line
+
+// The circular tangent of halfedge e that leaves in the direction `dir`, and 1 where its edge has no direction.
+fn put_circular_tangent(h: &[i32], pos: &[f64], t: &mut [f64], e: usize, dir: Vec3) -> usize
     requires { (e * 4 + 4 ≤ length t.old) × EdgeIn (asHalfedges h.now) pos.now e }
-    ensures { t.new ≡ putCircularTangent (asHalfedges h.now) pos.now t.old e dir }
+    ensures tangents { t.new ≡ putCircularTangent (asHalfedges h.now) pos.now t.old e dir }
+    ensures directionless { result ≡ directionlessAt (asHalfedges h.now) pos.now e }
 {
-    let tangent = smoothing::circular_tangent(dir, smoothing::edge_vec(h, pos, e)).tangent;
-    smoothing::put_tangent(t, e, tangent);
+    let made = smoothing::circular_tangent(dir, smoothing::edge_vec(h, pos, e));
+    smoothing::put_tangent(t, e, made.tangent);
+    common::one_if(made.directionless)
 }
 
-// Two halfedges of a point along one line, the first in the direction `dir`, and fixed.
+// Two halfedges of a point along one line, the first in the direction `dir`, and fixed: how many of the two have an edge without
+// direction.
 pub fn align_tangents(
     n: usize,
     h: &[i32],
@@ -204,12 +215,56 @@ pub fn align_tangents(
     first: usize,
     second: usize,
     dir: Vec3,
-)
+) -> usize
     requires { (first < n) × (second < n) × MakingIn (asHalfedges h.now) pos.now t.old fixed.old n }
-    ensures { tangentsOf t.new fixed.new ≡ alignTangents (asHalfedges h.now) pos.now (tangentsOf t.old fixed.old) first second dir }
+    ensures tangents { tangentsOf t.new fixed.new ≡ alignTangents (asHalfedges h.now) pos.now (tangentsOf t.old fixed.old) first second dir }
+    ensures directionless { result ≡ alignedDirectionless (asHalfedges h.now) pos.now first second }
 {
-    put_circular_tangent(h, pos, t, first, dir);
-    put_circular_tangent(h, pos, t, second, linalg::neg(dir));
+    let one = put_circular_tangent(h, pos, t, first, dir);
+    let other = put_circular_tangent(h, pos, t, second, linalg::neg(dir));
     fixed[first] = 1;
     fixed[second] = 1;
+    one + other
+}
+
+// ---- the answer
+
+pub fn number_of(making: Making) -> usize
+    ensures { result ≡ numberOf making }
+{
+    match making {
+        Making::Made { directionless: _ } => 0,
+        Making::Refused { number, place: _ } => number,
+    }
+}
+
+pub fn place_of(making: Making) -> usize
+    ensures { result ≡ placeOf making }
+{
+    match making {
+        Making::Made { directionless: _ } => 0,
+        Making::Refused { number: _, place } => place,
+    }
+}
+
+pub fn directionless_of(making: Making) -> usize
+    ensures { result ≡ directionlessOf making }
+{
+    match making {
+        Making::Made { directionless } => directionless,
+        Making::Refused {
+            number: _,
+            place: _,
+        } => 0,
+    }
+}
+
+// The answer with the count, or the refusal with its number and place.
+pub fn answer(checked: Checked, directionless: usize) -> Making
+    ensures { result ≡ answerOf checked directionless }
+{
+    match checked {
+        Checked::Accepted => Making::Made { directionless },
+        Checked::Refused { number, place } => Making::Refused { number, place },
+    }
 }

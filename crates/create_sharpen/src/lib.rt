@@ -1,4 +1,5 @@
-// The creases in `create_tangents`: what those of each point do to the tangents and the fixed flags.
+// The creases in `create_tangents`: what those of each point do to the tangents and the fixed flags, and how many circular tangents
+// they have on an edge without direction.
 #![tactic(auto)]
 
 ghost use Rattle.std.specs.Prelude.{◌≡◌, ◌+◌, ◌*◌, ◌≤◌, ◌<◌, length};
@@ -6,9 +7,9 @@ ghost use Rattle.mesh.specs.Mesh.{asHalfedges};
 ghost use Rattle.create_shared.specs.Faces.{isFlat};
 ghost use Rattle.create_shared.specs.Lent.{FlatIn};
 ghost use Rattle.create_creases.specs.Linked.{pairsAt};
-ghost use Rattle.create_shared.specs.Makings.{TangentsIn, MakingIn, tangentsOf};
+ghost use Rattle.create_shared.specs.Makings.{TangentsIn, MakingIn, tangentsOf, alignedDirectionless};
 ghost use Rattle.create_sharpen.specs.Sharpen.{sharpened, sharpenTangent, newTangent, sidesOf, sharpenSide, sharpenSides, meetingSmoothness, sharpenMeetingAt, sharpenMeeting};
-ghost use Rattle.create_sharpen.specs.Shapes.{fixHalfedge, shapeThrough, shapeCrease, shapeVert, shapeVerts};
+ghost use Rattle.create_sharpen.specs.Shapes.{fixHalfedge, shapeThrough, shapeCrease, shapeVert, shapeVerts, creaseDirectionless, vertDirectionless, creasesDirectionless};
 ghost use Rattle.create_sharpen.specs.Lent.{MeetingIn, CreaseIn, VertIn};
 
 use create_creases::Crease;
@@ -136,7 +137,7 @@ fn sharpen_meeting(n: usize, h: &[i32], flat: &[u8], t: &mut [f64], first: usize
 
 // ---- a point
 
-// A crease through a point.
+// A crease through a point: how many of its two edges have no direction.
 fn shape_through(
     n: usize,
     h: &[i32],
@@ -147,13 +148,15 @@ fn shape_through(
     second: usize,
     between: f64,
     beyond: f64,
-)
+) -> usize
     requires { (first < n) × (second < n) × MakingIn (asHalfedges h.now) pos.now t.old fixed.old n }
-    ensures { tangentsOf t.new fixed.new ≡ shapeThrough (asHalfedges h.now) pos.now n (tangentsOf t.old fixed.old) first second between beyond }
+    ensures tangents { tangentsOf t.new fixed.new ≡ shapeThrough (asHalfedges h.now) pos.now n (tangentsOf t.old fixed.old) first second between beyond }
+    ensures directionless { result ≡ alignedDirectionless (asHalfedges h.now) pos.now first second }
 {
     let dir = new_tangent(t, first, second);
-    create_shared::align_tangents(n, h, pos, t, fixed, first, second, dir);
+    let directionless = create_shared::align_tangents(n, h, pos, t, fixed, first, second, dir);
     sharpen_sides(n, h, t, first, second, between, beyond);
+    directionless
 }
 
 // Fixes halfedge e, if it is one.
@@ -167,7 +170,7 @@ fn fix_halfedge(n: usize, fixed: &mut [u8], e: usize)
     fixed[e] = 1;
 }
 
-// What the creases of a point do. `first` is the halfedge of the first one, and with no crease the point's lowest.
+// What the creases of a point do, and count. `first` is the halfedge of the first one, and with no crease the point's lowest.
 fn shape_crease(
     n: usize,
     h: &[i32],
@@ -177,20 +180,27 @@ fn shape_crease(
     fixed: &mut [u8],
     first: usize,
     crease: Crease,
-)
+) -> usize
     requires { CreaseIn n first crease × (length flat.now ≡ n) × MakingIn (asHalfedges h.now) pos.now t.old fixed.old n }
-    ensures { tangentsOf t.new fixed.new ≡ shapeCrease (asHalfedges h.now) pos.now (isFlat flat.now) n first first (tangentsOf t.old fixed.old) crease }
+    ensures tangents { tangentsOf t.new fixed.new ≡ shapeCrease (asHalfedges h.now) pos.now (isFlat flat.now) n first first (tangentsOf t.old fixed.old) crease }
+    ensures directionless { result ≡ creaseDirectionless (asHalfedges h.now) pos.now crease }
 {
     match crease {
-        Crease::NoCrease => fix_halfedge(n, fixed, first),
-        Crease::OneEnd => {}
+        Crease::NoCrease => {
+            fix_halfedge(n, fixed, first);
+            0
+        }
+        Crease::OneEnd => 0,
         Crease::Through {
             first: a,
             second: b,
             between: x,
             beyond: y,
         } => shape_through(n, h, pos, t, fixed, a, b, x, y),
-        Crease::Meeting { mean: m } => sharpen_meeting(n, h, flat, t, first, m),
+        Crease::Meeting { mean: m } => {
+            sharpen_meeting(n, h, flat, t, first, m);
+            0
+        }
     }
 }
 
@@ -206,13 +216,14 @@ fn shape_vert(
     t: &mut [f64],
     fixed: &mut [u8],
     v: usize,
-)
+) -> usize
     requires { (v < length at.now) × VertIn (asHalfedges h.now) pos.now flat.now smooth.now at.now link.now t.old fixed.old n }
-    ensures { tangentsOf t.new fixed.new ≡ shapeVert (asHalfedges h.now) pos.now (isFlat flat.now) n (pairsAt (asHalfedges h.now) smooth.now n) (tangentsOf t.old fixed.old) v }
+    ensures tangents { tangentsOf t.new fixed.new ≡ shapeVert (asHalfedges h.now) pos.now (isFlat flat.now) n (pairsAt (asHalfedges h.now) smooth.now n) (tangentsOf t.old fixed.old) v }
+    ensures directionless { result ≡ vertDirectionless (asHalfedges h.now) pos.now (pairsAt (asHalfedges h.now) smooth.now n) v }
 {
     let first = create_creases::first_crease(n, at, v);
     let crease = create_creases::crease_at(n, h, smooth, at, link, v);
-    shape_crease(n, h, pos, flat, t, fixed, first, crease);
+    shape_crease(n, h, pos, flat, t, fixed, first, crease)
 }
 
 // The same, at each point.
@@ -226,13 +237,16 @@ pub fn shape_verts(
     link: &[usize],
     t: &mut [f64],
     fixed: &mut [u8],
-)
+) -> usize
     requires { VertIn (asHalfedges h.now) pos.now flat.now smooth.now at.now link.now t.old fixed.old n }
-    ensures { tangentsOf t.new fixed.new ≡ shapeVerts (asHalfedges h.now) pos.now (isFlat flat.now) n (pairsAt (asHalfedges h.now) smooth.now n) (length at.now) (tangentsOf t.old fixed.old) }
+    ensures tangents { tangentsOf t.new fixed.new ≡ shapeVerts (asHalfedges h.now) pos.now (isFlat flat.now) n (pairsAt (asHalfedges h.now) smooth.now n) (length at.now) (tangentsOf t.old fixed.old) }
+    ensures directionless { result ≡ creasesDirectionless (asHalfedges h.now) pos.now (pairsAt (asHalfedges h.now) smooth.now n) (length at.now) }
 {
+    let mut directionless = 0;
     let mut v = 0;
     while v < at.len() {
-        shape_vert(n, h, pos, flat, smooth, at, link, t, fixed, v);
+        directionless += shape_vert(n, h, pos, flat, smooth, at, link, t, fixed, v);
         v += 1;
     }
+    directionless
 }

@@ -1,4 +1,4 @@
--- Sums over the numbers below n, how often a number stands in a list, and how the two meet. Nothing of meshes is in it.
+-- How often a number stands in a list, and how that meets sums over the numbers below n. Nothing of meshes is in it.
 use mathlib.Core.Path.{◌≡◌, refl, sym, ap, ◌∙◌, subst}
 use mathlib.Core.List.{List, [], ◌∷◌, reverse_aux}
 use mathlib.Core.Logic.{◌≢◌, ◌⊎◌, inl, inr}
@@ -8,50 +8,9 @@ use native.Mathlib.Decide.{ℕ_discrete}
 use native.Mathlib.Omega.{arith}
 use lib.ListN.{length, get_or}
 use borrow.Author.Tests.{eq-eqb, ne_eqb}
+use Rattle.common.specs.Count.{sum}
+use Rattle.common.proofs.Sums.{sum-ext, sum-add, sum-zero, sum-one}
 use Rattle.cycles.specs.Count.{delta, count, ◌∈◌, Exactly, none, hit, miss}
-
--- ---- sums over the numbers below n
-
--- f 0 + .. + f (n - 1)
-unfoldable pub sum : ℕ → (ℕ → ℕ) → ℕ
-sum zero f = 0
-sum (suc n) f = sum n f + f n
-
-pub sum-ext : (n : ℕ) (f g : ℕ → ℕ) → ((i : ℕ) → i < n → f i ≡ g i) → sum n f ≡ sum n g
-unfolding sum
-sum-ext zero f g h = refl
-sum-ext (suc n) f g h = rw (sum-ext n f g (λ i l. h i (omega arith)), h n (le_refl (suc n)))
-
-pub sum-le : (n : ℕ) (f g : ℕ → ℕ) → ((i : ℕ) → i < n → f i ≤ g i) → sum n f ≤ sum n g
-unfolding sum
-sum-le zero f g h = le_refl 0
-sum-le (suc n) f g h = omega (arith, sum-le n f g (λ i l. h i (omega arith)), h n (le_refl (suc n)))
-
-pub sum-add : (n : ℕ) (f g : ℕ → ℕ) → sum n (λ i. f i + g i) ≡ sum n f + sum n g
-unfolding sum
-sum-add zero f g = refl
-sum-add (suc n) f g = omega (arith, sum-add n f g)
-
-pub sum-zero : (n : ℕ) (f : ℕ → ℕ) → ((i : ℕ) → i < n → f i ≡ 0) → sum n f ≡ 0
-unfolding sum
-sum-zero zero f h = refl
-sum-zero (suc n) f h = omega (arith, sum-zero n f (λ i l. h i (omega arith)), h n (le_refl (suc n)))
-
--- all but one are 0
-pub sum-one : (n : ℕ) (f : ℕ → ℕ) (i : ℕ) → i < n → ((j : ℕ) → j < n → j ≢ i → f j ≡ 0) → sum n f ≡ f i
-unfolding sum
-sum-one zero f i l h = absurd (not-suc-le-zero l)
-sum-one (suc n) f i l h = go (ℕ_discrete i n) (λ k. sum-one n f i k (λ j b. h j (omega arith)))
-  where
-    go : Dec (i ≡ n) → (i < n → sum n f ≡ f i) → sum n f + f n ≡ f i
-    go (yes e) ih = omega (arith, ap f e, sum-zero n f (λ j b. h j (omega arith) (λ q. omega arith)))
-    go (no ne) ih = omega (arith, ih (omega arith), h n (le_refl (suc n)) (λ q. ne (sym q)))
-
--- each is at most 1
-pub sum-le-n : (n : ℕ) (f : ℕ → ℕ) → ((i : ℕ) → i < n → f i ≤ 1) → sum n f ≤ n
-unfolding sum
-sum-le-n zero f h = le_refl 0
-sum-le-n (suc n) f h = omega (arith, sum-le-n n f (λ i l. h i (omega arith)), h n (le_refl (suc n)))
 
 -- ---- how often a number stands in a list
 

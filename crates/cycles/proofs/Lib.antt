@@ -4,4 +4,5 @@ pub mod Paths
 pub mod Orbits
 pub mod Loops
 pub mod Around
+pub mod Starts
 mod Pillow

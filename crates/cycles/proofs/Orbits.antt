@@ -8,10 +8,11 @@ use native.Mathlib.Decide.{dec_lt, dec_le}
 use native.Mathlib.Omega.{arith}
 use lib.ListN.{length, get_or}
 use borrow.Author.Tests.{eqb-true, eqb-false, eq-eqb}
+use Rattle.common.proofs.Sums.{sum-le-n}
 use Rattle.cycles.specs.Count.{count, ◌∈◌, Exactly}
 use Rattle.cycles.specs.Walk.{iter, path, walkEnd, cycleFrom, cycleOf, Reaches}
 use Rattle.cycles.specs.Orbits.{Permutes, Orbits}
-use Rattle.cycles.proofs.Count.{count-at, at-count, count-once, length-count, sum-le-n, Below, exactly, zero-or-more, at-most-one}
+use Rattle.cycles.proofs.Count.{count-at, at-count, count-once, length-count, Below, exactly, zero-or-more, at-most-one}
 use Rattle.cycles.proofs.Paths.{isAt, stepsLeft, iter-zero, iter-suc, iter-add, path-at, path-free, path-some, path-longer, path-more, end-iter, end-more, cycle-length, cycle-at, cycle-more}
 
 module _ {step : ℕ → ℕ} {n : ℕ} (P : Permutes step n) where

@@ -9,7 +9,9 @@ use native.Mathlib.Decide.{ℕ_discrete}
 use native.Mathlib.Omega.{arith}
 use lib.ListN.{length}
 use Rattle.cycles.specs.Count.{count, ◌∈◌, Exactly}
-use Rattle.cycles.proofs.Count.{sum, sum-ext, sum-le, sum-one, delta-equal, delta-other, total, Below, total-count, total-some, exactly, total-has, total-le, total-length, count-reverse, zero-or-more}
+use Rattle.common.specs.Count.{sum}
+use Rattle.common.proofs.Sums.{sum-ext, sum-le, sum-one}
+use Rattle.cycles.proofs.Count.{delta-equal, delta-other, total, Below, total-count, total-some, exactly, total-has, total-le, total-length, count-reverse, zero-or-more}
 use Rattle.cycles.proofs.Orbits.{iter-below, path-apart, path-index, sole-stop, stop-before, reaches-back}
 use Rattle.distribute_spread.specs.Steps.{Steps, Lawful}
 use Rattle.distribute_spread.specs.Spread.{State, spreadFrom, spreadAt, spreadOn, handedIn, spread, fixedFrom, pass}

@@ -67,14 +67,14 @@ pub fn edge_direction(h: &[i32], pos: &[f64], start: usize, current: usize) -> V
 {
     let end = smoothing::point_at(pos, mesh::end_vert(h, current));
     let center = smoothing::point_at(pos, mesh::start_vert(h, start));
-    smoothing::safe_normalize(linalg::sub(end, center)).vec
+    smoothing::unit_vector(linalg::sub(end, center))
 }
 
 // The direction of a tangent.
 pub fn tangent_direction(v: Vec4) -> Vec3
     ensures { result ≡ tangentDirection v }
 {
-    smoothing::safe_normalize(smoothing::vec3_from_vec4(v)).vec
+    smoothing::unit_vector(smoothing::vec3_from_vec4(v))
 }
 
 // The last of the first k numbers, d where k is 0.
@@ -229,7 +229,7 @@ pub fn plan(current: &[f64], desired: &[f64], start: usize, last: usize, g: Carr
     let k = g.count;
     let scale = scale_of(current, desired, k);
     let offset = offset_of(last == start, scale, current, desired, k);
-    let axis = smoothing::safe_normalize(g.normal).vec;
+    let axis = smoothing::unit_vector(g.normal);
     Turning {
         count: k,
         scale,

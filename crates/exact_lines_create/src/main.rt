@@ -1,13 +1,25 @@
 // Document 01's exact lines that are runs, by the public calls of the makings: the counts, a start of -1, and the smoothness of
-// an entry. Each line of the output is a call and its answer; the file `stdout` has what document 01 and the unchanged Rust say.
+// an entry; and request 3's count where all points are one. Each line of the output is a call and its answer; the file `stdout`
+// has what the documents and the unchanged Rust say.
 #![tactic(auto)]
 
-use mesh::Checked;
+use create_shared::Making;
+
+const PILLOW: [f64; 9] = [0.0, 0.0, 0.0, 3.0, 0.0, 0.0, 0.0, 6.0, 0.0];
 
 // The call, what it is asked about, and the number and place of its answer: 0 0 if it is accepted. A failed write is silent.
-fn put(rt: &impl Print, call: &str, asked: &str, checked: Checked) {
-    let (number, place) = (mesh::number_of(checked), mesh::place_of(checked));
+fn put(rt: &impl Print, call: &str, asked: &str, making: Making) {
+    let (number, place) = (
+        create_shared::number_of(making),
+        create_shared::place_of(making),
+    );
     let _ = println!(rt; "{call}{asked}{number} {place}");
+}
+
+// The call, and how many circular tangents it computed on an edge without direction.
+fn put_count(rt: &impl Print, call: &str, asked: &str, making: Making) {
+    let count = create_shared::directionless_of(making);
+    let _ = println!(rt; "{call}{asked}{count} without direction");
 }
 
 // The pillow's halfedges, with this start for halfedge 2; each has its own number as row.
@@ -19,13 +31,20 @@ fn pillow(vert: i32) -> [i32; 24] {
     h
 }
 
-// Making from sharp edges of the pillow's lists, with so many halfedges, this start for halfedge 2, and these entries.
-fn make_sharp(n: usize, vert: i32, entries: &[usize], values: &[f64], t: &mut [f64]) -> Checked {
+// Making from sharp edges of the pillow's lists, with so many halfedges, this start for halfedge 2, these positions and entries.
+fn make_sharp(
+    n: usize,
+    vert: i32,
+    pos: &[f64],
+    entries: &[usize],
+    values: &[f64],
+    t: &mut [f64],
+) -> Making {
     create::create_tangents(
         n,
         3,
         &pillow(vert),
-        &[0.0, 0.0, 0.0, 3.0, 0.0, 0.0, 0.0, 6.0, 0.0],
+        pos,
         &[1.0, 2.0, 3.0, 1.0, 2.0, 3.0, 1.0, 2.0, 3.0],
         &[0.0, 0.0, 1.0, 0.0, 0.0, -1.0],
         &[1, 0, 0, 1, 0, 1],
@@ -42,13 +61,13 @@ fn make_sharp(n: usize, vert: i32, entries: &[usize], values: &[f64], t: &mut [f
     )
 }
 
-// Making from normals of the pillow's lists, all normals missing.
-fn make_from_normals(n: usize, vert: i32) -> Checked {
+// Making from normals of the pillow's lists with these positions, all normals missing.
+fn make_from_normals(n: usize, vert: i32, pos: &[f64]) -> Making {
     create_from_normals::create_tangents_from_normals(
         n,
         3,
         &pillow(vert),
-        &[0.0, 0.0, 0.0, 3.0, 0.0, 0.0, 0.0, 6.0, 0.0],
+        pos,
         &[1.0, 2.0, 3.0, 1.0, 2.0, 3.0, 1.0, 2.0, 3.0],
         &[0.0, 0.0, 1.0, 0.0, 0.0, -1.0],
         &[1, 0, 0, 1, 0, 1],
@@ -69,13 +88,13 @@ fn make(rt: &impl Print, asked: &str, n: usize, vert: i32) {
         rt,
         "making from sharp edges, ",
         asked,
-        make_sharp(n, vert, &[0], &[0.0], &mut [0.0; 24]),
+        make_sharp(n, vert, &PILLOW, &[0], &[0.0], &mut [0.0; 24]),
     );
     put(
         rt,
         "making from normals, ",
         asked,
-        make_from_normals(n, vert),
+        make_from_normals(n, vert, &PILLOW),
     );
 }
 
@@ -101,14 +120,14 @@ fn make_with(rt: &impl Print, asked: &str, smoothness: f64, t: &mut [f64]) {
         rt,
         "making from sharp edges, ",
         asked,
-        make_sharp(6, 2, &[0, 4], &[0.0, smoothness], t),
+        make_sharp(6, 2, &PILLOW, &[0, 4], &[0.0, smoothness], t),
     );
 }
 
 // The same, and whether the tangents are those that are made without the second entry.
 fn entry(rt: &impl Print, asked: &str, smoothness: f64) {
     let mut without = [0.0; 24];
-    make_sharp(6, 2, &[0], &[0.0], &mut without);
+    make_sharp(6, 2, &PILLOW, &[0], &[0.0], &mut without);
     let mut with = [7.0; 24];
     make_with(rt, asked, smoothness, &mut with);
     if same(&with, &without, 24) {
@@ -116,6 +135,22 @@ fn entry(rt: &impl Print, asked: &str, smoothness: f64) {
     } else {
         let _ = println!(rt; "other tangents than without it");
     }
+}
+
+// Both makings with these positions; with one sharp edge no crease goes through a point.
+fn count(rt: &impl Print, asked: &str, pos: &[f64]) {
+    put_count(
+        rt,
+        "making from sharp edges, ",
+        asked,
+        make_sharp(6, 2, pos, &[0], &[0.0], &mut [0.0; 24]),
+    );
+    put_count(
+        rt,
+        "making from normals, ",
+        asked,
+        make_from_normals(6, 2, pos),
+    );
 }
 
 fn main(rt: HostRuntime) {
@@ -127,4 +162,12 @@ fn main(rt: HostRuntime) {
     entry(&rt, "smoothness 1: ", 1.0);
     entry(&rt, "smoothness 1/2: ", 0.5);
     make_with(&rt, "smoothness -0: ", -0.0, &mut [0.0; 24]);
+    count(&rt, "the pillow: ", &PILLOW);
+    count(&rt, "all points one point: ", &[3.0; 9]);
+    put_count(
+        &rt,
+        "making from sharp edges, ",
+        "all points one point, a crease through point 1: ",
+        make_sharp(6, 2, &[3.0; 9], &[0, 1], &[0.0, 0.0], &mut [0.0; 24]),
+    );
 }

@@ -1,4 +1,4 @@
--- The laws of `normals_core`.
-mod Core
+-- The laws of `normals_core`: those that the crates above cite are public.
+pub mod Core
 mod Flags
 mod Lent

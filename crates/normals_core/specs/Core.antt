@@ -1,4 +1,4 @@
--- `create_tangents_from_normals` of src/smoothing_tangents.rs: the tangents that it leaves on an accepted mesh. H are the halfedges, P the positions, N the point normals, A the face normals, R the face references, `normal` gives the normal of a halfedge, T the tangents as lent, `old` whether these are old tangents, n and p the counts of halfedges and points.
+-- `create_tangents_from_normals` of src/smoothing_tangents.rs: the tangents that it leaves on an accepted mesh, and request 3's count. H are the halfedges, P the positions, N the point normals, A the face normals, R the face references, `normal` gives the normal of a halfedge, T the tangents as lent, `old` whether these are old tangents, n and p the counts of halfedges and points.
 use Rattle.std.specs.Prelude.{ℕ, ◌*◌, ◌<◌, ◌≡◌, List, Bool, length, replicate, ℤ, Float}
 use Rattle.float.specs.Ops.{zero}
 use Rattle.linalg.specs.declared.Vec3.{Vec3}
@@ -7,7 +7,7 @@ use Rattle.mesh.specs.Sound.{Sound}
 use Rattle.smoothing.specs.Edges.{isInsideQuad}
 use Rattle.create_shared.specs.Makings.{Tangents, tangentsOf}
 use Rattle.normals_state.specs.State.{RowIn}
-use Rattle.normals_walks.specs.Walks.{normalsVerts}
+use Rattle.normals_walks.specs.Walks.{normalsVerts, normalsVertsDirectionless}
 use Rattle.distribute.specs.Distribute.{spreadTangents}
 
 -- ---- what the lists must be for a call: T are the tangents, X, B, C, D and W the scratch lists `fixed`, `inside`, `current`, `desired` and `first`
@@ -33,13 +33,24 @@ pub record Lists (list : List ℤ) (P N A G T : List Float) (X B : List ℕ) (C 
 
 -- ---- the tangents
 
--- Before spreading, of n halfedges and p points. Each tangent is 0 and no halfedge fixed to begin with; the tangents of a further vertex cycle of a point stay so.
+-- each tangent is 0 and no halfedge fixed to begin with
+abbrev pub noTangents : ℕ → Tangents
+noTangents n = tangentsOf (replicate (n * 4) zero) (replicate n 0)
+
+-- Before spreading, of n halfedges and p points. The tangents of a further vertex cycle of a point stay 0.
 unfoldable pub normalTangents : Halfedges → List Float → List Float → List Float → List ℤ → (ℕ → Vec3) → List Float → Bool → ℕ → ℕ → Tangents
 normalTangents H P N A R normal T old n p =
-    normalsVerts H P N A normal (isInsideQuad H R T old) n p (tangentsOf (replicate (n * 4) zero) (replicate n 0))
+    normalsVerts H P N A normal (isInsideQuad H R T old) n p (noTangents n)
 
 -- `create_tangents_from_normals`
 unfoldable pub createTangentsFromNormals : Halfedges → List Float → List Float → List Float → List ℤ → (ℕ → Vec3) → List Float → Bool → ℕ → ℕ → List Float
 createTangentsFromNormals H P N A R normal T old n p =
     let m = normalTangents H P N A R normal T old n p in
     (spreadTangents H P N m.fixed m.tangents n).tangents
+
+-- ---- request 3's count: the circular tangents that the making computes on an edge without direction, with those that are written over
+
+-- of the loop over the points. Spreading computes no circular tangent.
+unfoldable pub fromNormalsDirectionless : Halfedges → List Float → List Float → List Float → List ℤ → (ℕ → Vec3) → List Float → Bool → ℕ → ℕ → ℕ
+fromNormalsDirectionless H P N A R normal T old n p =
+    normalsVertsDirectionless H P N A normal (isInsideQuad H R T old) n p (noTangents n)

@@ -11,7 +11,7 @@ ghost use Rattle.normals_state.specs.State.{getNormal};
 ghost use Rattle.normals_state.specs.Units.{UnitsIn};
 ghost use Rattle.distribute_walks.specs.Walks.{Lists as SpreadLists};
 ghost use Rattle.distribute.specs.Distribute.{spreadTangents};
-ghost use Rattle.normals_core.specs.Core.{TangentLists, Lists, normalTangents, createTangentsFromNormals};
+ghost use Rattle.normals_core.specs.Core.{TangentLists, Lists, normalTangents, createTangentsFromNormals, fromNormalsDirectionless};
 ghost use Rattle.normals_core.specs.Flags.{InsideIn, FlagIn, quadFlag, insideQuads, insideQuadStep};
 
 // The flag of halfedge e: 1 if it is inside a quad.
@@ -64,7 +64,7 @@ fn inside_quads(n: usize, h: &[i32], refs: &[i32], t: &[f64], old: bool, inside:
     }
 }
 
-// The tangents and the fixed flags before spreading. The old weights are read before the tangents become 0.
+// The tangents and the fixed flags before spreading, and the count. The old weights are read before the tangents become 0.
 fn normal_tangents(
     n: usize,
     h: &[i32],
@@ -79,9 +79,10 @@ fn normal_tangents(
     fixed: &mut [u8],
     inside: &mut [u8],
     first: &mut [usize],
-)
+) -> usize
     requires { TangentLists h.now pos.now normals.now face_normals.now rows.now t.old fixed.old inside.old first.old n × UnitsIn face_normals.now face_units.now n }
-    ensures { tangentsOf t.new fixed.new ≡ normalTangents (asHalfedges h.now) pos.now normals.now face_normals.now refs.now (getNormal h.now rows.now) t.old old n (length first.old) }
+    ensures tangents { tangentsOf t.new fixed.new ≡ normalTangents (asHalfedges h.now) pos.now normals.now face_normals.now refs.now (getNormal h.now rows.now) t.old old n (length first.old) }
+    ensures directionless { result ≡ fromNormalsDirectionless (asHalfedges h.now) pos.now normals.now face_normals.now refs.now (getNormal h.now rows.now) t.old old n (length first.old) }
 {
     inside_quads(n, h, refs, t, old, inside);
     common::fill_floats(t, 0.0);
@@ -99,7 +100,7 @@ fn normal_tangents(
         first,
         t,
         fixed,
-    );
+    )
 }
 
 // Zeros in the scratch lists that spreading does not have.
@@ -113,8 +114,8 @@ fn clear_scratch(fixed: &mut [u8], inside: &mut [u8], first: &mut [usize])
     common::fill_numbers(first, 0);
 }
 
-// The tangents of an accepted call, and zeros in all scratch lists. Until spreading, `current` holds the unit vectors of the
-// triangles' normals.
+// The tangents of an accepted call, and zeros in all scratch lists; and the count. Until spreading, `current` holds the unit
+// vectors of the triangles' normals.
 pub fn make_tangents(
     n: usize,
     p: usize,
@@ -131,7 +132,7 @@ pub fn make_tangents(
     current: &mut [f64],
     desired: &mut [f64],
     first: &mut [usize],
-)
+) -> usize
     requires { Lists h.now pos.now normals.now face_normals.now rows.now t.old fixed.old inside.old current.old desired.old first.old n p }
     ensures tangents { t.new ≡ createTangentsFromNormals (asHalfedges h.now) pos.now normals.now face_normals.now refs.now (getNormal h.now rows.now) t.old old n p }
     ensures fixed { fixed.new ≡ replicate n 0 }
@@ -139,9 +140,10 @@ pub fn make_tangents(
     ensures current { current.new ≡ replicate n zero }
     ensures desired { desired.new ≡ replicate n zero }
     ensures first { first.new ≡ replicate p 0 }
+    ensures directionless { result ≡ fromNormalsDirectionless (asHalfedges h.now) pos.now normals.now face_normals.now refs.now (getNormal h.now rows.now) t.old old n p }
 {
     normals_state::put_units(n, face_normals, current);
-    normal_tangents(
+    let directionless = normal_tangents(
         n,
         h,
         pos,
@@ -158,4 +160,5 @@ pub fn make_tangents(
     );
     distribute::spread_tangents(n, p, h, pos, normals, fixed, t, current, desired);
     clear_scratch(fixed, inside, first);
+    directionless
 }

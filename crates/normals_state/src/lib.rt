@@ -123,7 +123,7 @@ fn unit_after(normal: Vec3, before: Vec3, unit: Vec3) -> Vec3
     if same_normal(normal, before) {
         return unit;
     }
-    smoothing::safe_normalize(normal).vec
+    smoothing::unit_vector(normal)
 }
 
 // The unit vector of the normal of triangle t, in its place.
@@ -131,7 +131,7 @@ fn put_unit(face_normals: &[f64], units: &mut [f64], t: usize)
     requires { (t * 3 + 3 ≤ length face_normals.now) × (t * 3 + 3 ≤ length units.old) }
     ensures { units.new ≡ putUnit face_normals.now units.old t }
 {
-    let unit = smoothing::safe_normalize(smoothing::point_at(face_normals, t)).vec;
+    let unit = smoothing::unit_vector(smoothing::point_at(face_normals, t));
     let at = t * 3;
     units[at] = unit.x;
     units[at + 1] = unit.y;
@@ -180,7 +180,7 @@ pub fn halfedge_normal(h: &[i32], face_units: &[f64], rows: &[f64], e: usize) ->
     ensures { result ≡ halfedgeNormal face_units.now (getNormal h.now rows.now) e }
 {
     let normal = get_normal(h, rows, e);
-    let unit = smoothing::safe_normalize(normal).vec;
+    let unit = smoothing::unit_vector(normal);
     normal_after(h, face_units, rows, normal, unit, e)
 }
 

@@ -16,13 +16,14 @@ use Rattle.smoothing.specs.Lists.{tangentAt, putTangent}
 use Rattle.smoothing.proofs.Directions.{equal-by-units}
 use Rattle.smoothing.proofs.Tangents.{weight-put-same, put-put}
 use Rattle.cycles.specs.Cycles.{nextAround}
+use Rattle.create_shared.specs.Makings.{directionlessAt}
 use Rattle.normals_state.specs.declared.CycleState.{CycleState}
 use Rattle.normals_state.specs.State.{isMissing, nextState}
 use Rattle.normals_state.specs.Carried.{halfedgeNormal}
 use Rattle.normals_state.specs.Units.{UnitsIn}
 use Rattle.normals_state.proofs.Carried.{next-state-by}
-use Rattle.normals_steps.specs.Steps.{tangentBetween, withWeight, insideQuadWeight, missingNormalWeight, flagTangent, Walk, walkOf, tangentStep, normalStep}
-use Rattle.normals_steps.specs.Carried.{directionBetween, tangentStepOf, normalStepOf}
+use Rattle.normals_steps.specs.Steps.{tangentBetween, withWeight, insideQuadWeight, missingNormalWeight, flagTangent, Walk, walkOf, tangentStep, normalStep, normalStepDirectionless}
+use Rattle.normals_steps.specs.Carried.{directionBetween, tangentStepOf, normalStepOf, normalStepDirectionlessOf}
 
 -- ---- the weight says whether there is a flag
 
@@ -90,3 +91,15 @@ module _ (H : Halfedges) (P A : List Float) (normal : ℕ → Vec3) (inside : �
   normal-step-by {U} w j k =
       step-cases (inside e || isMissing H normal e) refl
       ∙ rw (next-state-by w H normal m.state e j k, tangent-step-by H P A U normal) refl
+
+  -- and what it counts
+  count-cases : (b : Bool) → inside e || isMissing H normal e ≡ b → normalStepDirectionless H P A normal inside m e ≡ cond b 0 (directionlessAt H P e)
+  unfolding normalStepDirectionless
+  count-cases true k =
+      simp (flag-is (isMissing H normal e) (inside e) after.last_normal (tangentAt m.tangents e) k, weight-put-same m.tangents e flag h, flag-below (inside e))
+  count-cases false k =
+      simp (no-flag-is (isMissing H normal e) (inside e) after.last_normal (tangentAt m.tangents e) k, weight-put-same m.tangents e (withWeight (vec3FromVec4 (tangentAt m.tangents e)) one) h, one-above)
+
+  pub normal-count-by : (U : List Float) → normalStepDirectionless H P A normal inside m e ≡ normalStepDirectionlessOf H P inside (halfedgeNormal U normal e) (halfedgeNormal U normal (nextAround H e)) e
+  unfolding normalStepDirectionlessOf isMissing halfedgeNormal
+  normal-count-by U = count-cases (inside e || isMissing H normal e) refl

@@ -1,4 +1,4 @@
--- The bodies of the loops of `create_tangents_from_normals` over a vertex cycle, and its last step at a point. H are the halfedges, P the positions, A the face normals, `normal` gives the normal of a halfedge, `inside` which halfedges are inside a quad, T the tangents, X the fixed flags.
+-- The bodies of the loops of `create_tangents_from_normals` over a vertex cycle, and its last step at a point; and what each adds to request 3's count. H are the halfedges, P the positions, A the face normals, `normal` gives the normal of a halfedge, `inside` which halfedges are inside a quad, T the tangents, X the fixed flags.
 use Rattle.std.specs.Prelude.{ℕ, ◌*◌, ◌<◌, ◌≡◌, List, Bool, cond, length, set, ℤ, Float}
 use Rattle.std.specs.Float.Ieee.{lt, eq, neg}
 use Rattle.float.specs.Ops.{zero, one, three}
@@ -10,7 +10,7 @@ use Rattle.smoothing.specs.Directions.{vec3FromVec4, equalNormals, circularTange
 use Rattle.smoothing.specs.Lists.{tangentAt, putTangent, weightAt, isMarkedInsideQuad}
 use Rattle.smoothing.specs.Edges.{edgeVec, tangentFromNormal}
 use Rattle.cycles.specs.Cycles.{nextAround}
-use Rattle.create_shared.specs.Makings.{Tangents, alignTangents}
+use Rattle.create_shared.specs.Makings.{Tangents, alignTangents, directionlessAt, alignedDirectionless}
 use Rattle.normals_state.specs.declared.FaceEdges.{FaceEdges}
 use Rattle.normals_state.specs.declared.FaceEdges.TheVariants.{NoEdge, OneEdge, TwoEdges, Spoiled}
 use Rattle.normals_state.specs.declared.StartHalfedge.{StartHalfedge}
@@ -34,21 +34,31 @@ pub record StepIn (list : List ℤ) (P A U G : List Float) (B : List ℕ) (T : L
   pub inside : length B ≡ n
   pub fixed : length X ≡ n
 
--- the halfedges that the state of a walk names are halfedges
+-- the halfedges that the state of a walk names all have Q
+abbrev pub FaceEdgesNames : (ℕ → Type 0) → FaceEdges → Type 0
+FaceEdgesNames Q NoEdge = Unit {0}
+FaceEdgesNames Q (OneEdge a) = Q a
+FaceEdgesNames Q (TwoEdges a b) = Q a × Q b
+FaceEdgesNames Q Spoiled = Unit {0}
+
+abbrev pub StartNames : (ℕ → Type 0) → StartHalfedge → Type 0
+StartNames Q NoneMissing = Unit {0}
+StartNames Q SomeMissing = Unit {0}
+StartNames Q (StartAt e) = Q e
+
+pub record StateNames (Q : ℕ → Type 0) (s : CycleState) : Type 0 where
+  pub face-edges : FaceEdgesNames Q s.face_edges
+  pub start-halfedge : StartNames Q s.start_halfedge
+
+-- they are halfedges
 abbrev pub FaceEdgesIn : ℕ → FaceEdges → Type 0
-FaceEdgesIn n NoEdge = Unit {0}
-FaceEdgesIn n (OneEdge a) = a < n
-FaceEdgesIn n (TwoEdges a b) = (a < n) × (b < n)
-FaceEdgesIn n Spoiled = Unit {0}
+FaceEdgesIn n f = FaceEdgesNames (λ (a : ℕ). a < n) f
 
 abbrev pub StartIn : ℕ → StartHalfedge → Type 0
-StartIn n NoneMissing = Unit {0}
-StartIn n SomeMissing = Unit {0}
-StartIn n (StartAt e) = e < n
+StartIn n s = StartNames (λ (a : ℕ). a < n) s
 
-pub record StateIn (n : ℕ) (s : CycleState) : Type 0 where
-  pub face-edges : FaceEdgesIn n s.face_edges
-  pub start-halfedge : StartIn n s.start_halfedge
+abbrev pub StateIn : ℕ → CycleState → Type 0
+StateIn n s = StateNames (λ (a : ℕ). a < n) s
 
 -- ---- the tangent of a halfedge between two normals
 
@@ -99,18 +109,32 @@ tangentStep H P A normal m e =
     let T = putTangent m.tangents e (tangentBetween H P A here next equal e) in
     cond equal (walkOf T m.fixed m.state) (walkOf T (set m.fixed e 1) (spoilFaceEdges m.state))
 
--- the body of the loop, at halfedge e
-unfoldable pub normalStep : Halfedges → List Float → List Float → (ℕ → Vec3) → (ℕ → Bool) → Walk → ℕ → Walk
-normalStep H P A normal inside m e =
+-- halfedge e with its flag, set or clear
+abbrev pub flagStep : Halfedges → List Float → (ℕ → Vec3) → (ℕ → Bool) → Walk → ℕ → Walk
+flagStep H A normal inside m e =
     let s = nextState H A normal m.state e in
     let t = flagTangent (isMissing H normal e) (inside e) s.last_normal (tangentAt m.tangents e) in
-    let flagged = walkOf (putTangent m.tangents e t) m.fixed s in
+    walkOf (putTangent m.tangents e t) m.fixed s
+
+-- the body of the loop, at halfedge e: `if tangent[halfedge].w < 0.0` there is a flag
+unfoldable pub normalStep : Halfedges → List Float → List Float → (ℕ → Vec3) → (ℕ → Bool) → Walk → ℕ → Walk
+normalStep H P A normal inside m e =
+    let flagged = flagStep H A normal inside m e in
     cond (lt (weightAt flagged.tangents e) zero) flagged (tangentStep H P A normal flagged e)
+
+-- what it counts: past `continue`, a circular tangent on the edge of e, whether `different_normals` or not
+unfoldable pub normalStepDirectionless : Halfedges → List Float → List Float → (ℕ → Vec3) → (ℕ → Bool) → Walk → ℕ → ℕ
+normalStepDirectionless H P A normal inside m e =
+    cond (lt (weightAt (flagStep H A normal inside m e).tangents e) zero) 0 (directionlessAt H P e)
 
 -- ---- all normals are missing: the body of the loop that takes the point's normal
 
 unfoldable pub vertNormalStep : Halfedges → List Float → List Float → Vec3 → List Float → ℕ → List Float
 vertNormalStep H P A normal T e = cond (isMarkedInsideQuad T e) T (putTangent T e (tangentFromNormal H P A normal e))
+
+-- what it counts: `tangent_from_normal(normal, halfedge)`, where `tangent[halfedge].w != K_INSIDE_QUAD`
+unfoldable pub vertNormalDirectionless : Halfedges → List Float → List Float → ℕ → ℕ
+vertNormalDirectionless H P T e = cond (isMarkedInsideQuad T e) 0 (directionlessAt H P e)
 
 -- ---- some normals are missing: the body of the loop that goes round backwards
 
@@ -136,6 +160,10 @@ unfoldable pub fillStep : Halfedges → List Float → List Float → (ℕ → V
 fillStep H P A normal last m e =
     fillOf (putFillTangent H P A last m.prevNorm m.tangents e) (normalOr (normal e) m.prevNorm)
 
+-- what it counts: the tangent that is filled in, where `tangent[current].w == K_MISSING_NORMAL`
+unfoldable pub fillDirectionless : Halfedges → List Float → List Float → ℕ → ℕ
+fillDirectionless H P T e = cond (eq (weightAt T e) missingNormalWeight) (directionlessAt H P e) 0
+
 -- ---- a single flat face: its two edges are aligned and fixed
 
 -- `new_tangent`
@@ -150,3 +178,10 @@ alignFaceEdges H P m NoEdge = m
 alignFaceEdges H P m (OneEdge a) = m
 alignFaceEdges H P m (TwoEdges a b) = fixFaceEdges H P m a b
 alignFaceEdges H P m Spoiled = m
+
+-- what it counts: `circular_tangent(new_tangent, edge0)` and `circular_tangent(-new_tangent, edge1)`
+unfoldable pub faceEdgesDirectionless : Halfedges → List Float → FaceEdges → ℕ
+faceEdgesDirectionless H P NoEdge = 0
+faceEdgesDirectionless H P (OneEdge a) = 0
+faceEdgesDirectionless H P (TwoEdges a b) = alignedDirectionless H P a b
+faceEdgesDirectionless H P Spoiled = 0

@@ -1,17 +1,33 @@
-// One halfedge, or one point, in `create_tangents_from_normals`: the bodies of its loops, and the edges of a single flat face.
+// One halfedge, or one point, in `create_tangents_from_normals`: the bodies of its loops, and the edges of a single flat face; and
+// how many circular tangents each computes on an edge without direction.
 #![tactic(auto)]
 
 ghost use Rattle.std.specs.Prelude.{◌≡◌, cond, ◌+◌, ◌*◌, ◌≤◌, ◌<◌, length};
 ghost use Rattle.mesh.specs.Mesh.{asHalfedges};
 ghost use Rattle.smoothing.specs.Edges.{EdgeIn, NormalsIn, FacesIn};
-ghost use Rattle.create_shared.specs.Makings.{MakingIn, tangentsOf};
+ghost use Rattle.create_shared.specs.Makings.{MakingIn, tangentsOf, directionlessAt, alignedDirectionless};
 ghost use Rattle.normals_state.specs.State.{RowIn, getNormal};
 ghost use Rattle.normals_state.specs.Packed.{stateOf};
-ghost use Rattle.normals_steps.specs.Steps.{FaceEdgesIn, signedDir, tangentBetween, withWeight, insideQuadWeight, missingNormalWeight, walkOf, vertNormalStep, fillOf, fillTangent, putFillTangent, fillStep, faceTangent, fixFaceEdges, alignFaceEdges};
-ghost use Rattle.normals_steps.specs.Carried.{isInside, directionBetween, tangentStepOf, normalStepOf};
+ghost use Rattle.normals_steps.specs.Steps.{FaceEdgesIn, signedDir, tangentBetween, withWeight, insideQuadWeight, missingNormalWeight, walkOf, vertNormalStep, vertNormalDirectionless, fillOf, fillTangent, putFillTangent, fillStep, fillDirectionless, faceTangent, fixFaceEdges, alignFaceEdges, faceEdgesDirectionless};
+ghost use Rattle.normals_steps.specs.Carried.{isInside, circularAt, directionBetween, tangentStepOf, normalStepOf, normalStepDirectionlessOf};
 
 use linalg::{Vec3, Vec4};
 use normals_state::{FaceEdges, HalfedgeNormal, PackedState};
+use smoothing::CircularTangent;
+
+// What the first loop carries after a halfedge, and what the halfedge adds to the count.
+#[derive(Clone, Copy)]
+pub struct NormalStep {
+    pub state: PackedState,
+    pub directionless: usize,
+}
+
+// The last normal that the loop backwards has come by, and what the halfedge adds to the count.
+#[derive(Clone, Copy)]
+pub struct FillStep {
+    pub prev: Vec3,
+    pub directionless: usize,
+}
 
 // ---- the loop round the vertex cycle
 
@@ -54,13 +70,13 @@ fn tangent_between(
     b: Vec3,
     equal: bool,
     e: usize,
-) -> Vec4
+) -> CircularTangent
     requires { FacesIn (asHalfedges h.now) pos.now face_normals.now e }
-    ensures { result ≡ tangentBetween (asHalfedges h.now) pos.now face_normals.now a b equal e }
+    ensures { result ≡ circularAt (asHalfedges h.now) pos.now (tangentBetween (asHalfedges h.now) pos.now face_normals.now a b equal e) e }
 {
     let edge = smoothing::edge_vec(h, pos, e);
     let dir = direction_between(h, face_normals, a, b, equal, edge, e);
-    smoothing::circular_tangent(dir, edge).tangent
+    smoothing::circular_tangent(dir, edge)
 }
 
 fn with_weight(v: Vec3, w: f64) -> Vec4
@@ -84,7 +100,8 @@ fn flag_tangent(inside: bool, last: Vec3) -> Vec4
     with_weight(last, -3.0)
 }
 
-// A halfedge e without a flag, by its normal and the next one round its point, whatever these are: fixed where they differ.
+// A halfedge e without a flag, by its normal and the next one round its point, whatever these are: fixed where they differ. It
+// counts 1 where its edge has no direction.
 fn tangent_step(
     n: usize,
     h: &[i32],
@@ -96,22 +113,31 @@ fn tangent_step(
     here: HalfedgeNormal,
     next: HalfedgeNormal,
     e: usize,
-) -> PackedState
+) -> NormalStep
     requires { (e < n) × MakingIn (asHalfedges h.now) pos.now t.old fixed.old n × (length face_normals.now ≡ n) }
-    ensures { walkOf t.new fixed.new (stateOf result) ≡ tangentStepOf (asHalfedges h.now) pos.now face_normals.now here next (walkOf t.old fixed.old (stateOf state)) e }
+    ensures state { walkOf t.new fixed.new (stateOf result.state) ≡ tangentStepOf (asHalfedges h.now) pos.now face_normals.now here next (walkOf t.old fixed.old (stateOf state)) e }
+    ensures directionless { result.directionless ≡ directionlessAt (asHalfedges h.now) pos.now e }
 {
     let equal = smoothing::equal_units(next.unit, here.unit);
-    let tangent = tangent_between(h, pos, face_normals, here.normal, next.normal, equal, e);
-    smoothing::put_tangent(t, e, tangent);
+    let made = tangent_between(h, pos, face_normals, here.normal, next.normal, equal, e);
+    smoothing::put_tangent(t, e, made.tangent);
+    let directionless = common::one_if(made.directionless);
     if equal {
-        return state;
+        return NormalStep {
+            state,
+            directionless,
+        };
     }
     fixed[e] = 1;
-    normals_state::spoil_face_edges(state)
+    let spoiled = normals_state::spoil_face_edges(state);
+    NormalStep {
+        state: spoiled,
+        directionless,
+    }
 }
 
 // The body of the loop, at halfedge e, by its normal and the next one round its point, whatever these are: what is carried
-// after it. Without a flag the Rust writes weight 1 first, and then the tangent over it; here it is written once.
+// after it, and what it counts. Without a flag the Rust writes weight 1 first, and then the tangent over it; here it is written once.
 pub fn normal_step(
     n: usize,
     h: &[i32],
@@ -124,23 +150,27 @@ pub fn normal_step(
     here: HalfedgeNormal,
     next: HalfedgeNormal,
     e: usize,
-) -> PackedState
+) -> NormalStep
     requires { (e < n) × MakingIn (asHalfedges h.now) pos.now t.old fixed.old n × (length face_normals.now ≡ n) × (length inside.now ≡ n) }
-    ensures { walkOf t.new fixed.new (stateOf result) ≡ normalStepOf (asHalfedges h.now) pos.now face_normals.now (isInside inside.now) here next (walkOf t.old fixed.old (stateOf state)) e }
+    ensures state { walkOf t.new fixed.new (stateOf result.state) ≡ normalStepOf (asHalfedges h.now) pos.now face_normals.now (isInside inside.now) here next (walkOf t.old fixed.old (stateOf state)) e }
+    ensures directionless { result.directionless ≡ normalStepDirectionlessOf (asHalfedges h.now) pos.now (isInside inside.now) here next e }
 {
     let after = normals_state::next_state(state, here, next, e);
     let in_quad = inside[e] == 1;
     let missing = common::either(here.zero, next.zero);
     if common::either(in_quad, missing) {
         smoothing::put_tangent(t, e, flag_tangent(in_quad, after.last_normal));
-        return after;
+        return NormalStep {
+            state: after,
+            directionless: 0,
+        };
     }
     tangent_step(n, h, pos, face_normals, t, fixed, after, here, next, e)
 }
 
 // ---- missing normals
 
-// All normals are missing, at halfedge e: the tangent from the point's normal, unless e is inside a quad.
+// All normals are missing, at halfedge e: the tangent from the point's normal, unless e is inside a quad; and what it counts.
 pub fn vert_normal_step(
     h: &[i32],
     pos: &[f64],
@@ -148,15 +178,17 @@ pub fn vert_normal_step(
     normal: Vec3,
     t: &mut [f64],
     e: usize,
-)
+) -> usize
     requires { (e * 4 + 4 ≤ length t.old) × FacesIn (asHalfedges h.now) pos.now face_normals.now e }
-    ensures { t.new ≡ vertNormalStep (asHalfedges h.now) pos.now face_normals.now normal t.old e }
+    ensures tangents { t.new ≡ vertNormalStep (asHalfedges h.now) pos.now face_normals.now normal t.old e }
+    ensures directionless { result ≡ vertNormalDirectionless (asHalfedges h.now) pos.now t.old e }
 {
     if smoothing::is_marked_inside_quad(t, e) {
-        return;
+        return 0;
     }
-    let tangent = smoothing::tangent_from_normal(h, pos, face_normals, normal, e).tangent;
-    smoothing::put_tangent(t, e, tangent);
+    let made = smoothing::tangent_from_normal(h, pos, face_normals, normal, e);
+    smoothing::put_tangent(t, e, made.tangent);
+    common::one_if(made.directionless)
 }
 
 // The tangent of halfedge e, where it was t and its normal is missing.
@@ -168,19 +200,19 @@ fn fill_tangent(
     prev: Vec3,
     t: Vec4,
     e: usize,
-) -> Vec4
+) -> CircularTangent
     requires { FacesIn (asHalfedges h.now) pos.now face_normals.now e }
-    ensures { result ≡ fillTangent (asHalfedges h.now) pos.now face_normals.now last prev t e }
+    ensures { result ≡ circularAt (asHalfedges h.now) pos.now (fillTangent (asHalfedges h.now) pos.now face_normals.now last prev t e) e }
 {
     let next = normals_state::normal_or(smoothing::vec3_from_vec4(t), last);
     if smoothing::equal_normals(prev, next) {
-        return smoothing::tangent_from_normal(h, pos, face_normals, prev, e).tangent;
+        return smoothing::tangent_from_normal(h, pos, face_normals, prev, e);
     }
     let edge = smoothing::edge_vec(h, pos, e);
-    smoothing::circular_tangent(signed_dir(prev, next, edge), edge).tangent
+    smoothing::circular_tangent(signed_dir(prev, next, edge), edge)
 }
 
-// The same, written.
+// The same, written where the flag of a missing normal stands, and what it counts.
 fn put_fill_tangent(
     h: &[i32],
     pos: &[f64],
@@ -189,18 +221,21 @@ fn put_fill_tangent(
     prev: Vec3,
     t: &mut [f64],
     e: usize,
-)
+) -> usize
     requires { (e * 4 + 4 ≤ length t.old) × FacesIn (asHalfedges h.now) pos.now face_normals.now e }
-    ensures { t.new ≡ putFillTangent (asHalfedges h.now) pos.now face_normals.now last prev t.old e }
+    ensures tangents { t.new ≡ putFillTangent (asHalfedges h.now) pos.now face_normals.now last prev t.old e }
+    ensures directionless { result ≡ fillDirectionless (asHalfedges h.now) pos.now t.old e }
 {
     if smoothing::weight_at(t, e) == -3.0 {
         let old = smoothing::tangent_at(t, e);
-        let tangent = fill_tangent(h, pos, face_normals, last, prev, old, e);
-        smoothing::put_tangent(t, e, tangent);
+        let made = fill_tangent(h, pos, face_normals, last, prev, old, e);
+        smoothing::put_tangent(t, e, made.tangent);
+        return common::one_if(made.directionless);
     }
+    0
 }
 
-// The body of the loop backwards, at halfedge e: the last normal that it has come by, after it.
+// The body of the loop backwards, at halfedge e: the last normal that it has come by, after it, and what it counts.
 pub fn fill_step(
     h: &[i32],
     pos: &[f64],
@@ -210,12 +245,17 @@ pub fn fill_step(
     t: &mut [f64],
     prev: Vec3,
     e: usize,
-) -> Vec3
+) -> FillStep
     requires { (e * 4 + 4 ≤ length t.old) × RowIn h.now rows.now e × FacesIn (asHalfedges h.now) pos.now face_normals.now e }
-    ensures { fillOf t.new result ≡ fillStep (asHalfedges h.now) pos.now face_normals.now (getNormal h.now rows.now) last (fillOf t.old prev) e }
+    ensures fill { fillOf t.new result.prev ≡ fillStep (asHalfedges h.now) pos.now face_normals.now (getNormal h.now rows.now) last (fillOf t.old prev) e }
+    ensures directionless { result.directionless ≡ fillDirectionless (asHalfedges h.now) pos.now t.old e }
 {
-    put_fill_tangent(h, pos, face_normals, last, prev, t, e);
-    normals_state::normal_or(normals_state::get_normal(h, rows, e), prev)
+    let directionless = put_fill_tangent(h, pos, face_normals, last, prev, t, e);
+    let next = normals_state::normal_or(normals_state::get_normal(h, rows, e), prev);
+    FillStep {
+        prev: next,
+        directionless,
+    }
 }
 
 // ---- the edges of a single flat face
@@ -229,7 +269,7 @@ fn face_tangent(h: &[i32], pos: &[f64], a: usize, b: usize) -> Vec3
     linalg::sub(first, second)
 }
 
-// Both edges along one line, and fixed.
+// Both edges along one line, and fixed: how many of the two have no direction.
 fn fix_face_edges(
     n: usize,
     h: &[i32],
@@ -238,12 +278,13 @@ fn fix_face_edges(
     fixed: &mut [u8],
     a: usize,
     b: usize,
-)
+) -> usize
     requires { (a < n) × (b < n) × MakingIn (asHalfedges h.now) pos.now t.old fixed.old n }
-    ensures { tangentsOf t.new fixed.new ≡ fixFaceEdges (asHalfedges h.now) pos.now (tangentsOf t.old fixed.old) a b }
+    ensures tangents { tangentsOf t.new fixed.new ≡ fixFaceEdges (asHalfedges h.now) pos.now (tangentsOf t.old fixed.old) a b }
+    ensures directionless { result ≡ alignedDirectionless (asHalfedges h.now) pos.now a b }
 {
     let dir = face_tangent(h, pos, a, b);
-    create_shared::align_tangents(n, h, pos, t, fixed, a, b, dir);
+    create_shared::align_tangents(n, h, pos, t, fixed, a, b, dir)
 }
 
 // The same where there are two.
@@ -254,16 +295,17 @@ pub fn align_face_edges(
     t: &mut [f64],
     fixed: &mut [u8],
     face_edges: FaceEdges,
-)
+) -> usize
     requires { FaceEdgesIn n face_edges × MakingIn (asHalfedges h.now) pos.now t.old fixed.old n }
-    ensures { tangentsOf t.new fixed.new ≡ alignFaceEdges (asHalfedges h.now) pos.now (tangentsOf t.old fixed.old) face_edges }
+    ensures tangents { tangentsOf t.new fixed.new ≡ alignFaceEdges (asHalfedges h.now) pos.now (tangentsOf t.old fixed.old) face_edges }
+    ensures directionless { result ≡ faceEdgesDirectionless (asHalfedges h.now) pos.now face_edges }
 {
     match face_edges {
-        FaceEdges::NoEdge => {}
-        FaceEdges::OneEdge(_) => {}
+        FaceEdges::NoEdge => 0,
+        FaceEdges::OneEdge(_) => 0,
         FaceEdges::TwoEdges { first, second } => {
             fix_face_edges(n, h, pos, t, fixed, first, second)
         }
-        FaceEdges::Spoiled => {}
+        FaceEdges::Spoiled => 0,
     }
 }

@@ -1,13 +1,14 @@
 -- On an accepted mesh the lent lists hold what `normals_walks` reads and writes. Assumes nothing.
 use Prim.Native.Nat.{ℕ, ◌*◌, ◌+◌, ◌<◌, ◌≤◌}
 use native.Mathlib.Omega.{arith}
-use mathlib.Core.Path.{◌≡◌, refl, ◌∙◌}
+use mathlib.Core.Path.{◌≡◌, refl, ap, subst, ◌∙◌}
 use mathlib.Core.List.{List}
-use lib.ListN.{length}
+use lib.ListN.{length, get_or}
 use lib.IntN.{ℤ}
 use lib.Ieee.{Float}
-use Rattle.mesh.specs.Mesh.{asHalfedges}
+use Rattle.mesh.specs.Mesh.{startVert, asHalfedges}
 use Rattle.create_shared.specs.Makings.{TangentsIn, MakingIn}
+use Rattle.create_shared.proofs.Verts.{vert-halfedge-starts}
 use Rattle.normals_steps.specs.Steps.{NormalsIn, StepIn}
 use Rattle.normals_walks.specs.Walks.{FacesLists, VertsLists}
 
@@ -38,3 +39,9 @@ module _ {list : List ℤ} {P N A U G : List Float} {Q F : List ℕ} {T : List F
 
   pub point-in : {v : ℕ} → v < length F → v * 3 + 3 ≤ length N
   point-in l = omega (arith, w.point-normals)
+
+  -- the halfedge in its place of `vert_halfedge` starts there
+  pub starts-there : {v : ℕ} → v < length F → get_or F v 0 < n → startVert (asHalfedges list) (get_or F v 0) ≡ v
+  starts-there {v} l h =
+      let q = w.vert-halfedge v l in
+      ap (startVert (asHalfedges list)) q ∙ vert-halfedge-starts (asHalfedges list) n v (subst (λ (x : ℕ). x < n) q h)

@@ -1,105 +1,116 @@
--- Making from normals asks of a halfedge only whether it is inside a quad, and its normal: functions that agree on the n halfedges give the same. Assumes nothing.
-use Prim.Native.Nat.{ℕ, zero, suc, ◌<◌}
-use mathlib.Core.Path.{◌≡◌, refl, ap, fun_ext, ◌∙◌}
+-- Making from normals asks of a halfedge only whether it is inside a quad, and its normal: functions that agree on the n halfedges give the same tangents and the same count. Assumes nothing.
+use Prim.Native.Nat.{ℕ, ◌+◌, ◌<◌}
+use mathlib.Core.Path.{◌≡◌, refl, sym, ap, fun_ext, ◌∙◌}
 use mathlib.Core.Bool.{Bool, true, false, cond, ◌&&◌}
-use mathlib.Core.List.{List, [], foldl}
+use mathlib.Core.List.{List, foldl}
 use borrow.Author.Tests.{ltb-true}
-use lib.Dec.{eqb, ltb}
+use lib.Dec.{ltb}
 use lib.Ieee.{Float}
 use Rattle.linalg.specs.declared.Vec3.{Vec3}
 use Rattle.common.specs.Fold.{foldTo}
+use Rattle.common.specs.Counted.{Counted, counted, countStep}
+use Rattle.common.proofs.Counted.{counted-foldl, counted-fold-to}
 use Rattle.mesh.specs.Mesh.{Halfedges}
 use Rattle.mesh.specs.Sound.{Sound}
 use Rattle.smoothing.specs.Lists.{pointAt}
-use Rattle.cycles.specs.Walk.{cycleFrom}
-use Rattle.cycles.specs.Orbits.{Permutes}
-use Rattle.cycles.specs.Cycles.{nextAround, vertexCycleBack}
-use Rattle.cycles.proofs.Around.{next-below, next-permutes, prev-permutes}
+use Rattle.cycles.specs.Cycles.{nextAround, vertexCycle, vertexCycleBack}
+use Rattle.cycles.proofs.Around.{next-below, prev-below}
 use Rattle.create_shared.specs.Faces.{vertHalfedge}
 use Rattle.create_shared.specs.Makings.{Tangents, tangentsOf}
 use Rattle.normals_state.specs.declared.StartHalfedge.{StartHalfedge}
 use Rattle.normals_state.specs.declared.StartHalfedge.TheVariants.{NoneMissing, SomeMissing, StartAt}
-use Rattle.normals_state.specs.State.{hasFaceNormal, isMissing, isZero, someMissing, nextState}
-use Rattle.normals_steps.specs.Steps.{StartIn, StateIn, Walk, Fill, fillOf, tangentStep, normalStep, fillStep, alignFaceEdges}
-use Rattle.normals_steps.proofs.Lent.{state-start, state-step}
-use Rattle.normals_walks.specs.Walks.{normalWalk, vertNormalWalk, fillWalk, fillMissing, finishVert, normalsVert, normalsVerts}
+use Rattle.normals_state.specs.State.{hasFaceNormal, isMissing, isZero, someMissing, startState, nextState}
+use Rattle.normals_steps.specs.Steps.{StartIn, StateIn, Walk, walkOf, Fill, fillOf, tangentStep, normalStep, normalStepDirectionless, fillStep, fillDirectionless, alignFaceEdges, faceEdgesDirectionless}
+use Rattle.normals_walks.specs.Walks.{normalWalk, normalWalkDirectionless, vertNormalWalk, vertNormalWalkDirectionless, fillWalk, fillWalkDirectionless, fillMissing, fillMissingDirectionless, finishVert, finishVertDirectionless, normalsVert, normalsVertDirectionless, normalsVerts, normalsVertsDirectionless}
+use Rattle.normals_walks.proofs.Rounds.{cycle-same, walk-in}
 
--- two loops round a cycle: what their bodies keep between the two on the numbers below n, the loops keep
-cycle-relates : {S T : Type 0} (f : S → ℕ → S) (g : T → ℕ → T) (R : S → T → Type 0) {step : ℕ → ℕ} {n : ℕ} → Permutes step n → ((a : S) (b : T) (x : ℕ) → x < n → R a b → R (f a x) (g b x))
-    → (k s c : ℕ) (a : S) (b : T) → c < n → R a b → R (foldl f a (cycleFrom step k s c)) (foldl g b (cycleFrom step k s c))
-unfolding cycleFrom
-cycle-relates f g R P keeps zero s c a b h r = r
-cycle-relates f g R {step} P keeps (suc k) s c a b h r =
-    go (eqb (step c) s) (cycleFrom step k s (step c)) (cycle-relates f g R P keeps k s (step c) (f a c) (g b c) (P.below c h) (keeps a b c h r))
-  where
-    go : (t : Bool) (rest : List ℕ) → R (foldl f (f a c) rest) (foldl g (g b c) rest) → R (foldl f (f a c) (cond t [] rest)) (foldl g (g b c) (cond t [] rest))
-    go true rest d = keeps a b c h r
-    go false rest d = d
-
--- bodies that agree
-cycle-same : {S : Type 0} (f g : S → ℕ → S) {step : ℕ → ℕ} {n : ℕ} → Permutes step n → ((a : S) (x : ℕ) → x < n → f a x ≡ g a x)
-    → (k s c : ℕ) (a : S) → c < n → foldl f a (cycleFrom step k s c) ≡ foldl g a (cycleFrom step k s c)
-cycle-same {S} f g P same k s c a h =
-    cycle-relates f g (λ (a b : S). a ≡ b) P (λ a b x l e. ap (λ (u : S). f u x) e ∙ same b x l) k s c a a h refl
-
--- one body, and what it keeps
-cycle-keeps : {S : Type 0} (f : S → ℕ → S) (Q : S → Type 0) {step : ℕ → ℕ} {n : ℕ} → Permutes step n → ((a : S) (x : ℕ) → x < n → Q a → Q (f a x))
-    → (k s c : ℕ) (a : S) → c < n → Q a → Q (foldl f a (cycleFrom step k s c))
-cycle-keeps {S} f Q P keeps k s c a h q = cycle-relates f f (λ (a b : S). Q a) P (λ a b x l i. keeps a x l i) k s c a a h q
+-- what a fold leaves, and what it counts, are the counted fold
+both : {S : Type 0} (step : S → ℕ → S) (more : S → ℕ → ℕ) (s : S) (xs : List ℕ) → counted (foldl step s xs) (foldl (countStep step more) (counted s 0) xs).count ≡ foldl (countStep step more) (counted s 0) xs
+both {S} step more s xs =
+    ap (λ (t : S). counted t (foldl (countStep step more) (counted s 0) xs).count) (sym (counted-foldl step more (counted s 0) xs))
 
 module _ {H : Halfedges} {n p : ℕ} (S : Sound H n p) (P N A : List Float) (f g : ℕ → Bool) (same : (e : ℕ) → e < n → f e ≡ g e) (a b : ℕ → Vec3) (equal : (e : ℕ) → e < n → a e ≡ b e) where
   -- the first loop
-  step-same : (m : Walk) (e : ℕ) → e < n → normalStep H P A a f m e ≡ normalStep H P A b g m e
-  unfolding normalStep tangentStep nextState isMissing hasFaceNormal
-  step-same m e h = rw (same e h, equal e h, equal (nextAround H e) (next-below S e h)) refl
+  step-same : (c : Counted Walk) (e : ℕ) → e < n → countStep (normalStep H P A a f) (normalStepDirectionless H P A a f) c e ≡ countStep (normalStep H P A b g) (normalStepDirectionless H P A b g) c e
+  unfolding countStep normalStep normalStepDirectionless tangentStep nextState isMissing hasFaceNormal
+  step-same c e h = rw (same e h, equal e h, equal (nextAround H e) (next-below S e h)) refl
 
-  walk-same : (m : Tangents) (e : ℕ) → e < n → normalWalk H P A a f n m e ≡ normalWalk H P A b g n m e
-  unfolding normalWalk
-  walk-same m e h = cycle-same (normalStep H P A a f) (normalStep H P A b g) (next-permutes S) step-same n e e _ h
-
-  -- the halfedges that its state names are halfedges
-  walk-state : (m : Tangents) (e : ℕ) → e < n → StateIn n (normalWalk H P A b g n m e).state
-  unfolding normalWalk
-  walk-state m e h = cycle-keeps (normalStep H P A b g) (λ k. StateIn n k.state) (next-permutes S) (λ t x l q. state-step l H P A b g t q) n e e _ h state-start
+  walk-same : (m : Tangents) (e : ℕ) → e < n → counted (normalWalk H P A a f n m e) (normalWalkDirectionless H P A a f n m e) ≡ counted (normalWalk H P A b g n m e) (normalWalkDirectionless H P A b g n m e)
+  unfolding normalWalk normalWalkDirectionless
+  walk-same m e h =
+      let start = walkOf m.tangents m.fixed startState in
+      both (normalStep H P A a f) (normalStepDirectionless H P A a f) start (vertexCycle H n e)
+      ∙ cycle-same (countStep (normalStep H P A a f) (normalStepDirectionless H P A a f)) (countStep (normalStep H P A b g) (normalStepDirectionless H P A b g)) (λ x. x < n) (next-below S) step-same n e e (counted start 0) h
+      ∙ sym (both (normalStep H P A b g) (normalStepDirectionless H P A b g) start (vertexCycle H n e))
 
   -- the loop that goes round backwards
-  fill-step-same : (last : Vec3) (m : Fill) (e : ℕ) → e < n → fillStep H P A a last m e ≡ fillStep H P A b last m e
-  unfolding fillStep
-  fill-step-same last m e h = rw (equal e h) refl
+  abbrev more : Fill → ℕ → ℕ
+  more m e = fillDirectionless H P m.tangents e
 
-  fill-same : (last : Vec3) (T : List Float) (start : ℕ) → start < n → fillWalk H P A a n last T start ≡ fillWalk H P A b n last T start
-  unfolding fillWalk
+  fill-step-same : (last : Vec3) (c : Counted Fill) (e : ℕ) → e < n → countStep (fillStep H P A a last) more c e ≡ countStep (fillStep H P A b last) more c e
+  unfolding countStep fillStep
+  fill-step-same last c e h = rw (equal e h) refl
+
+  fill-same : (last : Vec3) (T : List Float) (start : ℕ) → start < n → counted (fillWalk H P A a n last T start) (fillWalkDirectionless H P A a n last T start) ≡ counted (fillWalk H P A b n last T start) (fillWalkDirectionless H P A b n last T start)
+  unfolding fillWalk fillWalkDirectionless
   fill-same last T start h =
-      ap (λ (v : Vec3). (foldl (fillStep H P A a last) (fillOf T v) (vertexCycleBack H n start)).tangents) (equal (nextAround H start) (next-below S start h))
-      ∙ ap (λ (k : Fill). k.tangents) (cycle-same (fillStep H P A a last) (fillStep H P A b last) (prev-permutes S) (fill-step-same last) n start start _ h)
+      ap (λ (c : Counted Fill). counted c.state.tangents c.count) (
+      both (fillStep H P A a last) more (fillOf T (a (nextAround H start))) (vertexCycleBack H n start)
+      ∙ ap (λ (v : Vec3). foldl (countStep (fillStep H P A a last) more) (counted (fillOf T v) 0) (vertexCycleBack H n start)) (equal (nextAround H start) (next-below S start h))
+      ∙ cycle-same (countStep (fillStep H P A a last) more) (countStep (fillStep H P A b last) more) (λ x. x < n) (prev-below S) (fill-step-same last) n start start (counted (fillOf T (b (nextAround H start))) 0) h
+      ∙ sym (both (fillStep H P A b last) more (fillOf T (b (nextAround H start))) (vertexCycleBack H n start))
+      )
 
-  fill-missing-same : (last : Vec3) (T : List Float) (start : StartHalfedge) → StartIn n start → fillMissing H P A a n last T start ≡ fillMissing H P A b n last T start
-  unfolding fillMissing
+  fill-missing-same : (last : Vec3) (T : List Float) (start : StartHalfedge) → StartIn n start → counted (fillMissing H P A a n last T start) (fillMissingDirectionless H P A a n last T start) ≡ counted (fillMissing H P A b n last T start) (fillMissingDirectionless H P A b n last T start)
+  unfolding fillMissing fillMissingDirectionless
   fill-missing-same last T NoneMissing w = refl
   fill-missing-same last T SomeMissing w = refl
   fill-missing-same last T (StartAt start) w = fill-same last T start w
 
   -- a point
-  finish-same : (m : Walk) (v e : ℕ) → StateIn n m.state → finishVert H P N A a n m v e ≡ finishVert H P N A b n m v e
-  unfolding finishVert
+  finish-same : (m : Walk) (v e : ℕ) → StateIn n m.state → counted (finishVert H P N A a n m v e) (finishVertDirectionless H P N A a n m v e) ≡ counted (finishVert H P N A b n m v e) (finishVertDirectionless H P N A b n m v e)
+  unfolding finishVert finishVertDirectionless
   finish-same m v e w =
       let s = m.state in
+      let none = someMissing s.start_halfedge && isZero s.last_normal in
       ap
-      (λ (T : List Float). cond (someMissing s.start_halfedge && isZero s.last_normal)
+      (λ (c : Counted (List Float)). counted (cond none
       (tangentsOf (vertNormalWalk H P A n (pointAt N v) m.tangents e) m.fixed)
-      (alignFaceEdges H P (tangentsOf T m.fixed) s.face_edges))
+      (alignFaceEdges H P (tangentsOf c.state m.fixed) s.face_edges)) (cond none
+      (vertNormalWalkDirectionless H P A n (pointAt N v) m.tangents e)
+      (c.count + faceEdgesDirectionless H P s.face_edges)))
       (fill-missing-same s.last_normal m.tangents s.start_halfedge w.start-halfedge)
 
-  vert-same : (m : Tangents) (v : ℕ) → normalsVert H P N A a f n m v ≡ normalsVert H P N A b g n m v
-  unfolding normalsVert
+  vert-same : (m : Tangents) (v : ℕ) → counted (normalsVert H P N A a f n m v) (normalsVertDirectionless H P N A a f n m v) ≡ counted (normalsVert H P N A b g n m v) (normalsVertDirectionless H P N A b g n m v)
+  unfolding normalsVert normalsVertDirectionless
   vert-same m v = go (vertHalfedge H n v) (ltb (vertHalfedge H n v) n) refl
     where
-      go : (e : ℕ) (t : Bool) → ltb e n ≡ t → cond t (finishVert H P N A a n (normalWalk H P A a f n m e) v e) m ≡ cond t (finishVert H P N A b n (normalWalk H P A b g n m e) v e) m
+      go : (e : ℕ) (t : Bool) → ltb e n ≡ t
+          → counted (cond t (finishVert H P N A a n (normalWalk H P A a f n m e) v e) m) (cond t (normalWalkDirectionless H P A a f n m e + finishVertDirectionless H P N A a n (normalWalk H P A a f n m e) v e) 0)
+          ≡ counted (cond t (finishVert H P N A b n (normalWalk H P A b g n m e) v e) m) (cond t (normalWalkDirectionless H P A b g n m e + finishVertDirectionless H P N A b n (normalWalk H P A b g n m e) v e) 0)
       go e true q =
           let h = ltb-true e n q in
-          ap (λ (w : Walk). finishVert H P N A a n w v e) (walk-same m e h) ∙ finish-same (normalWalk H P A b g n m e) v e (walk-state m e h)
+          ap (λ (c : Counted Walk). counted (finishVert H P N A a n c.state v e) (c.count + finishVertDirectionless H P N A a n c.state v e)) (walk-same m e h)
+          ∙ ap (λ (c : Counted Tangents). counted c.state (normalWalkDirectionless H P A b g n m e + c.count)) (finish-same (normalWalk H P A b g n m e) v e (walk-in S P A b g m e h))
       go e false q = refl
+
+  -- all points
+  turn-same : (c : Counted Tangents) (v : ℕ) → countStep (normalsVert H P N A a f n) (normalsVertDirectionless H P N A a f n) c v ≡ countStep (normalsVert H P N A b g n) (normalsVertDirectionless H P N A b g n) c v
+  unfolding countStep
+  turn-same c v = ap (λ (k : Counted Tangents). counted k.state (c.count + k.count)) (vert-same c.state v)
+
+  loop-same : (k : ℕ) (m : Tangents) → foldTo (countStep (normalsVert H P N A a f n) (normalsVertDirectionless H P N A a f n)) (counted m 0) k ≡ foldTo (countStep (normalsVert H P N A b g n) (normalsVertDirectionless H P N A b g n)) (counted m 0) k
+  loop-same k m =
+      ap (λ (turn : Counted Tangents → ℕ → Counted Tangents). foldTo turn (counted m 0) k) (fun_ext (λ c. fun_ext (turn-same c)))
 
   pub verts-same : (k : ℕ) (m : Tangents) → normalsVerts H P N A a f n k m ≡ normalsVerts H P N A b g n k m
   unfolding normalsVerts
-  verts-same k m = ap (λ (step : Tangents → ℕ → Tangents). foldTo step m k) (fun_ext (λ t. fun_ext (vert-same t)))
+  verts-same k m =
+      sym (counted-fold-to (normalsVert H P N A a f n) (normalsVertDirectionless H P N A a f n) (counted m 0) k)
+      ∙ ap (λ (c : Counted Tangents). c.state) (loop-same k m)
+      ∙ counted-fold-to (normalsVert H P N A b g n) (normalsVertDirectionless H P N A b g n) (counted m 0) k
+
+  -- and the count
+  pub verts-count-same : (k : ℕ) (m : Tangents) → normalsVertsDirectionless H P N A a f n k m ≡ normalsVertsDirectionless H P N A b g n k m
+  unfolding normalsVertsDirectionless
+  verts-count-same k m = ap (λ (c : Counted Tangents). c.count) (loop-same k m)

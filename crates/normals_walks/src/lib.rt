@@ -1,5 +1,5 @@
-// The loops of `create_tangents_from_normals` round a vertex cycle, what it does at a point, and the loop over the points. No
-// walk has a guard: a vertex cycle comes back.
+// The loops of `create_tangents_from_normals` round a vertex cycle, what it does at a point, and the loop over the points; and how
+// many circular tangents each computes on an edge without direction. No walk has a guard: a vertex cycle comes back.
 #![tactic(auto)]
 
 ghost use Rattle.std.specs.Prelude.{◌≡◌, ◌+◌, ◌*◌, ◌≤◌, ◌<◌, length};
@@ -9,13 +9,21 @@ ghost use Rattle.normals_state.specs.State.{getNormal};
 ghost use Rattle.normals_steps.specs.Steps.{NormalsIn, StepIn, StartIn, StateIn, walkOf};
 ghost use Rattle.normals_steps.specs.Carried.{isInside};
 ghost use Rattle.normals_walks.specs.Walks.{FacesLists, VertsLists, normalWalk, vertNormalWalk, fillWalk, fillMissing, finishVert, normalsVert, normalsVerts};
+ghost use Rattle.normals_walks.specs.Walks.{normalWalkDirectionless, vertNormalWalkDirectionless, fillWalkDirectionless, fillMissingDirectionless, finishVertDirectionless, normalsVertDirectionless, normalsVertsDirectionless};
 
 use linalg::Vec3;
 use normals_state::{CycleState, StartHalfedge};
 
+// What the first loop carries after the last halfedge, and what it counts.
+#[derive(Clone, Copy)]
+pub struct NormalWalk {
+    pub state: CycleState,
+    pub directionless: usize,
+}
+
 // ---- a vertex cycle
 
-// The first loop, from halfedge e: what it carries after the last one.
+// The first loop, from halfedge e: what it carries after the last one, and what it counts.
 fn normal_walk(
     n: usize,
     h: &[i32],
@@ -27,13 +35,15 @@ fn normal_walk(
     t: &mut [f64],
     fixed: &mut [u8],
     e: usize,
-) -> CycleState
+) -> NormalWalk
     requires { (e < n) × StepIn h.now pos.now face_normals.now face_units.now rows.now inside.now t.old fixed.old n }
-    ensures result_after { walkOf t.new fixed.new result ≡ normalWalk (asHalfedges h.now) pos.now face_normals.now (getNormal h.now rows.now) (isInside inside.now) n (tangentsOf t.old fixed.old) e }
-    ensures state_in { StateIn n result }
+    ensures state { walkOf t.new fixed.new result.state ≡ normalWalk (asHalfedges h.now) pos.now face_normals.now (getNormal h.now rows.now) (isInside inside.now) n (tangentsOf t.old fixed.old) e }
+    ensures state_in { StateIn n result.state }
+    ensures directionless { result.directionless ≡ normalWalkDirectionless (asHalfedges h.now) pos.now face_normals.now (getNormal h.now rows.now) (isInside inside.now) n (tangentsOf t.old fixed.old) e }
 {
     let mut state = normals_state::start_state();
     let mut here = normals_state::halfedge_normal(h, face_units, rows, e);
+    let mut directionless = 0;
     let mut current = e;
     loop {
         let following = cycles::next_around(h, current);
@@ -45,7 +55,7 @@ fn normal_walk(
             here.unit,
             following,
         );
-        state = normals_steps::normal_step(
+        let step = normals_steps::normal_step(
             n,
             h,
             pos,
@@ -58,13 +68,19 @@ fn normal_walk(
             next,
             current,
         );
+        state = step.state;
+        directionless += step.directionless;
         here = next;
         current = following;
         if current == e {
             break;
         }
     }
-    normals_state::unpack(state)
+    let unpacked = normals_state::unpack(state);
+    NormalWalk {
+        state: unpacked,
+        directionless,
+    }
 }
 
 // All normals are missing: the loop that takes the point's normal, from halfedge e.
@@ -76,18 +92,21 @@ fn vert_normal_walk(
     normal: Vec3,
     t: &mut [f64],
     e: usize,
-)
+) -> usize
     requires { (e < n) × FacesLists (asHalfedges h.now) pos.now face_normals.now t.old n }
-    ensures { t.new ≡ vertNormalWalk (asHalfedges h.now) pos.now face_normals.now n normal t.old e }
+    ensures tangents { t.new ≡ vertNormalWalk (asHalfedges h.now) pos.now face_normals.now n normal t.old e }
+    ensures directionless { result ≡ vertNormalWalkDirectionless (asHalfedges h.now) pos.now face_normals.now n normal t.old e }
 {
+    let mut directionless = 0;
     let mut current = e;
     loop {
-        normals_steps::vert_normal_step(h, pos, face_normals, normal, t, current);
+        directionless += normals_steps::vert_normal_step(h, pos, face_normals, normal, t, current);
         current = cycles::next_around(h, current);
         if current == e {
             break;
         }
     }
+    directionless
 }
 
 // Some normals are missing: the loop that fills them in, backwards from `start`. `last` is the last normal of the first loop.
@@ -100,20 +119,25 @@ fn fill_walk(
     last: Vec3,
     t: &mut [f64],
     start: usize,
-)
+) -> usize
     requires { (start < n) × NormalsIn h.now pos.now face_normals.now rows.now t.old n }
-    ensures { t.new ≡ fillWalk (asHalfedges h.now) pos.now face_normals.now (getNormal h.now rows.now) n last t.old start }
+    ensures tangents { t.new ≡ fillWalk (asHalfedges h.now) pos.now face_normals.now (getNormal h.now rows.now) n last t.old start }
+    ensures directionless { result ≡ fillWalkDirectionless (asHalfedges h.now) pos.now face_normals.now (getNormal h.now rows.now) n last t.old start }
 {
     let next = cycles::next_around(h, start);
     let mut prev = normals_state::get_normal(h, rows, next);
+    let mut directionless = 0;
     let mut current = start;
     loop {
-        prev = normals_steps::fill_step(h, pos, face_normals, rows, last, t, prev, current);
+        let step = normals_steps::fill_step(h, pos, face_normals, rows, last, t, prev, current);
+        prev = step.prev;
+        directionless += step.directionless;
         current = cycles::prev_around(h, current);
         if current == start {
             break;
         }
     }
+    directionless
 }
 
 // The same where there is a halfedge to start from.
@@ -126,20 +150,21 @@ fn fill_missing(
     last: Vec3,
     t: &mut [f64],
     start: StartHalfedge,
-)
+) -> usize
     requires { StartIn n start × NormalsIn h.now pos.now face_normals.now rows.now t.old n }
-    ensures { t.new ≡ fillMissing (asHalfedges h.now) pos.now face_normals.now (getNormal h.now rows.now) n last t.old start }
+    ensures tangents { t.new ≡ fillMissing (asHalfedges h.now) pos.now face_normals.now (getNormal h.now rows.now) n last t.old start }
+    ensures directionless { result ≡ fillMissingDirectionless (asHalfedges h.now) pos.now face_normals.now (getNormal h.now rows.now) n last t.old start }
 {
     match start {
-        StartHalfedge::NoneMissing => {}
-        StartHalfedge::SomeMissing => {}
-        StartHalfedge::StartAt(e) => { fill_walk(n, h, pos, face_normals, rows, last, t, e) }
+        StartHalfedge::NoneMissing => 0,
+        StartHalfedge::SomeMissing => 0,
+        StartHalfedge::StartAt(e) => fill_walk(n, h, pos, face_normals, rows, last, t, e),
     }
 }
 
 // ---- a point
 
-// What follows the first loop, at point v with its lowest halfedge e.
+// What follows the first loop, at point v with its lowest halfedge e, and what it counts.
 fn finish_vert(
     n: usize,
     h: &[i32],
@@ -152,9 +177,10 @@ fn finish_vert(
     state: CycleState,
     v: usize,
     e: usize,
-)
+) -> usize
     requires { (e < n) × (v * 3 + 3 ≤ length normals.now) × StateIn n state × NormalsIn h.now pos.now face_normals.now rows.now t.old n × (length fixed.old ≡ n) }
-    ensures { tangentsOf t.new fixed.new ≡ finishVert (asHalfedges h.now) pos.now normals.now face_normals.now (getNormal h.now rows.now) n (walkOf t.old fixed.old state) v e }
+    ensures tangents { tangentsOf t.new fixed.new ≡ finishVert (asHalfedges h.now) pos.now normals.now face_normals.now (getNormal h.now rows.now) n (walkOf t.old fixed.old state) v e }
+    ensures directionless { result ≡ finishVertDirectionless (asHalfedges h.now) pos.now normals.now face_normals.now (getNormal h.now rows.now) n (walkOf t.old fixed.old state) v e }
 {
     let start = state.start_halfedge;
     let last = state.last_normal;
@@ -164,14 +190,14 @@ fn finish_vert(
         normals_state::is_zero(last),
     ) {
         let normal = smoothing::point_at(normals, v);
-        vert_normal_walk(n, h, pos, face_normals, normal, t, e);
-        return;
+        return vert_normal_walk(n, h, pos, face_normals, normal, t, e);
     }
-    fill_missing(n, h, pos, face_normals, rows, last, t, start);
-    normals_steps::align_face_edges(n, h, pos, t, fixed, face_edges);
+    let filled = fill_missing(n, h, pos, face_normals, rows, last, t, start);
+    let aligned = normals_steps::align_face_edges(n, h, pos, t, fixed, face_edges);
+    filled + aligned
 }
 
-// The body of the loop over the points, at point v: nothing where no halfedge starts.
+// The body of the loop over the points, at point v, and what it counts: nothing where no halfedge starts.
 fn normals_vert(
     n: usize,
     h: &[i32],
@@ -185,15 +211,16 @@ fn normals_vert(
     t: &mut [f64],
     fixed: &mut [u8],
     v: usize,
-)
+) -> usize
     requires { (v < length vert_halfedge.now) × VertsLists h.now pos.now normals.now face_normals.now face_units.now rows.now inside.now vert_halfedge.now t.old fixed.old n }
-    ensures { tangentsOf t.new fixed.new ≡ normalsVert (asHalfedges h.now) pos.now normals.now face_normals.now (getNormal h.now rows.now) (isInside inside.now) n (tangentsOf t.old fixed.old) v }
+    ensures tangents { tangentsOf t.new fixed.new ≡ normalsVert (asHalfedges h.now) pos.now normals.now face_normals.now (getNormal h.now rows.now) (isInside inside.now) n (tangentsOf t.old fixed.old) v }
+    ensures directionless { result ≡ normalsVertDirectionless (asHalfedges h.now) pos.now normals.now face_normals.now (getNormal h.now rows.now) (isInside inside.now) n (tangentsOf t.old fixed.old) v }
 {
     let e = vert_halfedge[v];
     if e >= n {
-        return;
+        return 0;
     }
-    let state = normal_walk(
+    let walk = normal_walk(
         n,
         h,
         pos,
@@ -205,7 +232,7 @@ fn normals_vert(
         fixed,
         e,
     );
-    finish_vert(
+    let finish = finish_vert(
         n,
         h,
         pos,
@@ -214,13 +241,14 @@ fn normals_vert(
         rows,
         t,
         fixed,
-        state,
+        walk.state,
         v,
         e,
     );
+    walk.directionless + finish
 }
 
-// The loop over the points.
+// The loop over the points, and what it counts.
 pub fn normals_verts(
     n: usize,
     h: &[i32],
@@ -233,13 +261,15 @@ pub fn normals_verts(
     vert_halfedge: &[usize],
     t: &mut [f64],
     fixed: &mut [u8],
-)
+) -> usize
     requires { VertsLists h.now pos.now normals.now face_normals.now face_units.now rows.now inside.now vert_halfedge.now t.old fixed.old n }
-    ensures { tangentsOf t.new fixed.new ≡ normalsVerts (asHalfedges h.now) pos.now normals.now face_normals.now (getNormal h.now rows.now) (isInside inside.now) n (length vert_halfedge.now) (tangentsOf t.old fixed.old) }
+    ensures tangents { tangentsOf t.new fixed.new ≡ normalsVerts (asHalfedges h.now) pos.now normals.now face_normals.now (getNormal h.now rows.now) (isInside inside.now) n (length vert_halfedge.now) (tangentsOf t.old fixed.old) }
+    ensures directionless { result ≡ normalsVertsDirectionless (asHalfedges h.now) pos.now normals.now face_normals.now (getNormal h.now rows.now) (isInside inside.now) n (length vert_halfedge.now) (tangentsOf t.old fixed.old) }
 {
+    let mut directionless = 0;
     let mut v = 0;
     while v < vert_halfedge.len() {
-        normals_vert(
+        directionless += normals_vert(
             n,
             h,
             pos,
@@ -255,4 +285,5 @@ pub fn normals_verts(
         );
         v += 1;
     }
+    directionless
 }

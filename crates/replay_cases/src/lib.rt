@@ -6,6 +6,7 @@ ghost use Rattle.std.specs.Prelude.{◌≤◌};
 ghost use Rattle.little_endian.specs.Front.{Front};
 
 use common::both;
+use create_shared::Making;
 use mesh::Checked;
 use std::io;
 
@@ -143,13 +144,14 @@ pub fn read_case<R: io::Read>(input: &mut R, buf: &mut [u8]) -> usize {
     size
 }
 
-// ---- what the replays of both makings share: the lists of a case, and the scratch lists
+// ---- what the replays of both makings share: the answer and the lists of a case, and the scratch lists
 
-// Whether there are old tangents, and where the parts of the lists end: the positions, the point normals and the face
-// normals in the list of floats, the halfedges in that of signed numbers.
+// Whether there are old tangents, the count of the answer, and where the parts of the lists end: the positions, the point
+// normals and the face normals in the list of floats, the halfedges in that of signed numbers.
 #[derive(Clone, Copy)]
 pub struct Ends {
     pub old: bool,
+    pub directionless: usize,
     pub positions: usize,
     pub normals: usize,
     pub face_normals: usize,
@@ -159,11 +161,30 @@ pub struct Ends {
 pub fn ends_at(s: &[u8], at: usize) -> Ends {
     Ends {
         old: replay::half_word(s, at) == 1,
-        positions: replay::half_word(s, replay::after(at, 4)),
-        normals: replay::half_word(s, replay::after(at, 8)),
-        face_normals: replay::half_word(s, replay::after(at, 12)),
-        halfedges: replay::half_word(s, replay::after(at, 16)),
+        directionless: replay::half_word(s, replay::after(at, 4)),
+        positions: replay::half_word(s, replay::after(at, 8)),
+        normals: replay::half_word(s, replay::after(at, 12)),
+        face_normals: replay::half_word(s, replay::after(at, 16)),
+        halfedges: replay::half_word(s, replay::after(at, 20)),
     }
+}
+
+// Where the lists of a making's case begin.
+pub fn lists_at(c: Case) -> usize {
+    replay::after(c.at, 24)
+}
+
+// Is this the answer of the case: its refusal, or the count of its circular tangents on an edge without direction?
+pub fn same_making(making: Making, c: Case, e: Ends) -> bool {
+    let refusal = same_refusal(
+        create_shared::number_of(making),
+        create_shared::place_of(making),
+        c,
+    );
+    both(
+        refusal,
+        create_shared::directionless_of(making) == e.directionless,
+    )
 }
 
 // A number of each scratch list after the call: 0 where it was accepted, else as it was lent.

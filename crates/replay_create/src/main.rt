@@ -30,7 +30,7 @@ fn agrees(s: &[u8], c: Case, structs: bool) -> bool {
     let mut is = [0i32; 128];
     let mut entries = [0usize; 64];
     let mut t = [0.5f64; 128];
-    let a = floats(s, replay::after(c.at, 20), &mut xs);
+    let a = floats(s, replay_cases::lists_at(c), &mut xs);
     let b = signed(s, a.next, &mut is);
     let d = numbers(s, b.next, &mut entries);
     let e = floats(s, d.next, &mut t);

@@ -3,17 +3,18 @@
 
 ghost use Rattle.std.specs.Prelude.{◌≤◌};
 
+use create_shared::Making;
 use create_smoothness::Smoothness;
-use mesh::Checked;
-use replay_cases::{Case, places, same_scratch};
+use replay_cases::{Case, Ends, places, same_making, same_scratch};
 
 // Is it a case of making from sharp edges whose two lists of entries are of one length? No other has entries that are structs.
 pub fn has_structs(s: &[u8], c: Case) -> bool {
     if replay::half_word(s, 4) != 8 {
         return false;
     }
-    let floats = replay::half_word(s, replay::after(c.at, 20));
-    let signed = replay::after_eights(replay::after(c.at, 24), floats);
+    let lists = replay_cases::lists_at(c);
+    let floats = replay::half_word(s, lists);
+    let signed = replay::after_eights(replay::after(lists, 4), floats);
     let entries = replay::after_fours(replay::after(signed, 4), replay::half_word(s, signed));
     let e = replay_cases::ends_at(s, c.at);
     replay::after(e.face_normals, replay::half_word(s, entries)) == floats
@@ -74,7 +75,7 @@ fn create(
     desired: &mut [f64],
     at: &mut [usize],
     link: &mut [usize],
-) -> Checked
+) -> Making
     requires { count ≤ 64 }
 {
     create_entries::create_entries(
@@ -100,7 +101,7 @@ fn create(
 // Calls it with scratch lists of its own. Are the answer and the scratch lists those of the case?
 pub fn structs(
     c: Case,
-    old: bool,
+    e: Ends,
     h: &[i32],
     pos: &[f64],
     normals: &[f64],
@@ -118,7 +119,7 @@ pub fn structs(
     let desired = &mut [0.5f64; 32][..n];
     let halfedges = &mut [77usize; 32][..p];
     let link = &mut [77usize; 32][..n];
-    let checked = create(
+    let making = create(
         c.n,
         c.p,
         h,
@@ -128,7 +129,7 @@ pub fn structs(
         refs,
         entries_of(entries, values),
         count_of(entries),
-        old,
+        e.old,
         t,
         fixed,
         flat,
@@ -138,5 +139,5 @@ pub fn structs(
         link,
     );
     let scratch = same_scratch(c, fixed, flat, smooth, desired, halfedges, link);
-    common::both(replay_cases::same_checked(checked, c), scratch)
+    common::both(same_making(making, c, e), scratch)
 }

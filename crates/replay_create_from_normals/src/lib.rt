@@ -1,13 +1,15 @@
 // A call of making from normals on the lists of a case.
 #![tactic(auto)]
 
-use replay_cases::{Case, ends_at, float_part, places, same_scratch, signed_part};
+use replay_cases::{
+    Case, Ends, ends_at, float_part, places, same_making, same_scratch, signed_part,
+};
 
 // Calls it with scratch lists of its own. Are the answer and the scratch lists those of the case? `none` is an empty list:
 // there is one list of halfedges less.
 fn from_normals(
     c: Case,
-    old: bool,
+    e: Ends,
     h: &[i32],
     pos: &[f64],
     normals: &[f64],
@@ -24,7 +26,7 @@ fn from_normals(
     let current = &mut [0.5f64; 32][..n];
     let desired = &mut [0.5f64; 32][..n];
     let first = &mut [77usize; 32][..p];
-    let checked = create_from_normals::create_tangents_from_normals(
+    let making = create_from_normals::create_tangents_from_normals(
         c.n,
         c.p,
         h,
@@ -33,7 +35,7 @@ fn from_normals(
         face_normals,
         refs,
         rows,
-        old,
+        e.old,
         t,
         fixed,
         inside,
@@ -42,7 +44,7 @@ fn from_normals(
         first,
     );
     let scratch = same_scratch(c, fixed, inside, current, desired, first, none);
-    common::both(replay_cases::same_checked(checked, c), scratch)
+    common::both(same_making(making, c, e), scratch)
 }
 
 // The call, whose lists of floats are the parts of xs and whose lists of signed numbers are the parts of `is`. At s[at..]
@@ -63,6 +65,6 @@ pub fn agrees(
     let rows = float_part(xs, e.face_normals, xs.len());
     let h = signed_part(is, 0, e.halfedges);
     let refs = signed_part(is, e.halfedges, is.len());
-    let same = from_normals(c, e.old, h, pos, normals, face_normals, refs, none, rows, t);
+    let same = from_normals(c, e, h, pos, normals, face_normals, refs, none, rows, t);
     common::both(same, replay::same_floats(s, at, t, t.len()))
 }

@@ -1,12 +1,14 @@
 // The calls of making from sharp edges on the lists of a case.
 #![tactic(auto)]
 
-use replay_cases::{Case, ends_at, float_part, places, same_scratch, signed_part};
+use replay_cases::{
+    Case, Ends, ends_at, float_part, places, same_making, same_scratch, signed_part,
+};
 
 // Calls it with scratch lists of its own. Are the answer and the scratch lists those of the case?
 fn sharp(
     c: Case,
-    old: bool,
+    e: Ends,
     h: &[i32],
     pos: &[f64],
     normals: &[f64],
@@ -24,7 +26,7 @@ fn sharp(
     let desired = &mut [0.5f64; 32][..n];
     let halfedges = &mut [77usize; 32][..p];
     let link = &mut [77usize; 32][..n];
-    let checked = create::create_tangents(
+    let making = create::create_tangents(
         c.n,
         c.p,
         h,
@@ -34,7 +36,7 @@ fn sharp(
         refs,
         entries,
         values,
-        old,
+        e.old,
         t,
         fixed,
         flat,
@@ -44,14 +46,14 @@ fn sharp(
         link,
     );
     let scratch = same_scratch(c, fixed, flat, smooth, desired, halfedges, link);
-    common::both(replay_cases::same_checked(checked, c), scratch)
+    common::both(same_making(making, c, e), scratch)
 }
 
 // The same with the entries as two lists or as structs.
 fn called(
     structs: bool,
     c: Case,
-    old: bool,
+    e: Ends,
     h: &[i32],
     pos: &[f64],
     normals: &[f64],
@@ -64,7 +66,7 @@ fn called(
     if structs {
         return replay_create_entries::structs(
             c,
-            old,
+            e,
             h,
             pos,
             normals,
@@ -77,7 +79,7 @@ fn called(
     }
     sharp(
         c,
-        old,
+        e,
         h,
         pos,
         normals,
@@ -111,7 +113,7 @@ pub fn agrees(
     let same = called(
         structs,
         c,
-        e.old,
+        e,
         h,
         pos,
         normals,

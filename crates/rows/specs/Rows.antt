@@ -11,11 +11,12 @@ use Rattle.validate.specs.Validate as Validate
 use Rattle.sharpen.specs.Sharpen as Sharpen
 use Rattle.distribute.specs.Distribute as Distribute
 use Rattle.preview.specs.Preview as Preview
+use Rattle.create_shared.specs.declared.Making.TheVariants.{Made}
 use Rattle.create_smoothness.specs.declared.Smoothness.{Smoothness}
 use Rattle.create.specs.Create as Create
 use Rattle.create_entries.specs.CreateEntries as CreateEntries
 use Rattle.normals_state.specs.State.{getNormal}
-use Rattle.normals_core.specs.Core.{createTangentsFromNormals}
+use Rattle.normals_core.specs.Core.{createTangentsFromNormals, fromNormalsDirectionless}
 use Rattle.create_from_normals.specs.FromNormals as FromNormals
 
 -- ---- all calls but making from normals
@@ -37,9 +38,9 @@ pub record RowUnread (list other : List ℤ) : Type 0 where
   pub spread-tangents : (P N : List Float) (X : List ℕ) (T C D : List Float) (n p : ℕ) → Same list other (λ H. Distribute.tangentsAfter H P N X T C D n p)
   pub preview-answer : (P N : List Float) (X : List ℕ) (T : List Float) (Y : List ℕ) (n p : ℕ) → Same list other (λ H. Preview.previewTangents H P N X T Y n p)
   pub preview-bytes : (P N : List Float) (X : List ℕ) (T : List Float) (Y : List ℕ) (n p : ℕ) → Same list other (λ H. Preview.bytesAfter H P N X T Y n p)
-  pub sharp-answer : (P N A : List Float) (R : List ℤ) (I : List ℕ) (Q T : List Float) (X F : List ℕ) (M D : List Float) (W L : List ℕ) (n p : ℕ) → Same list other (λ H. Create.checkLists H P N A R I Q T X F M D W L n p)
-  pub entries-answer : (P N A : List Float) (R : List ℤ) (E : List Smoothness) (T : List Float) (X F : List ℕ) (M D : List Float) (W L : List ℕ) (n p : ℕ) → Same list other (λ H. CreateEntries.checkLists H P N A R E T X F M D W L n p)
-  pub sharp-tangents : (answer : Checked) (P N A : List Float) (R : List ℤ) (E : List Smoothness) (T : List Float) (old : Bool) (n p : ℕ) → Same list other (λ H. Create.tangentsAfter answer H P N A R E T old n p)
+  pub sharp-answer : (P N A : List Float) (R : List ℤ) (I : List ℕ) (Q T : List Float) (X F : List ℕ) (M D : List Float) (W L : List ℕ) (old : Bool) (n p : ℕ) → Same list other (λ H. Create.createAnswer H P N A R I Q T X F M D W L old n p)
+  pub entries-answer : (P N A : List Float) (R : List ℤ) (E : List Smoothness) (T : List Float) (X F : List ℕ) (M D : List Float) (W L : List ℕ) (old : Bool) (n p : ℕ) → Same list other (λ H. CreateEntries.createAnswer H P N A R E T X F M D W L old n p)
+  pub sharp-tangents : (checked : Checked) (P N A : List Float) (R : List ℤ) (E : List Smoothness) (T : List Float) (old : Bool) (n p : ℕ) → Same list other (λ H. Create.tangentsAfter checked H P N A R E T old n p)
 
 -- THE CLAIM: so it is for any two lists of n halfedges that agree in start, end and pair of each
 abbrev pub RowsUnread : Type 0
@@ -62,3 +63,15 @@ OldTangents =
     → HoldsOld list G O n
     → FromNormals.checkLists list P N A R G T X B C D W n p ≡ Accepted
     → FromNormals.tangentsAfter (FromNormals.checkLists list P N A R G T X B C D W n p) list P N A R G T old n p ≡ fromHalfedgeNormals (asHalfedges list) P N A R O T old n p
+
+-- request 3's count by the same definition, likewise
+abbrev pub fromHalfedgeDirectionless : Halfedges → List Float → List Float → List Float → List ℤ → List Float → List Float → Bool → ℕ → ℕ → ℕ
+fromHalfedgeDirectionless H P N A R O T old n p = fromNormalsDirectionless H P N A R (pointAt O) T old n p
+
+-- THE CLAIM: and it is answered this count
+abbrev pub OldCount : Type 0
+OldCount =
+    (list : List ℤ) (P N A : List Float) (R : List ℤ) (G T : List Float) (X B : List ℕ) (C D : List Float) (W : List ℕ) (old : Bool) (n p : ℕ) (O : List Float)
+    → HoldsOld list G O n
+    → FromNormals.checkLists list P N A R G T X B C D W n p ≡ Accepted
+    → FromNormals.createAnswer list P N A R G T X B C D W old n p ≡ Made (fromHalfedgeDirectionless (asHalfedges list) P N A R O T old n p)

@@ -12,10 +12,11 @@ use lib.Ieee.{Float, nan, of_bits, ne, lt}
 use Rattle.float.specs.Ops.{lit}
 use Rattle.float.specs.F64.{maxOf}
 use Rattle.common.specs.Fold.{foldTo}
+use Rattle.common.specs.Count.{sum, countBelow}
 use Rattle.common.proofs.Fold.{fold-keeps}
 use Rattle.mesh.specs.Mesh.{Halfedges}
 use Rattle.sharpen.specs.Crease.{minRadians}
-use Rattle.sharpen.specs.Entries.{Entries, entriesIn, pushEntry, pushEdge, listEdge, listEdges, countBelow}
+use Rattle.sharpen.specs.Entries.{Entries, entriesIn, pushEntry, pushEdge, listEdge, listEdges}
 
 -- the places of s from its entries on are as in E and S
 abbrev pub Kept : List ℕ → List Float → Entries → Type 0
@@ -32,7 +33,7 @@ module _ (E : List ℕ) (S : List Float) where
   module _ (H : Halfedges) (crease : ℕ → Bool) (smooth : Float) where
     -- the entries are twice the edges listed
     pub entries-twice : (n : ℕ) → (listEdges H crease smooth (entriesIn E S 0) n).count ≡ 2 * countBelow crease n
-    unfolding foldTo listEdge pushEdge pushEntry countBelow
+    unfolding foldTo listEdge pushEdge pushEntry sum countBelow
     entries-twice zero = refl
     entries-twice (suc n) = go (crease n) refl (entries-twice n)
       where

@@ -12,12 +12,13 @@ use Rattle.linalg.specs.Vec.{dotOf}
 use Rattle.mesh.specs.Mesh.{numberAt, indexOf, field, asHalfedges, nextHalfedge}
 use Rattle.mesh.specs.Lowest.{lowest}
 use Rattle.common.specs.Fold.{foldTo}
+use Rattle.common.specs.Count.{sum, countBelow}
 use Rattle.common.specs.Pillow.{pillow}
 use Rattle.mesh.specs.Scalar.{radiansOf}
 use Rattle.mesh.specs.Check.{checkMesh}
 use Rattle.smoothing.specs.Lists.{pointAt}
 use Rattle.sharpen.specs.Crease.{minRadians, dihedralOf, isCrease}
-use Rattle.sharpen.specs.Entries.{entriesIn, pushEntry, pushEdge, listEdge, countBelow}
+use Rattle.sharpen.specs.Entries.{entriesIn, pushEntry, pushEdge, listEdge}
 use Rattle.sharpen.specs.Sharpen.{sharpenEdges, entriesAfter}
 use Rattle.sharpen.specs.declared.Listing.TheVariants.{Listed, Refused}
 
@@ -38,7 +39,7 @@ halves = half ∷ half ∷ half ∷ half ∷ half ∷ half ∷ []
 
 -- what the cases compute with
 unfoldable all : Unit {0}
-unfolding Ieee.of_bits Ieee.to_bits Ieee.neg Ieee.add Ieee.mul Ieee.div Ieee.ne Ieee.lt maxOf clampOf absHighWord signBit acosBeyond acosOf dotOf numberAt indexOf field asHalfedges nextHalfedge lowest foldTo radiansOf checkMesh pointAt minRadians dihedralOf isCrease pushEntry pushEdge listEdge countBelow
+unfolding Ieee.of_bits Ieee.to_bits Ieee.neg Ieee.add Ieee.mul Ieee.div Ieee.ne Ieee.lt maxOf clampOf absHighWord signBit acosBeyond acosOf dotOf numberAt indexOf field asHalfedges nextHalfedge lowest foldTo radiansOf checkMesh pointAt minRadians dihedralOf isCrease pushEntry pushEdge listEdge sum countBelow
 all = tt
 
 -- each edge is listed, its forward halfedge first

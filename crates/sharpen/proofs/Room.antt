@@ -10,15 +10,16 @@ use borrow.Author.Tests.{eqb-true}
 use Rattle.mesh.specs.Mesh.{pairedHalfedge, isForward, Halfedges}
 use Rattle.mesh.specs.Sound.{Sound}
 use Rattle.mesh.specs.declared.Checked.TheVariants.{Accepted}
+use Rattle.common.specs.Count.{countBelow}
 use Rattle.common.proofs.Tests.{and-true}
+use Rattle.common.proofs.Count.{count-half, count-room}
 use Rattle.mesh.proofs.Accepted.{accepted}
 use Rattle.mesh.proofs.Pairs.{one-forward, paired-injective}
 use Rattle.smoothing.proofs.Edges.{normals-in}
 use Rattle.sharpen.specs.Crease.{isCrease}
-use Rattle.sharpen.specs.Entries.{entriesIn, listEdges, countBelow}
+use Rattle.sharpen.specs.Entries.{entriesIn, listEdges}
 use Rattle.sharpen.specs.Sharpen.{lengthsFit, checkLists, Lists, EdgeFits}
 use Rattle.sharpen.proofs.Listed.{entries-twice}
-use Rattle.sharpen.proofs.Count.{count-half, count-room}
 
 module _ {H : Halfedges} {n p : ℕ} (A : List Float) (limit : Float) (s : Sound H n p) where
   -- of the two halfedges of an edge only the forward one is asked

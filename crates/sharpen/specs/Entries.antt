@@ -1,5 +1,5 @@
--- The entries of a crease listing in two lent lists, and how many edges a listing names. Any rule `crease` for one edge can decide.
-use Rattle.std.specs.Prelude.{ℕ, zero, suc, ◌+◌, List, Bool, cond, set, Float}
+-- The entries of a crease listing in two lent lists. Any rule `crease` for one edge can decide.
+use Rattle.std.specs.Prelude.{ℕ, ◌+◌, List, Bool, cond, set, Float}
 use Rattle.mesh.specs.Mesh.{pairedHalfedge, Halfedges}
 use Rattle.common.specs.Fold.{foldTo}
 
@@ -31,8 +31,3 @@ listEdge H crease smooth s e = cond (crease e) (pushEdge H smooth s e) s
 -- the loop over n halfedges
 abbrev pub listEdges : Halfedges → (ℕ → Bool) → Float → Entries → ℕ → Entries
 listEdges H crease smooth s n = foldTo (listEdge H crease smooth) s n
-
--- how many of the numbers below n pass the test t
-unfoldable pub countBelow : (ℕ → Bool) → ℕ → ℕ
-countBelow t zero = 0
-countBelow t (suc k) = countBelow t k + cond (t k) 1 0

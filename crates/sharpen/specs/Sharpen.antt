@@ -1,5 +1,6 @@
 -- The crease listing as a public call: its questions, its answer, and the lists after it. H are the halfedges, A the face normals, I and Q the two lent lists, n and p the counts.
 use Rattle.std.specs.Prelude.{ℕ, ◌+◌, ◌*◌, ◌/◌, ◌≤◌, ◌≡◌, List, Bool, true, ◌&&◌, length, Float}
+use Rattle.common.specs.Count.{countBelow}
 use Rattle.mesh.specs.Mesh.{halfedgeStride, Halfedges}
 use Rattle.mesh.specs.Questions.{hasLength}
 use Rattle.mesh.specs.Check as mesh
@@ -9,7 +10,7 @@ use Rattle.mesh.specs.declared.Checked.{Checked}
 use Rattle.mesh.specs.declared.Checked.TheVariants.{Accepted, Refused}
 use Rattle.smoothing.specs.Edges.{NormalsIn}
 use Rattle.sharpen.specs.Crease.{minRadians, isCrease}
-use Rattle.sharpen.specs.Entries.{Entries, entriesIn, listEdges, countBelow}
+use Rattle.sharpen.specs.Entries.{Entries, entriesIn, listEdges}
 use Rattle.sharpen.specs.declared.Listing.{Listing}
 use Rattle.sharpen.specs.declared.Listing.TheVariants.{Listed, Refused as RefusedListing}
 

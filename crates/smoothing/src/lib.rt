@@ -5,7 +5,7 @@
 ghost use Rattle.std.specs.Prelude.{◌≡◌, ◌+◌, ◌*◌, ◌≤◌, length};
 ghost use Rattle.mesh.specs.Mesh.{asHalfedges};
 ghost use Rattle.mesh.specs.Inside.{Inside};
-ghost use Rattle.smoothing.specs.Directions.{vec3FromVec4, isDegenerate, directionOf, wrapOf, angleBetween, equalNormals, equalUnits, circularTangentOf};
+ghost use Rattle.smoothing.specs.Directions.{vec3FromVec4, isDegenerate, directionBy, safeNormalize, directionOf, wrapOf, angleBetween, equalNormals, equalUnits, circularTangentOf};
 ghost use Rattle.smoothing.specs.Lists.{pointAt, tangentAt, putTangent, weightAt, isMarkedInsideQuad};
 ghost use Rattle.smoothing.specs.Edges.{EdgeIn, NormalsIn, FacesIn, TriangleIn, InsideQuadIn, edgeVec, biTangent, tangentFromNormalOf, sameFaceAcross, noOtherNeighbor, isInsideQuad};
 ghost use Rattle.smoothing.specs.Inner.{directionByOf, angleOfCosine, LengthOf, edgeNormal, directionFromNormal, EdgesIn, PairIn, edgeVecs, tangentsFromNormals};
@@ -94,6 +94,22 @@ pub fn safe_normalize(v: Vec3) -> Direction
 {
     let len2 = linalg::dot(v, v);
     direction_by(v, len2, sqrt::sqrt(len2))
+}
+
+// The vector of `direction_by` alone.
+fn unit_by(v: Vec3, len2: f64, len: f64) -> Vec3
+    ensures { result ≡ directionBy v len2 len }
+{
+    direction_by(v, len2, len).vec
+}
+
+// The vector of `safe_normalize` alone, for callers who do not ask whether there is a direction: it is fewer instructions, as long
+// as `unit_by` is a function of its own.
+pub fn unit_vector(v: Vec3) -> Vec3
+    ensures { result ≡ safeNormalize v }
+{
+    let len2 = linalg::dot(v, v);
+    unit_by(v, len2, sqrt::sqrt(len2))
 }
 
 pub fn wrap(radians: f64) -> f64

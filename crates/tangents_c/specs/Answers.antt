@@ -6,6 +6,8 @@ use Rattle.validate.specs.declared.Validity.{Validity}
 use Rattle.validate.specs.Validate as Valid
 use Rattle.sharpen.specs.declared.Listing.{Listing}
 use Rattle.sharpen.specs.Sharpen as Sharp
+use Rattle.create_shared.specs.declared.Making.{Making}
+use Rattle.create_shared.specs.Answer as Make
 use Rattle.distribute.specs.declared.Spreading.{Spreading}
 use Rattle.distribute.specs.Distribute as Spread
 
@@ -27,3 +29,7 @@ putListing answer r = put answer (Sharp.numberOf r) (Sharp.placeOf r) (Sharp.ent
 -- spreading and its preview: looked and turned
 abbrev pub putSpreading : List ℕ → Spreading → List ℕ
 putSpreading answer r = put answer (Spread.numberOf r) (Spread.placeOf r) (Spread.lookedOf r) (Spread.turnedOf r)
+
+-- the makings: how many circular tangents were computed on an edge without direction
+abbrev pub putMaking : List ℕ → Making → List ℕ
+putMaking answer r = put answer (Make.numberOf r) (Make.placeOf r) (Make.directionlessOf r) 0

@@ -14,10 +14,12 @@ ghost use Rattle.preview.specs.Preview.{previewTangents, bytesAfter};
 ghost use Rattle.mesh.specs.Mesh.{asHalfedges};
 ghost use Rattle.mesh.specs.Check.{whenAccepted};
 ghost use Rattle.create_smoothness.specs.Entries.{entriesOf};
-ghost use Rattle.create.specs.Create.{checkLists as checkCreate, tangentsAfter as createdTangents};
-ghost use Rattle.create_from_normals.specs.FromNormals.{checkLists as checkFromNormals, tangentsAfter as tangentsFromNormals};
-ghost use Rattle.tangents_c.specs.Answers.{put, putChecked, putValidity, putListing, putSpreading};
+ghost use Rattle.create_shared.specs.Answer.{checkedOf};
+ghost use Rattle.create.specs.Create.{createAnswer, tangentsAfter as createdTangents};
+ghost use Rattle.create_from_normals.specs.FromNormals.{createAnswer as fromNormalsAnswer, tangentsAfter as tangentsFromNormals};
+ghost use Rattle.tangents_c.specs.Answers.{put, putChecked, putValidity, putListing, putSpreading, putMaking};
 
+use create_shared::Making;
 use distribute::Spreading;
 use mesh::Checked;
 use sharpen::Listing;
@@ -40,7 +42,7 @@ fn put_answer(answer: &mut [usize], number: usize, place: usize, first: usize, s
     put_at(answer, 3, second);
 }
 
-// Straightening and the makings: no further numbers.
+// Straightening: no further numbers.
 fn put_checked(answer: &mut [usize], checked: Checked)
     ensures { answer.new ≡ putChecked answer.old checked }
 {
@@ -89,6 +91,19 @@ fn put_spreading(answer: &mut [usize], spreading: Spreading)
         distribute::place_of(spreading),
         distribute::looked_of(spreading),
         distribute::turned_of(spreading),
+    );
+}
+
+// The makings: how many circular tangents were computed on an edge without direction.
+fn put_making(answer: &mut [usize], making: Making)
+    ensures { answer.new ≡ putMaking answer.old making }
+{
+    put_answer(
+        answer,
+        create_shared::number_of(making),
+        create_shared::place_of(making),
+        create_shared::directionless_of(making),
+        0,
     );
 }
 
@@ -191,7 +206,8 @@ pub extern "C" fn tangents_preview_tangents(
     put_spreading(answer, previewed);
 }
 
-// Making from sharp edges. `old` says whether the tangents lent are old ones: 0 for no.
+// Making from sharp edges, with the answer's count of the circular tangents on an edge without direction. `old` says whether the
+// tangents lent are old ones: 0 for no.
 #[unsafe(no_mangle)]
 pub extern "C" fn tangents_create_tangents(
     n: usize,
@@ -213,9 +229,9 @@ pub extern "C" fn tangents_create_tangents(
     link: &mut [usize],
     answer: &mut [usize],
 )
-    ensures { let r = checkCreate (asHalfedges h.now) pos.now normals.now face_normals.now refs.now entries.now values.now t.old fixed.old flat.old smooth.old desired.old at.old link.old n p in (t.new ≡ createdTangents r (asHalfedges h.now) pos.now normals.now face_normals.now refs.now (entriesOf entries.now values.now) t.old (not (eqb old 0)) n p) × (fixed.new ≡ whenAccepted r (replicate n 0) fixed.old) × (flat.new ≡ whenAccepted r (replicate n 0) flat.old) × (smooth.new ≡ whenAccepted r (replicate n zero) smooth.old) × (desired.new ≡ whenAccepted r (replicate n zero) desired.old) × (at.new ≡ whenAccepted r (replicate p 0) at.old) × (link.new ≡ whenAccepted r (replicate n 0) link.old) × (answer.new ≡ putChecked answer.old r) }
+    ensures { let r = createAnswer (asHalfedges h.now) pos.now normals.now face_normals.now refs.now entries.now values.now t.old fixed.old flat.old smooth.old desired.old at.old link.old (not (eqb old 0)) n p in (t.new ≡ createdTangents (checkedOf r) (asHalfedges h.now) pos.now normals.now face_normals.now refs.now (entriesOf entries.now values.now) t.old (not (eqb old 0)) n p) × (fixed.new ≡ whenAccepted (checkedOf r) (replicate n 0) fixed.old) × (flat.new ≡ whenAccepted (checkedOf r) (replicate n 0) flat.old) × (smooth.new ≡ whenAccepted (checkedOf r) (replicate n zero) smooth.old) × (desired.new ≡ whenAccepted (checkedOf r) (replicate n zero) desired.old) × (at.new ≡ whenAccepted (checkedOf r) (replicate p 0) at.old) × (link.new ≡ whenAccepted (checkedOf r) (replicate n 0) link.old) × (answer.new ≡ putMaking answer.old r) }
 {
-    let checked = create::create_tangents(
+    let making = create::create_tangents(
         n,
         p,
         h,
@@ -234,10 +250,11 @@ pub extern "C" fn tangents_create_tangents(
         at,
         link,
     );
-    put_checked(answer, checked);
+    put_making(answer, making);
 }
 
-// Making from normals; `rows` has three numbers for each row. `old` says whether the tangents lent are old ones: 0 for no.
+// Making from normals, with the same count; `rows` has three numbers for each row. `old` says whether the tangents lent are old
+// ones: 0 for no.
 #[unsafe(no_mangle)]
 pub extern "C" fn tangents_create_tangents_from_normals(
     n: usize,
@@ -257,9 +274,9 @@ pub extern "C" fn tangents_create_tangents_from_normals(
     first: &mut [usize],
     answer: &mut [usize],
 )
-    ensures { let r = checkFromNormals h.now pos.now normals.now face_normals.now refs.now rows.now t.old fixed.old inside.old current.old desired.old first.old n p in (t.new ≡ tangentsFromNormals r h.now pos.now normals.now face_normals.now refs.now rows.now t.old (not (eqb old 0)) n p) × (fixed.new ≡ whenAccepted r (replicate n 0) fixed.old) × (inside.new ≡ whenAccepted r (replicate n 0) inside.old) × (current.new ≡ whenAccepted r (replicate n zero) current.old) × (desired.new ≡ whenAccepted r (replicate n zero) desired.old) × (first.new ≡ whenAccepted r (replicate p 0) first.old) × (answer.new ≡ putChecked answer.old r) }
+    ensures { let r = fromNormalsAnswer h.now pos.now normals.now face_normals.now refs.now rows.now t.old fixed.old inside.old current.old desired.old first.old (not (eqb old 0)) n p in (t.new ≡ tangentsFromNormals (checkedOf r) h.now pos.now normals.now face_normals.now refs.now rows.now t.old (not (eqb old 0)) n p) × (fixed.new ≡ whenAccepted (checkedOf r) (replicate n 0) fixed.old) × (inside.new ≡ whenAccepted (checkedOf r) (replicate n 0) inside.old) × (current.new ≡ whenAccepted (checkedOf r) (replicate n zero) current.old) × (desired.new ≡ whenAccepted (checkedOf r) (replicate n zero) desired.old) × (first.new ≡ whenAccepted (checkedOf r) (replicate p 0) first.old) × (answer.new ≡ putMaking answer.old r) }
 {
-    let checked = create_from_normals::create_tangents_from_normals(
+    let making = create_from_normals::create_tangents_from_normals(
         n,
         p,
         h,
@@ -276,5 +293,5 @@ pub extern "C" fn tangents_create_tangents_from_normals(
         desired,
         first,
     );
-    put_checked(answer, checked);
+    put_making(answer, making);
 }

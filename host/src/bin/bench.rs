@@ -37,10 +37,10 @@ fn unit(c: &Block, op: &str, repeats: usize) -> f64 {
             "spread" => drop(distribute_tangents(n, p, &h, &pos, &vn, &flags, &mut t, &mut current, &mut desired).expect("accepted")),
             "preview" => drop(preview_tangents(n, p, &h, &pos, &vn, &flags, &t, &mut bytes).expect("accepted")),
             "sharp" => {
-                create_tangents(n, p, &h, &pos, &vn, &fnm, &refs, &entries, &values, old, &mut t, &mut scratch).expect("accepted")
+                create_tangents(n, p, &h, &pos, &vn, &fnm, &refs, &entries, &values, old, &mut t, &mut scratch).expect("accepted");
             }
             "normals" => {
-                create_tangents_from_normals(n, p, &h, &pos, &vn, &fnm, &refs, &rows, old, &mut t, &mut scratch2).expect("accepted")
+                create_tangents_from_normals(n, p, &h, &pos, &vn, &fnm, &refs, &rows, old, &mut t, &mut scratch2).expect("accepted");
             }
             op => panic!("no timing of {op}"),
         }

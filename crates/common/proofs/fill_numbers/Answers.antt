@@ -1,5 +1,4 @@
 -- `common::fill_numbers` meets its contract. The invariant: the places passed hold x, the others what they held. Assumes nothing.
-use Prim.Native.Nat.{◌-◌}
 use native.Mathlib.Omega.{arith}
 use mathlib.Core.Path.{refl}
 use lib.ListN.{length-set}

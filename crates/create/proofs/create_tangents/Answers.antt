@@ -1,5 +1,5 @@
 -- `create::create_tangents` meets its contract. Assumes nothing.
-use Prim.Native.Nat.{ℕ}
+use Prim.Native.Nat.{ℕ, ◌*◌, ◌≤◌}
 use mathlib.Core.Path.{◌≡◌, sym, subst, ◌∙◌}
 use mathlib.Core.Bool.{Bool, ◌&&◌}
 use mathlib.Core.List.{List}
@@ -9,63 +9,81 @@ use lib.Ieee.{Float}
 use Rattle.mesh.specs.Mesh.{asHalfedges}
 use Rattle.mesh.specs.declared.Checked.{Checked}
 use Rattle.mesh.specs.declared.Checked.TheVariants.{Accepted}
-use Rattle.mesh.proofs.Values.{values-same}
+use Rattle.create_shared.specs.Answer.{directionlessOf, checkedOf}
+use Rattle.create_shared.proofs.Answered.{values-of, refused-answer}
 use Rattle.create_smoothness.specs.Entries.{entriesOf}
 use Rattle.create_smoothness.specs.EntrySmoothness.{EntriesIn}
 use Rattle.create_smoothness.proofs.Flat.{flat-entries-in}
-use Rattle.create.specs.Create.{listsFit, scratchFits, checkCreate, checkLists}
+use Rattle.create.specs.Create.{listsFit, scratchFits, checkCreate, checkLists, tangentsAfter, createAnswer}
 use Rattle.create.proofs.Accepted.{AcceptedLists, accepted-lists, made}
 use Rattle.create.proofs.create_tangents.Goals as goal
+use Rattle.create.proofs.create_tangents.Goals.{After-check_create-checked, After-answer-2}
 
--- the answer, from what the calls answer
-module _ (h : List ℤ) (P N A : List Float) (R : List ℤ) (I : List ℕ) (Q T : List Float) (X F : List ℕ) (S D : List Float) (C L : List ℕ) (n p : ℕ) {lists scratch lengths : Bool} {checked : Checked}
-    (a : lists ≡ listsFit (length h) (length P) (length N) (length A) (length R) (length I) (length Q) (length T) n p)
-    (b : scratch ≡ scratchFits (length X) (length F) (length S) (length D) (length C) (length L) n p)
-    (both : lengths ≡ (lists && scratch))
-    (e : checked ≡ checkCreate (asHalfedges h) R I Q n p lengths) where
-  answer : checked ≡ checkLists (asHalfedges h) P N A R I Q T X F S D C L n p
-  unfolding asHalfedges
-  answer = rw (← a, ← b, ← both) e
+-- the answer of the questions, from what the calls answer
+answer : (h : List ℤ) (P N A : List Float) (R : List ℤ) (I : List ℕ) (Q T : List Float) (X F : List ℕ) (S D : List Float) (C L : List ℕ) (n p : ℕ) {lists scratch lengths : Bool} {checked : Checked}
+    → lists ≡ listsFit (length h) (length P) (length N) (length A) (length R) (length I) (length Q) (length T) n p
+    → scratch ≡ scratchFits (length X) (length F) (length S) (length D) (length C) (length L) n p
+    → lengths ≡ (lists && scratch)
+    → checked ≡ checkCreate (asHalfedges h) R I Q n p lengths
+    → checked ≡ checkLists (asHalfedges h) P N A R I Q T X F S D C L n p
+unfolding asHalfedges
+answer h P N A R I Q T X F S D C L n p a b both e = rw (← a, ← b, ← both) e
 
-  -- what it gives where it is that the call is accepted
-  given : checked ≡ Accepted → AcceptedLists (asHalfedges h) P N A I Q T X F S D C L n p
-  given q = accepted-lists (asHalfedges h) P N A R I Q T X F S D C L n p (sym answer ∙ q)
-
-  -- the entries name halfedges, and are numbers with a clear sign bit
-  inside : checked ≡ Accepted → EntriesIn (entriesOf I Q) n
-  inside q = flat-entries-in I Q n (given q).values (given q).named (given q).clear
-
-pub returns-in_default-clause-answer : goal.returns-in_default-clause-answer
-returns-in_default-clause-answer c =
+checked-is : (c : After-check_create-checked) → let a = c.args in c.check_create-checked.result ≡ checkLists (asHalfedges a.h.now) a.pos.now a.normals.now a.face_normals.now a.refs.now a.entries.now a.values.now a.t.now a.fixed.now a.flat.now a.smooth.now a.desired.now a.at.now a.link.now a.n a.p
+checked-is c =
     let a = c.args in
     answer a.h.now a.pos.now a.normals.now a.face_normals.now a.refs.now a.entries.now a.values.now a.t.now a.fixed.now a.flat.now a.smooth.now a.desired.now a.at.now a.link.now a.n a.p c.lists_fit-lists.ensures c.scratch_lists_fit-scratch.ensures c.both-lengths.ensures c.check_create-checked.ensures
 
+lists : (c : After-check_create-checked) → c.check_create-checked.result ≡ Accepted → let a = c.args in AcceptedLists (asHalfedges a.h.now) a.pos.now a.normals.now a.face_normals.now a.entries.now a.values.now a.t.now a.fixed.now a.flat.now a.smooth.now a.desired.now a.at.now a.link.now a.n a.p
+lists c e =
+    let a = c.args in
+    accepted-lists (asHalfedges a.h.now) a.pos.now a.normals.now a.face_normals.now a.refs.now a.entries.now a.values.now a.t.now a.fixed.now a.flat.now a.smooth.now a.desired.now a.at.now a.link.now a.n a.p (sym (checked-is c) ∙ e)
+
+-- what an accepted call answers and leaves
+answered : (c : After-answer-2) → let a = c.args in c.check_create-checked.result ≡ checkLists (asHalfedges a.h.now) a.pos.now a.normals.now a.face_normals.now a.refs.now a.entries.now a.values.now a.t.now a.fixed.now a.flat.now a.smooth.now a.desired.now a.at.now a.link.now a.n a.p
+    → (c.answer-2.result ≡ createAnswer (asHalfedges a.h.now) a.pos.now a.normals.now a.face_normals.now a.refs.now a.entries.now a.values.now a.t.now a.fixed.now a.flat.now a.smooth.now a.desired.now a.at.now a.link.now a.old a.n a.p)
+    × (c.make_tangents-directionless.new.t ≡ tangentsAfter (checkedOf c.answer-2.result) (asHalfedges a.h.now) a.pos.now a.normals.now a.face_normals.now a.refs.now (entriesOf a.entries.now a.values.now) a.t.now a.old a.n a.p)
+    × (directionlessOf c.answer-2.result ≤ 2 * a.n)
+answered c is =
+    let a = c.args in
+    let m = c.make_tangents-directionless in
+    made (asHalfedges a.h.now) a.pos.now a.normals.now a.face_normals.now a.refs.now a.entries.now a.values.now a.t.now a.fixed.now a.flat.now a.smooth.now a.desired.now a.at.now a.link.now a.n a.p (entriesOf a.entries.now a.values.now) a.old is (λ w. flat-entries-in a.entries.now a.values.now a.n w.values w.named w.clear)
+    c.in-Accepted.is c.entry_smoothness.ensures m.ensures.tangents m.ensures.directionless c.answer-2.ensures
+
+pub returns-in_default-clause-answer : goal.returns-in_default-clause-answer
+returns-in_default-clause-answer c =
+    refused-answer 0 _ (checked-is (goal.at.returns-in_default-clause-answer c).After-check_create-checked) c.in_default.is c.answer.ensures
+
 pub returns-in_default-clause-values : goal.returns-in_default-clause-values
-returns-in_default-clause-values c = values-same (returns-in_default-clause-answer c)
+returns-in_default-clause-values c =
+    values-of _ _ (refused-answer 0 _ (checked-is (goal.at.returns-in_default-clause-values c).After-check_create-checked) c.in_default.is c.answer.ensures)
 
 pub entry_smoothness-requires : goal.entry_smoothness-requires
 entry_smoothness-requires c =
     let a = c.args in
-    let w = given a.h.now a.pos.now a.normals.now a.face_normals.now a.refs.now a.entries.now a.values.now a.t.now a.fixed.now a.flat.now a.smooth.now a.desired.now a.at.now a.link.now a.n a.p c.lists_fit-lists.ensures c.scratch_lists_fit-scratch.ensures c.both-lengths.ensures c.check_create-checked.ensures c.in-Accepted.is in
-    let i = inside a.h.now a.pos.now a.normals.now a.face_normals.now a.refs.now a.entries.now a.values.now a.t.now a.fixed.now a.flat.now a.smooth.now a.desired.now a.at.now a.link.now a.n a.p c.lists_fit-lists.ensures c.scratch_lists_fit-scratch.ensures c.both-lengths.ensures c.check_create-checked.ensures c.in-Accepted.is in
-    (w.values, subst (EntriesIn (entriesOf a.entries.now a.values.now)) (sym w.smooth) i)
+    let w = lists (goal.at.entry_smoothness-requires c).After-check_create-checked c.in-Accepted.is in
+    (w.values, subst (EntriesIn (entriesOf a.entries.now a.values.now)) (sym w.smooth) (flat-entries-in a.entries.now a.values.now a.n w.values w.named w.clear))
 
-pub make_tangents-requires : goal.make_tangents-requires
-make_tangents-requires c =
-    let a = c.args in
-    (given a.h.now a.pos.now a.normals.now a.face_normals.now a.refs.now a.entries.now a.values.now a.t.now a.fixed.now a.flat.now a.smooth.now a.desired.now a.at.now a.link.now a.n a.p c.lists_fit-lists.ensures c.scratch_lists_fit-scratch.ensures c.both-lengths.ensures c.check_create-checked.ensures c.in-Accepted.is).lists c.entry_smoothness.auto.smooth
+pub make_tangents-directionless-requires : goal.make_tangents-directionless-requires
+make_tangents-directionless-requires c =
+    (lists (goal.at.make_tangents-directionless-requires c).After-check_create-checked c.in-Accepted.is).lists c.entry_smoothness.auto.smooth
 
 pub returns-clause-answer : goal.returns-clause-answer
 returns-clause-answer c =
-    let a = c.args in
-    answer a.h.now a.pos.now a.normals.now a.face_normals.now a.refs.now a.entries.now a.values.now a.t.now a.fixed.now a.flat.now a.smooth.now a.desired.now a.at.now a.link.now a.n a.p c.lists_fit-lists.ensures c.scratch_lists_fit-scratch.ensures c.both-lengths.ensures c.check_create-checked.ensures
+    let k = goal.at.returns-clause-answer c in
+    (answered k.After-answer-2 (checked-is k.After-check_create-checked)).0
 
 pub returns-clause-tangents : goal.returns-clause-tangents
 returns-clause-tangents c =
-    let a = c.args in
-    let w = given a.h.now a.pos.now a.normals.now a.face_normals.now a.refs.now a.entries.now a.values.now a.t.now a.fixed.now a.flat.now a.smooth.now a.desired.now a.at.now a.link.now a.n a.p c.lists_fit-lists.ensures c.scratch_lists_fit-scratch.ensures c.both-lengths.ensures c.check_create-checked.ensures c.in-Accepted.is in
-    let i = inside a.h.now a.pos.now a.normals.now a.face_normals.now a.refs.now a.entries.now a.values.now a.t.now a.fixed.now a.flat.now a.smooth.now a.desired.now a.at.now a.link.now a.n a.p c.lists_fit-lists.ensures c.scratch_lists_fit-scratch.ensures c.both-lengths.ensures c.check_create-checked.ensures c.in-Accepted.is in
-    rw c.in-Accepted.is (made (asHalfedges a.h.now) a.pos.now a.normals.now a.face_normals.now a.refs.now (entriesOf a.entries.now a.values.now) a.t.now a.old a.n a.p w.sound i w.smooth c.entry_smoothness.ensures c.make_tangents.ensures.tangents)
+    let k = goal.at.returns-clause-tangents c in
+    (answered k.After-answer-2 (checked-is k.After-check_create-checked)).1
+
+pub returns-clause-bound : goal.returns-clause-bound
+returns-clause-bound c =
+    let k = goal.at.returns-clause-bound c in
+    (answered k.After-answer-2 (checked-is k.After-check_create-checked)).2
 
 pub returns-clause-values : goal.returns-clause-values
-returns-clause-values c = values-same (returns-clause-answer c)
+returns-clause-values c =
+    let k = goal.at.returns-clause-values c in
+    values-of _ _ (answered k.After-answer-2 (checked-is k.After-check_create-checked)).0

@@ -1,65 +1,75 @@
 -- `create_entries::create_entries` meets its contract. Assumes nothing.
-use Rattle.std.proofs.Common.{◌≡◌, sym, subst, ◌∙◌}
+use Rattle.std.proofs.Common.{◌*◌, ◌≤◌, ◌≡◌, sym, subst, ◌∙◌}
 use Rattle.mesh.specs.Mesh.{asHalfedges}
 use Rattle.mesh.specs.declared.Checked.TheVariants.{Accepted}
-use Rattle.mesh.proofs.Values.{values-same}
+use Rattle.create_shared.specs.Answer.{directionlessOf, checkedOf}
+use Rattle.create_shared.proofs.Answered.{values-of, refused-answer}
 use Rattle.create_smoothness.specs.Entries.{halfedgesOf, smoothnessOf}
 use Rattle.create_smoothness.specs.EntrySmoothness.{EntriesIn}
-use Rattle.create.proofs.Accepted.{AcceptedLists, made}
-use Rattle.create_entries.proofs.Answer.{answer, is-answer, given, inside}
+use Rattle.create_smoothness.proofs.Flat.{entries-in}
+use Rattle.create.specs.Create.{tangentsAfter}
+use Rattle.create.proofs.Accepted.{AcceptedLists, accepted-lists, made}
+use Rattle.create_entries.specs.CreateEntries.{checkLists, createAnswer}
+use Rattle.create_entries.proofs.Answer.{is-answer}
 use Rattle.create_entries.proofs.create_entries.Goals as goal
-use Rattle.create_entries.proofs.create_entries.Goals.{After-check_lists-checked}
+use Rattle.create_entries.proofs.create_entries.Goals.{After-check_lists-checked, After-answer-2}
 
-checked-is : (c : After-check_lists-checked) → let a = c.args in c.check_lists-checked.result ≡ answer (asHalfedges a.h.now) a.pos.now a.normals.now a.face_normals.now a.refs.now a.sharp.now a.t.now a.fixed.now a.flat.now a.smooth.now a.desired.now a.at.now a.link.now a.n a.p
+checked-is : (c : After-check_lists-checked) → let a = c.args in c.check_lists-checked.result ≡ checkLists (asHalfedges a.h.now) a.pos.now a.normals.now a.face_normals.now a.refs.now a.sharp.now a.t.now a.fixed.now a.flat.now a.smooth.now a.desired.now a.at.now a.link.now a.n a.p
 checked-is c =
     let a = c.args in
     is-answer (asHalfedges a.h.now) a.pos.now a.normals.now a.face_normals.now a.refs.now a.sharp.now a.t.now a.fixed.now a.flat.now a.smooth.now a.desired.now a.at.now a.link.now a.n a.p
     c.scan.result c.scan.ensures c.check_lists-checked.result c.check_lists-checked.ensures
 
--- where the answer is that the call is accepted
-accepted-is : (c : After-check_lists-checked) → c.check_lists-checked.result ≡ Accepted → let a = c.args in Accepted ≡ answer (asHalfedges a.h.now) a.pos.now a.normals.now a.face_normals.now a.refs.now a.sharp.now a.t.now a.fixed.now a.flat.now a.smooth.now a.desired.now a.at.now a.link.now a.n a.p
-accepted-is c e =
-    sym e ∙ checked-is c
-
 lists : (c : After-check_lists-checked) → c.check_lists-checked.result ≡ Accepted → let a = c.args in AcceptedLists (asHalfedges a.h.now) a.pos.now a.normals.now a.face_normals.now (halfedgesOf a.sharp.now) (smoothnessOf a.sharp.now) a.t.now a.fixed.now a.flat.now a.smooth.now a.desired.now a.at.now a.link.now a.n a.p
 lists c e =
     let a = c.args in
-    given (asHalfedges a.h.now) a.pos.now a.normals.now a.face_normals.now a.refs.now a.sharp.now a.t.now a.fixed.now a.flat.now a.smooth.now a.desired.now a.at.now a.link.now a.n a.p (accepted-is c e)
+    accepted-lists (asHalfedges a.h.now) a.pos.now a.normals.now a.face_normals.now a.refs.now (halfedgesOf a.sharp.now) (smoothnessOf a.sharp.now) a.t.now a.fixed.now a.flat.now a.smooth.now a.desired.now a.at.now a.link.now a.n a.p (sym (checked-is c) ∙ e)
 
-entries : (c : After-check_lists-checked) → c.check_lists-checked.result ≡ Accepted → EntriesIn c.args.sharp.now c.args.n
-entries c e =
+-- what an accepted call answers and leaves
+answered : (c : After-answer-2) → let a = c.args in c.check_lists-checked.result ≡ checkLists (asHalfedges a.h.now) a.pos.now a.normals.now a.face_normals.now a.refs.now a.sharp.now a.t.now a.fixed.now a.flat.now a.smooth.now a.desired.now a.at.now a.link.now a.n a.p
+    → (c.answer-2.result ≡ createAnswer (asHalfedges a.h.now) a.pos.now a.normals.now a.face_normals.now a.refs.now a.sharp.now a.t.now a.fixed.now a.flat.now a.smooth.now a.desired.now a.at.now a.link.now a.old a.n a.p)
+    × (c.make_tangents-directionless.new.t ≡ tangentsAfter (checkedOf c.answer-2.result) (asHalfedges a.h.now) a.pos.now a.normals.now a.face_normals.now a.refs.now a.sharp.now a.t.now a.old a.n a.p)
+    × (directionlessOf c.answer-2.result ≤ 2 * a.n)
+answered c is =
     let a = c.args in
-    inside (asHalfedges a.h.now) a.pos.now a.normals.now a.face_normals.now a.refs.now a.sharp.now a.t.now a.fixed.now a.flat.now a.smooth.now a.desired.now a.at.now a.link.now a.n a.p (accepted-is c e)
+    let m = c.make_tangents-directionless in
+    made (asHalfedges a.h.now) a.pos.now a.normals.now a.face_normals.now a.refs.now (halfedgesOf a.sharp.now) (smoothnessOf a.sharp.now) a.t.now a.fixed.now a.flat.now a.smooth.now a.desired.now a.at.now a.link.now a.n a.p a.sharp.now a.old is
+    (λ w. entries-in a.sharp.now a.n w.named w.clear) c.in-Accepted.is c.sharp_smoothness.ensures m.ensures.tangents m.ensures.directionless c.answer-2.ensures
 
 pub returns-in_default-clause-answer : goal.returns-in_default-clause-answer
 returns-in_default-clause-answer c =
-    checked-is (goal.at.returns-in_default-clause-answer c).After-check_lists-checked
+    refused-answer 0 _ (checked-is (goal.at.returns-in_default-clause-answer c).After-check_lists-checked) c.in_default.is c.answer.ensures
 
 pub returns-in_default-clause-values : goal.returns-in_default-clause-values
 returns-in_default-clause-values c =
-    values-same (checked-is (goal.at.returns-in_default-clause-values c).After-check_lists-checked)
+    values-of _ _ (refused-answer 0 _ (checked-is (goal.at.returns-in_default-clause-values c).After-check_lists-checked) c.in_default.is c.answer.ensures)
 
 pub sharp_smoothness-requires : goal.sharp_smoothness-requires
 sharp_smoothness-requires c =
-    let k = (goal.at.sharp_smoothness-requires c).After-check_lists-checked in
-    let e = c.in-Accepted.is in
-    subst (EntriesIn c.args.sharp.now) (sym (lists k e).smooth) (entries k e)
+    let a = c.args in
+    let w = lists (goal.at.sharp_smoothness-requires c).After-check_lists-checked c.in-Accepted.is in
+    subst (EntriesIn a.sharp.now) (sym w.smooth) (entries-in a.sharp.now a.n w.named w.clear)
 
-pub make_tangents-requires : goal.make_tangents-requires
-make_tangents-requires c =
-    (lists (goal.at.make_tangents-requires c).After-check_lists-checked c.in-Accepted.is).lists c.sharp_smoothness.auto.smooth
+pub make_tangents-directionless-requires : goal.make_tangents-directionless-requires
+make_tangents-directionless-requires c =
+    (lists (goal.at.make_tangents-directionless-requires c).After-check_lists-checked c.in-Accepted.is).lists c.sharp_smoothness.auto.smooth
 
 pub returns-clause-answer : goal.returns-clause-answer
 returns-clause-answer c =
-    checked-is (goal.at.returns-clause-answer c).After-check_lists-checked
+    let k = goal.at.returns-clause-answer c in
+    (answered k.After-answer-2 (checked-is k.After-check_lists-checked)).0
 
 pub returns-clause-tangents : goal.returns-clause-tangents
 returns-clause-tangents c =
-    let a = c.args in
-    let k = (goal.at.returns-clause-tangents c).After-check_lists-checked in
-    let e = c.in-Accepted.is in
-    rw e (made (asHalfedges a.h.now) a.pos.now a.normals.now a.face_normals.now a.refs.now a.sharp.now a.t.now a.old a.n a.p (lists k e).sound (entries k e) (lists k e).smooth c.sharp_smoothness.ensures c.make_tangents.ensures.tangents)
+    let k = goal.at.returns-clause-tangents c in
+    (answered k.After-answer-2 (checked-is k.After-check_lists-checked)).1
+
+pub returns-clause-bound : goal.returns-clause-bound
+returns-clause-bound c =
+    let k = goal.at.returns-clause-bound c in
+    (answered k.After-answer-2 (checked-is k.After-check_lists-checked)).2
 
 pub returns-clause-values : goal.returns-clause-values
 returns-clause-values c =
-    values-same (checked-is (goal.at.returns-clause-values c).After-check_lists-checked)
+    let k = goal.at.returns-clause-values c in
+    values-of _ _ (answered k.After-answer-2 (checked-is k.After-check_lists-checked)).0

@@ -1,7 +1,6 @@
 -- `create_initial::first_tangent` meets its contract: each way is what the test picks. Assumes nothing.
 use Rattle.smoothing.proofs.Edges.{inside-quad-in}
-use Rattle.smoothing.proofs.Directions.{tangent-of}
-use Rattle.create_initial.specs.First.{firstTangent}
+use Rattle.create_initial.specs.First.{firstTangent, firstDirectionless}
 use Rattle.create_initial.proofs.first_tangent.Goals as goal
 
 pub is_inside_quad-requires : goal.is_inside_quad-requires
@@ -10,11 +9,11 @@ is_inside_quad-requires c =
     inside-quad-in _ _ _ _ z.1.lists.sound z.1.lists.whole z.1.lists.tangents _ z.0
 
 pub returns-then-is_inside_quad : goal.returns-then-is_inside_quad
-unfolding firstTangent
+unfolding firstTangent firstDirectionless
 returns-then-is_inside_quad c =
-    simp (← c.is_inside_quad.ensures, c.if-is_inside_quad.true) c.inside_quad_tangent.ensures
+    simp (← c.is_inside_quad.ensures, c.if-is_inside_quad.true, c.inside_quad_tangent.ensures)
 
 pub returns : goal.returns
-unfolding firstTangent
+unfolding firstTangent firstDirectionless
 returns c =
-    simp (← c.is_inside_quad.ensures, c.if-is_inside_quad.false, ← c.normal_at-normal.ensures) (tangent-of c.tangent_from_normal.ensures)
+    simp (← c.is_inside_quad.ensures, c.if-is_inside_quad.false, ← c.normal_at-normal.ensures) c.tangent_from_normal.ensures

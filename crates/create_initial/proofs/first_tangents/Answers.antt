@@ -15,4 +15,8 @@ pub returns : goal.returns
 returns c =
     let f = c.flat_faces in
     let q : f.new.flat ≡ flatFlags (asHalfedges c.args.h.now) c.args.refs.now c.args.n = f.ensures ∙ ap (flatFlags (asHalfedges c.args.h.now) c.args.refs.now) c.requires.1 in
-    (q, first-is c.requires.0 c.args.refs.now f.new.flat c.vert_flat_face.new.at (f.auto.flat ∙ c.requires.1) c.vert_flat_face.ensures c.args.old _ (ap isFlat q ∙ flags-same (asHalfedges c.args.h.now) c.args.refs.now c.args.n) c.put_first_tangents.ensures)
+    record {
+      flat = q;
+      tangents = first-is c.requires.0 c.args.refs.now f.new.flat c.vert_flat_face.new.at (f.auto.flat ∙ c.requires.1) c.vert_flat_face.ensures c.args.old _ (ap isFlat q ∙ flags-same (asHalfedges c.args.h.now) c.args.refs.now c.args.n) c.put_first_tangents.ensures.tangents;
+      directionless = c.put_first_tangents.ensures.directionless;
+    }

@@ -1,24 +1,32 @@
--- `create_initial::put_edge` meets its contract: each way is what the test picks. Assumes nothing.
-use mathlib.Core.Path.{◌≡◌, ap}
-use mathlib.Core.Bool.{false}
-use Rattle.mesh.specs.Mesh.{asHalfedges}
-use Rattle.smoothing.specs.declared.TwoTangents.{TwoTangents}
+-- `create_initial::put_edge` meets its contract: each way is what the tests pick. Assumes nothing.
+use mathlib.Core.Path.{sym, ◌∙◌}
 use Rattle.smoothing.specs.Inner.{putEdge}
-use Rattle.create_initial.specs.Lent.{firstAt, edgeTangents}
+use Rattle.create_initial.specs.Lent.{edgeDirectionless}
+use Rattle.create_initial.proofs.First.{edge-put, edge-adds}
 use Rattle.create_initial.proofs.put_edge.Goals as goal
 
-pub returns-then-not-is_forward : goal.returns-then-not-is_forward
+pub returns-then-not-is_forward-clause-tangents : goal.returns-then-not-is_forward-clause-tangents
 unfolding putEdge
-returns-then-not-is_forward c =
+returns-then-not-is_forward-clause-tangents c =
     simp (← c.is_forward.ensures, c.if-not-is_forward.true)
 
-pub returns : goal.returns
-unfolding putEdge edgeTangents
-returns c =
-    let z = c.args in
-    let tangents = c.edge_tangents-tangents in
-    let first = firstAt (asHalfedges z.h.now) z.pos.now z.normals.now z.face_normals.now z.refs.now z.at.now z.t.now false in
-    let pair = c.paired_halfedge-pair in
-    let here : tangents.result.here ≡ first z.e = ap (λ (t : TwoTangents). t.here) tangents.ensures in
-    let there : tangents.result.there ≡ first pair.result = rw pair.ensures (ap (λ (t : TwoTangents). t.there) tangents.ensures) in
-    simp (← c.is_forward.ensures, c.if-not-is_forward.false, ← pair.ensures, ← here, ← there, ← c.put_tangent.ensures) c.put_tangent-2.ensures
+pub returns-then-not-is_forward-clause-directionless : goal.returns-then-not-is_forward-clause-directionless
+unfolding edgeDirectionless
+returns-then-not-is_forward-clause-directionless c =
+    simp (← c.is_forward.ensures, c.if-not-is_forward.true)
+
+pub returns-then-tangents-clause-tangents : goal.returns-then-tangents-clause-tangents
+returns-then-tangents-clause-tangents c =
+    edge-put _ _ _ _ _ _ _ _ c.edge_tangents-tangents.ensures (sym c.is_forward.ensures ∙ c.if-not-is_forward.false) c.paired_halfedge-pair.ensures c.put_tangent.ensures c.put_tangent-2.ensures
+
+pub returns-then-tangents-clause-directionless : goal.returns-then-tangents-clause-directionless
+returns-then-tangents-clause-directionless c =
+    edge-adds _ _ _ _ _ _ _ _ c.edge_tangents-tangents.ensures (sym c.is_forward.ensures ∙ c.if-not-is_forward.false) c.if-tangents.true
+
+pub returns-else-tangents-clause-tangents : goal.returns-else-tangents-clause-tangents
+returns-else-tangents-clause-tangents c =
+    edge-put _ _ _ _ _ _ _ _ c.edge_tangents-tangents.ensures (sym c.is_forward.ensures ∙ c.if-not-is_forward.false) c.paired_halfedge-pair.ensures c.put_tangent.ensures c.put_tangent-2.ensures
+
+pub returns-else-tangents-clause-directionless : goal.returns-else-tangents-clause-directionless
+returns-else-tangents-clause-directionless c =
+    edge-adds _ _ _ _ _ _ _ _ c.edge_tangents-tangents.ensures (sym c.is_forward.ensures ∙ c.if-not-is_forward.false) c.if-tangents.false

@@ -5,4 +5,8 @@ use Rattle.create_sharpen.proofs.shape_through.Goals as goal
 pub returns : goal.returns
 unfolding shapeThrough
 returns c =
-    simp (← c.new_tangent-dir.ensures, ← c.align_tangents.ensures, ← c.sharpen_sides.ensures)
+    let aligned = c.align_tangents-directionless.ensures in
+    record {
+      tangents = simp (← c.new_tangent-dir.ensures, ← aligned.tangents, ← c.sharpen_sides.ensures);
+      directionless = aligned.directionless;
+    }

@@ -3,7 +3,9 @@ use Rattle.create_shared.specs.Faces.{isFlat}
 use Rattle.create_shared.specs.Makings.{tangentsOf}
 use Rattle.create_sharpen.proofs.Lent.{making-in, crease-in, crease-apart}
 use Rattle.create_creases.proofs.Points.{first-is}
-use mathlib.Core.Path.{◌∙◌}
+use Rattle.create_sharpen.specs.Shapes.{creaseDirectionless}
+use Rattle.mesh.specs.Mesh.{asHalfedges}
+use mathlib.Core.Path.{ap, ◌∙◌}
 use Rattle.create_sharpen.proofs.shape_vert.Goals as goal
 
 pub shape_crease-requires : goal.shape_crease-requires
@@ -19,5 +21,8 @@ returns c =
     let k = c.crease_at-crease in
     let a = c.args in
     let first = c.first_crease-first.ensures ∙ first-is c.requires.1.creases a.v c.requires.0 in
-    rw first at c.shape_crease.ensures
-    ∙ crease-apart c.requires.1.creases.lists.sound a.pos.now (isFlat a.flat.now) a.smooth.now a.v (tangentsOf a.t.now a.fixed.now) k.result k.ensures
+    record {
+      tangents = rw first at c.shape_crease.ensures.tangents
+          ∙ crease-apart c.requires.1.creases.lists.sound a.pos.now (isFlat a.flat.now) a.smooth.now a.v (tangentsOf a.t.now a.fixed.now) k.result k.ensures;
+      directionless = c.shape_crease.ensures.directionless ∙ ap (creaseDirectionless (asHalfedges a.h.now) a.pos.now) k.ensures;
+    }

@@ -5,4 +5,4 @@ use Rattle.distribute_steps.proofs.edge_direction.Goals as goal
 pub returns : goal.returns
 unfolding edgeDirection
 returns c =
-    rw (c.safe_normalize.ensures, c.sub.ensures, c.point_at-center.ensures, c.start_vert.ensures, c.point_at-end.ensures, c.end_vert.ensures)
+    rw (c.unit_vector.ensures, c.sub.ensures, c.point_at-center.ensures, c.start_vert.ensures, c.point_at-end.ensures, c.end_vert.ensures)

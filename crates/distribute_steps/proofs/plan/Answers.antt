@@ -4,4 +4,4 @@ use Rattle.distribute_steps.proofs.plan.Goals as goal
 
 pub returns-clause-result_value : goal.returns-clause-result_value
 returns-clause-result_value c =
-    rw (c.safe_normalize.ensures, c.offset_of-offset.ensures, c.scale_of-scale.ensures) (plan-of _ _ _ _ c.args.g c.requires.0)
+    rw (c.unit_vector-axis.ensures, c.offset_of-offset.ensures, c.scale_of-scale.ensures) (plan-of _ _ _ _ c.args.g c.requires.0)

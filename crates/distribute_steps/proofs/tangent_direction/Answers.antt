@@ -5,4 +5,4 @@ use Rattle.distribute_steps.proofs.tangent_direction.Goals as goal
 pub returns : goal.returns
 unfolding tangentDirection
 returns c =
-    rw (c.safe_normalize.ensures, c.vec3_from_vec4.ensures)
+    rw (c.unit_vector.ensures, c.vec3_from_vec4.ensures)

@@ -1,9 +1,8 @@
 -- `normals_state::put_unit` meets its contract: the code is the definition. Assumes nothing.
-use Rattle.smoothing.proofs.Directions.{vec-of}
 use Rattle.normals_state.specs.Units.{putUnit}
 use Rattle.normals_state.proofs.put_unit.Goals as goal
 
 pub returns : goal.returns
 unfolding putUnit
 returns c =
-    simp (← c.point_at.ensures, ← vec-of c.safe_normalize.ensures)
+    simp (← c.point_at.ensures, ← c.unit_vector-unit.ensures)

@@ -2,7 +2,10 @@
 use Rattle.normals_steps.specs.Steps.{fillStep}
 use Rattle.normals_steps.proofs.fill_step.Goals as goal
 
-pub returns : goal.returns
+pub returns-clause-fill : goal.returns-clause-fill
 unfolding fillStep
-returns c =
-    simp (← c.put_fill_tangent.ensures, ← c.get_normal.ensures, ← c.normal_or.ensures)
+returns-clause-fill c =
+    simp (← c.put_fill_tangent-directionless.ensures.tangents, ← c.get_normal.ensures, ← c.normal_or-next.ensures)
+
+pub returns-clause-directionless : goal.returns-clause-directionless
+returns-clause-directionless c = c.put_fill_tangent-directionless.ensures.directionless

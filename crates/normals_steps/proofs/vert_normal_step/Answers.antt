@@ -1,14 +1,21 @@
 -- `normals_steps::vert_normal_step` meets its contract: each way is what the test picks. Assumes nothing.
 use Rattle.smoothing.proofs.Directions.{tangent-of}
-use Rattle.normals_steps.specs.Steps.{vertNormalStep}
+use Rattle.normals_steps.specs.Steps.{vertNormalStep, vertNormalDirectionless}
+use Rattle.normals_steps.proofs.Counts.{circular-count}
+use mathlib.Core.Path.{refl}
 use Rattle.normals_steps.proofs.vert_normal_step.Goals as goal
 
 pub returns-then-is_marked_inside_quad : goal.returns-then-is_marked_inside_quad
-unfolding vertNormalStep
+unfolding vertNormalStep vertNormalDirectionless
 returns-then-is_marked_inside_quad c =
-    simp (← c.is_marked_inside_quad.ensures, c.if-is_marked_inside_quad.true)
+    simp (← c.is_marked_inside_quad.ensures, c.if-is_marked_inside_quad.true) (record { tangents = refl; directionless = refl })
 
-pub returns : goal.returns
+pub returns-clause-tangents : goal.returns-clause-tangents
 unfolding vertNormalStep
-returns c =
-    simp (← c.is_marked_inside_quad.ensures, c.if-is_marked_inside_quad.false, ← tangent-of c.tangent_from_normal.ensures) c.put_tangent.ensures
+returns-clause-tangents c =
+    simp (← c.is_marked_inside_quad.ensures, c.if-is_marked_inside_quad.false, ← tangent-of c.tangent_from_normal-made.ensures) c.put_tangent.ensures
+
+pub returns-clause-directionless : goal.returns-clause-directionless
+unfolding vertNormalDirectionless
+returns-clause-directionless c =
+    simp (← c.is_marked_inside_quad.ensures, c.if-is_marked_inside_quad.false) (circular-count _ _ _ c.tangent_from_normal-made.ensures c.one_if.ensures.0)

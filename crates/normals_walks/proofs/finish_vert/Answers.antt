@@ -1,22 +1,51 @@
 -- `normals_walks::finish_vert` meets its contract: each way is what the test picks. Assumes nothing.
-use Rattle.normals_walks.specs.Walks.{finishVert}
+use native.Mathlib.Omega.{arith}
+use Rattle.mesh.specs.Mesh.{asHalfedges}
+use Rattle.normals_state.specs.State.{getNormal}
+use Rattle.normals_steps.proofs.Counts.{face-edges-two}
+use Rattle.normals_walks.specs.Walks.{finishVert, finishVertDirectionless}
 use Rattle.normals_walks.proofs.Lent.{faces-lists, making-in}
+use Rattle.normals_walks.proofs.Bound.{fill-missing-few}
 use Rattle.normals_walks.proofs.finish_vert.Goals as goal
 
 pub vert_normal_walk-requires : goal.vert_normal_walk-requires
 vert_normal_walk-requires c =
     let p = c.requires in (p.0, faces-lists p.3)
 
-pub returns-then-both : goal.returns-then-both
+pub returns-then-both-clause-tangents : goal.returns-then-both-clause-tangents
 unfolding finishVert
-returns-then-both c =
-    simp (← c.some_missing.ensures, ← c.is_zero.ensures, ← c.both.ensures, c.if-both.true, ← c.point_at-normal.ensures, ← c.vert_normal_walk.ensures)
+returns-then-both-clause-tangents c =
+    simp (← c.some_missing.ensures, ← c.is_zero.ensures, ← c.both.ensures, c.if-both.true, ← c.point_at-normal.ensures, ← c.vert_normal_walk.ensures.tangents)
 
-pub align_face_edges-requires : goal.align_face_edges-requires
-align_face_edges-requires c =
-    let p = c.requires in (p.2.face-edges, making-in p.3 c.fill_missing.auto.t p.4)
+pub returns-then-both-clause-directionless : goal.returns-then-both-clause-directionless
+unfolding finishVertDirectionless
+returns-then-both-clause-directionless c =
+    simp (← c.some_missing.ensures, ← c.is_zero.ensures, ← c.both.ensures, c.if-both.true, ← c.point_at-normal.ensures) c.vert_normal_walk.ensures.directionless
 
-pub returns : goal.returns
+pub align_face_edges-aligned-requires : goal.align_face_edges-aligned-requires
+align_face_edges-aligned-requires c =
+    let p = c.requires in (p.2.face-edges, making-in p.3 c.fill_missing-filled.auto.t p.4)
+
+pub overflow_add-result : goal.overflow_add-result
+overflow_add-result c =
+    let a = c.args in
+    let p = c.requires in
+    let H = asHalfedges a.h.now in
+    omega (
+      arith,
+      c.fill_missing-filled.ensures.directionless,
+      fill-missing-few p.3.state.missing.sound a.pos.now a.normals.now a.face_normals.now (getNormal a.h.now a.rows.now) a.state.last_normal a.t.now a.state.start_halfedge p.2.start-halfedge,
+      c.align_face_edges-aligned.ensures.directionless,
+      face-edges-two H a.pos.now a.state.face_edges,
+      p.3.tangents,
+    )
+
+pub returns-clause-tangents : goal.returns-clause-tangents
 unfolding finishVert
-returns c =
-    simp (← c.some_missing.ensures, ← c.is_zero.ensures, ← c.both.ensures, c.if-both.false, ← c.fill_missing.ensures) c.align_face_edges.ensures
+returns-clause-tangents c =
+    simp (← c.some_missing.ensures, ← c.is_zero.ensures, ← c.both.ensures, c.if-both.false, ← c.fill_missing-filled.ensures.tangents) c.align_face_edges-aligned.ensures.tangents
+
+pub returns-clause-directionless : goal.returns-clause-directionless
+unfolding finishVertDirectionless
+returns-clause-directionless c =
+    simp (← c.some_missing.ensures, ← c.is_zero.ensures, ← c.both.ensures, c.if-both.false, ← c.fill_missing-filled.ensures.directionless, ← c.align_face_edges-aligned.ensures.directionless)

@@ -1,40 +1,44 @@
--- Laws of `countBelow`, up to a count by an injection. Nothing of meshes is in it. Assumes nothing.
+-- Laws of `countBelow`, up to a count by an injection. Assumes nothing.
 use Prim.Native.Nat.{ℕ, zero, suc, ◌+◌, ◌*◌, ◌≤◌, ◌<◌}
-use native.Mathlib.Nat.{eq-or-lt_of_le}
-use native.Mathlib.Decide.{ℕ_discrete}
+use native.Mathlib.Decide.{ℕ_discrete, dec_lt}
 use native.Mathlib.Omega.{arith}
-use mathlib.Core.Path.{◌≡◌, refl, ap, ◌∙◌}
-use mathlib.Core.Logic.{◌⊎◌, inl, inr}
-use mathlib.Core.Bool.{Bool, true, false, not, ◌&&◌}
+use mathlib.Core.Path.{◌≡◌, refl, sym, ap, ◌∙◌}
+use mathlib.Core.Bool.{Bool, true, false, cond, not, ◌&&◌}
 use borrow.Author.Tests.{eq-eqb, ne_eqb}
 use lib.Dec.{eqb}
+use Rattle.common.specs.Count.{sum, countBelow}
+use Rattle.common.proofs.Sums.{sum-ext, sum-zero, sum-one, sum-le-n, sum-mono}
 use Rattle.common.proofs.Tests.{and-last}
-use Rattle.sharpen.specs.Entries.{countBelow}
+
+-- a test as a number
+pub one-at-most : (b : Bool) → cond b 1 0 ≤ 1
+one-at-most true = omega arith
+one-at-most false = omega arith
 
 module _ (t : ℕ → Bool) where
   count-yes : (k : ℕ) → t k ≡ true → countBelow t (suc k) ≡ countBelow t k + 1
-  unfolding countBelow
+  unfolding sum countBelow
   count-yes k e = rw e
 
   count-no : (k : ℕ) → t k ≡ false → countBelow t (suc k) ≡ countBelow t k
-  unfolding countBelow
+  unfolding sum countBelow
   count-no k e = rw e (omega arith)
 
-  grows : (n : ℕ) → countBelow t n ≤ countBelow t (suc n)
+  count-mono : (k n : ℕ) → k ≤ n → countBelow t k ≤ countBelow t n
   unfolding countBelow
-  grows n = omega arith
+  count-mono = sum-mono (λ k. cond (t k) 1 0)
 
-  pub count-mono : (k n : ℕ) → k ≤ n → countBelow t k ≤ countBelow t n
-  count-mono k zero h = let z : k ≡ 0 = omega arith in rw z (omega arith)
-  count-mono k (suc n) h = go (eq-or-lt_of_le h) (count-mono k n)
-    where
-      go : (k ≡ suc n) ⊎ (k < suc n) → (k ≤ n → countBelow t k ≤ countBelow t n) → countBelow t k ≤ countBelow t (suc n)
-      go (inl q) ih = rw q (omega arith)
-      go (inr q) ih = omega (arith, ih (omega arith), grows n)
+  pub count-within : (n : ℕ) → countBelow t n ≤ n
+  unfolding countBelow
+  count-within n = sum-le-n n (λ k. cond (t k) 1 0) (λ k l. one-at-most (t k))
+
+pub count-same : (s t : ℕ → Bool) (n : ℕ) → ((k : ℕ) → k < n → s k ≡ t k) → countBelow s n ≡ countBelow t n
+unfolding countBelow
+count-same s t n h = sum-ext n _ _ (λ k l. ap (λ (b : Bool). cond b 1 0) (h k l))
 
 -- each number below n passes a test or its negation
-pub count-not : (t : ℕ → Bool) (n : ℕ) → countBelow t n + countBelow (λ k. not (t k)) n ≡ n
-unfolding countBelow
+count-not : (t : ℕ → Bool) (n : ℕ) → countBelow t n + countBelow (λ k. not (t k)) n ≡ n
+unfolding sum countBelow
 count-not t zero = refl
 count-not t (suc n) = go (t n) refl (count-not t n)
   where
@@ -42,10 +46,17 @@ count-not t (suc n) = go (t n) refl (count-not t n)
     go true e ih = omega (arith, count-yes t n e, count-no (λ k. not (t k)) n (ap not e))
     go false e ih = omega (arith, count-no t n e, count-yes (λ k. not (t k)) n (ap not e))
 
-pub count-same : (s t : ℕ → Bool) (n : ℕ) → ((k : ℕ) → k < n → s k ≡ t k) → countBelow s n ≡ countBelow t n
+-- one number at most is e
+pub count-value : (e n : ℕ) → countBelow (eqb e) n ≤ 1
 unfolding countBelow
-count-same s t zero h = refl
-count-same s t (suc n) h = rw (count-same s t n (λ k l. h k (omega arith)), h n (omega arith))
+count-value e n = go (dec_lt e n)
+  where
+    other : (j : ℕ) → (e ≡ j → ⊥) → ◌≡◌ {A = ℕ} (cond (eqb e j) 1 0) 0
+    other j q = rw (ne_eqb e j q)
+
+    go : Dec (e < n) → sum n (λ j. cond (eqb e j) 1 0) ≤ 1
+    go (yes l) = omega (arith, sum-one n (λ j. cond (eqb e j) 1 0) e l (λ j b q. other j (λ r. q (sym r))), one-at-most (eqb e e))
+    go (no l) = omega (arith, sum-zero n (λ j. cond (eqb e j) 1 0) (λ j b. other j (λ r. omega arith)))
 
 -- ---- one number less passes
 
@@ -74,7 +85,7 @@ count-without d j (suc m) h e = go (ℕ_discrete m j) (count-without d j m)
 
 module _ (f : ℕ → ℕ) (m : ℕ) (c : ℕ → Bool) where
   pub count-inject : (n : ℕ) (d : ℕ → Bool) → ((e : ℕ) → e < n → c e ≡ true → (f e < m) × (d (f e) ≡ true)) → ((a b : ℕ) → a < n → b < n → f a ≡ f b → a ≡ b) → countBelow c n ≤ countBelow d m
-  unfolding countBelow
+  unfolding sum countBelow
   count-inject zero d to one = omega arith
   count-inject (suc n) d to one = go (c n) refl (λ g to'. count-inject n g to' (λ a b h k. one a b (omega arith) (omega arith)))
     where
