@@ -281,6 +281,12 @@ def later_calls():
     return out
 
 
+def turns_of_oracle(oracle):
+    """Change request 4: 1,640 calls at the thresholds of `rem_pio2`, then random ones about its ways, as the oracle makes them."""
+    made = subprocess.run([oracle, "gen", "rem", "4", "5000"], capture_output=True, text=True, check=True).stdout.split("\n")
+    return [(name, [int(x, 16)]) for name, x in (line.split() for line in made if line)]
+
+
 def calls():
     out = []
     for name, inputs in (("sqrt", squares()), ("sin", angles()), ("cos", angles()), ("rem", angles()), ("acos", cosines()), ("round", halves())):
@@ -300,7 +306,7 @@ def answers(command, made):
 
 
 def main():
-    made = calls() + later_calls()
+    made = calls() + later_calls() + turns_of_oracle(sys.argv[1])
     with tempfile.TemporaryDirectory() as folder:
         program = os.path.join(folder, "float_leaves")
         source = os.path.join(os.path.dirname(os.path.abspath(__file__)), "float_leaves.rs")

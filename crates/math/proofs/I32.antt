@@ -1,9 +1,9 @@
 -- Signed 32-bit numbers by their bits: one less, one more, and the number modulo 4. Assumes nothing.
-use Prim.Native.Nat.{ℕ, zero, suc, ◌-◌, ◌%◌, ◌<◌}
+use Prim.Native.Nat.{ℕ, zero, suc, ◌-◌, ◌%◌, ◌<◌, ◌≤◌}
 use native.Mathlib.Omega.{arith}
 use mathlib.Core.Path.{◌≡◌, refl, ap, ◌∙◌}
 use borrow.Author.Tests.{eq-eqb, ne_eqb, lt-ltb}
-use lib.IntN.{ℤ, pos, negsuc, pred_ℤ, suc_ℤ, ◌-ℤ◌, ◌+ℤ◌, -ℤ_one, +ℤ_one}
+use lib.IntN.{ℤ, pos, negsuc, pred_ℤ, suc_ℤ, neg_ℤ, ◌-ℤ◌, ◌+ℤ◌, -ℤ_one, +ℤ_one}
 use lib.Signed.{mag}
 use lib.Bits.{bit_and, and_mask}
 use mir.Syntax.{w32}
@@ -15,6 +15,18 @@ use Rattle.math.specs.Trig.{quadrantOf}
 -- a number that fits, read back from its bits
 pub read-back : (z : ℤ) → mag z < 2147483648 → to_z w32 (of_z w32 z) ≡ z
 read-back z h = to_z-of_z w32 z (record { sfits = h })
+
+-- a small number, and the same negated
+pub small : (k : ℕ) → k ≤ 4 → to_z w32 k ≡ pos k
+small k h = let l : k < 2147483648 = omega arith in simp (lt-ltb k 2147483648 l)
+
+pub small-neg : (k : ℕ) → k ≤ 4 → to_z w32 (of_z w32 (pos 0 -ℤ to_z w32 k)) ≡ neg_ℤ (pos k)
+small-neg zero h = refl
+small-neg (suc zero) h = refl
+small-neg (suc (suc zero)) h = refl
+small-neg (suc (suc (suc zero))) h = refl
+small-neg (suc (suc (suc (suc zero)))) h = refl
+small-neg (suc (suc (suc (suc (suc k))))) h = absurd (let w : ⊥ = omega arith in w)
 
 -- ---- one less
 

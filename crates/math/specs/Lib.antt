@@ -2,5 +2,6 @@
 pub mod Consts
 pub mod Kernels
 pub mod Rem
+pub mod Turns
 pub mod Trig
 pub mod Acos

@@ -3,12 +3,14 @@
 // left out.
 #![tactic(auto)]
 
-ghost use Rattle.std.specs.Prelude.{◌≡◌, not, ◌<◌, T};
-ghost use Rattle.std.specs.Float.Ieee.{is_nan};
+ghost use Rattle.std.specs.Prelude.{◌≡◌, not, ◌<◌, ◌≤◌, T};
+ghost use Rattle.std.specs.Float.{binary64};
+ghost use Rattle.std.specs.Float.Ieee.{is_nan, of_int};
 ghost use Rattle.float.specs.F64.{bitsOf};
 ghost use Rattle.math.specs.Kernels.{absHighWord, signBit, sinKernel, cosKernel};
-ghost use Rattle.math.specs.Rem.{predI32, succI32, firstRemainder, nextRemainder, remainderValue, exponentField, nearestMultiple, lastRemainder, reducedOf, remPio2Medium, subtractMultiple, addMultiple, multipleBySign, remPio2Near, remPio2Far, remPio2Large, remPio2};
-ghost use Rattle.math.specs.Trig.{quadrantOf, sinReduced, cosReduced, sinOf, cosOf};
+ghost use Rattle.math.specs.Rem.{predI32, succI32, firstRemainder, nextRemainder, remainderValue, exponentField, nearestMultiple, lastRemainder, reducedOf, remPio2Medium, remPio2Large, remPio2};
+ghost use Rattle.math.specs.Turns.{nearTurns, farTurns, quarterTurns, signedTurns, quadrantKernel, sinTurned};
+ghost use Rattle.math.specs.Trig.{quadrantOf, sinOf, cosOf};
 ghost use Rattle.math.specs.Acos.{acosR, clearLowWord, acosBeyond, acosSmall, acosNegative, acosPositive, acosOf};
 
 const S1: f64 = -1.66666666666666324348e-01;
@@ -242,65 +244,63 @@ pub fn rem_pio2_medium(x: f64, ix: u64) -> RemPio2
     reduced(m.n, last_remainder(x, ix, m.f))
 }
 
-fn subtract_multiple(n: i32, x: f64, p: f64, t: f64) -> RemPio2
-    ensures { result ≡ subtractMultiple n x p t }
+// x less k quarter turns: the eight branches of `rem_pio2` near one to four quarter turns, either sign.
+fn subtract_quarter_turns(x: f64, k: i32) -> RemPio2
+    ensures { result ≡ reducedOf k (firstRemainder x (of_int binary64 k)) }
 {
-    let z = x - p;
-    let y0 = z - t;
-    RemPio2 {
-        n,
-        y0,
-        y1: (z - y0) - t,
-    }
+    reduced(k, first_remainder(x, k as f64))
 }
 
-fn add_multiple(n: i32, x: f64, p: f64, t: f64) -> RemPio2
-    ensures { result ≡ addMultiple n x p t }
-{
-    let z = x + p;
-    let y0 = z + t;
-    RemPio2 {
-        n,
-        y0,
-        y1: (z - y0) + t,
-    }
-}
-
-// n quarter turns taken off x, or m where x is negative.
-fn multiple_by_sign(n: i32, m: i32, x: f64, p: f64, t: f64) -> RemPio2
-    ensures { result ≡ multipleBySign n m x p t }
-{
-    if sign_bit(x) {
-        return add_multiple(m, x, p, t);
-    }
-    subtract_multiple(n, x, p, t)
-}
-
-fn rem_pio2_near(x: f64, ix: u64) -> RemPio2
-    ensures { result ≡ remPio2Near x ix }
+// How many quarter turns `rem_pio2` takes off, by the tests of its branches; 0 where these take the medium range's way.
+fn near_turns(ix: u64) -> u32
+    ensures { result ≡ nearTurns ix }
 {
     if ix % 0x10_0000 == 0x9_21fb {
-        return rem_pio2_medium(x, ix);
+        return 0;
     }
     if ix <= 0x4002_d97c {
-        return multiple_by_sign(1, -1, x, PIO2_1, PIO2_1T);
+        return 1;
     }
-    multiple_by_sign(2, -2, x, 2.0 * PIO2_1, 2.0 * PIO2_1T)
+    2
 }
 
-fn rem_pio2_far(x: f64, ix: u64) -> RemPio2
-    ensures { result ≡ remPio2Far x ix }
+fn far_turns(ix: u64) -> u32
+    ensures { result ≡ farTurns ix }
 {
     if ix <= 0x4015_fdbc {
         if ix == 0x4012_d97c {
-            return rem_pio2_medium(x, ix);
+            return 0;
         }
-        return multiple_by_sign(3, -3, x, 3.0 * PIO2_1, 3.0 * PIO2_1T);
+        return 3;
     }
     if ix == 0x4019_21fb {
-        return rem_pio2_medium(x, ix);
+        return 0;
     }
-    multiple_by_sign(4, -4, x, 4.0 * PIO2_1, 4.0 * PIO2_1T)
+    4
+}
+
+// The same for any `ix`; 0 also beyond the branches.
+fn quarter_turns(ix: u64) -> u32
+    ensures { result ≡ quarterTurns ix }
+{
+    if ix <= 0x400f_6a7a {
+        return near_turns(ix);
+    }
+    if ix <= 0x401c_463b {
+        return far_turns(ix);
+    }
+    0
+}
+
+// k, or -k where x is negative.
+fn signed_turns(k: u32, x: f64) -> i32
+    requires { k ≤ 4 }
+    ensures { result ≡ signedTurns k x }
+{
+    if sign_bit(x) {
+        return 0 - (k as i32);
+    }
+    k as i32
 }
 
 fn rem_pio2_large(x: f64) -> RemPio2
@@ -319,11 +319,9 @@ pub fn rem_pio2(x: f64) -> RemPio2
     ensures { result ≡ remPio2 x }
 {
     let ix = abs_high_word(x);
-    if ix <= 0x400f_6a7a {
-        return rem_pio2_near(x, ix);
-    }
-    if ix <= 0x401c_463b {
-        return rem_pio2_far(x, ix);
+    let k = quarter_turns(ix);
+    if k != 0 {
+        return subtract_quarter_turns(x, signed_turns(k, x));
     }
     if ix < 0x4139_21fb {
         return rem_pio2_medium(x, ix);
@@ -342,28 +340,30 @@ fn quadrant(n: i32) -> u32
     (n & 3) as u32
 }
 
-fn sin_reduced(t: RemPio2) -> f64
-    ensures { result ≡ sinReduced t }
+// The kernel that `sin` calls at the quadrant q.
+fn quadrant_kernel(q: u32, y0: f64, y1: f64) -> f64
+    ensures { result ≡ quadrantKernel q y0 y1 }
 {
-    let q = quadrant(t.n);
-    match q {
-        0 => sin_kernel(t.y0, t.y1, 1),
-        1 => cos_kernel(t.y0, t.y1),
-        2 => -sin_kernel(t.y0, t.y1, 1),
-        _ => -cos_kernel(t.y0, t.y1),
+    if q % 2 == 0 {
+        return sin_kernel(y0, y1, 1);
     }
+    cos_kernel(y0, y1)
 }
 
-fn cos_reduced(t: RemPio2) -> f64
-    ensures { result ≡ cosReduced t }
+// `sin` beyond pi / 4, by the Rust's `match`. The arms of `cos` are those of the next quadrant, one more, so that one copy
+// of this serves both.
+#[inline(never)]
+fn sin_turned(x: f64, more: u32) -> f64
+    requires { more ≤ 1 }
+    ensures { result ≡ sinTurned more (remPio2 x) }
 {
-    let q = quadrant(t.n);
-    match q {
-        0 => cos_kernel(t.y0, t.y1),
-        1 => -sin_kernel(t.y0, t.y1, 1),
-        2 => -cos_kernel(t.y0, t.y1),
-        _ => sin_kernel(t.y0, t.y1, 1),
+    let t = rem_pio2(x);
+    let q = quadrant(t.n) + more;
+    let value = quadrant_kernel(q, t.y0, t.y1);
+    if q % 4 < 2 {
+        return value;
     }
+    -value
 }
 
 pub fn sin(x: f64) -> f64
@@ -379,7 +379,7 @@ pub fn sin(x: f64) -> f64
     if ix >= 0x7ff0_0000 {
         return x - x;
     }
-    sin_reduced(rem_pio2(x))
+    sin_turned(x, 0)
 }
 
 pub fn cos(x: f64) -> f64
@@ -395,7 +395,7 @@ pub fn cos(x: f64) -> f64
     if ix >= 0x7ff0_0000 {
         return x - x;
     }
-    cos_reduced(rem_pio2(x))
+    sin_turned(x, 1)
 }
 
 fn acos_r(z: f64) -> f64

@@ -14,6 +14,7 @@ use lib.Ieee.Positive.{le→cross}
 use lib.Ieee.Order.{round_mono}
 use Rattle.float.specs.Ops.{◌⊕◌, ◌⊖◌, ◌⊗◌, ◌⊘◌, half, one, two, three}
 use Rattle.float.specs.F64.{maxOf}
+use Rattle.float.proofs.Signs.{round-neg}
 use Rattle.linalg.specs.declared.Vec3.{Vec3}
 use Rattle.mesh.specs.Questions.{signClear}
 use Rattle.smoothing.specs.Directions.{circularTangent}
@@ -25,11 +26,6 @@ unfolding odd signClear
 odd-clear d zero k l = refl
 odd-clear d (suc q) k l = refl
 
-odd-neg : (d q k l : ℕ) → odd d true q k l ≡ neg (odd d false q k l)
-unfolding odd neg
-odd-neg d zero k l = refl
-odd-neg d (suc q) k l = refl
-
 module _ (f : Format) where
   units-clear : (q k : ℕ) → signClear (units f false q k) ≡ true
   unfolding units signClear
@@ -39,19 +35,8 @@ module _ (f : Format) where
       go true = odd-clear (suc (prec f)) q k (low f)
       go false = refl
 
-  units-neg : (q k : ℕ) → units f true q k ≡ neg (units f false q k)
-  unfolding units neg
-  units-neg q k = go (ltb (q * 2 ^ k) (2 ^ (low f + suc (emax f))))
-    where
-      go : (b : Bool) → cond b (odd (suc (prec f)) true q k (low f)) (inf true) ≡ neg (cond b (odd (suc (prec f)) false q k (low f)) (inf false))
-      go true = odd-neg (suc (prec f)) q k (low f)
-      go false = refl
-
   round-clear : (a c : ℕ) → signClear (round f false a c) ≡ true
   round-clear a c = rw (round_is f false a c) (units-clear _ _)
-
-  round-neg : (a c : ℕ) → round f true a c ≡ neg (round f false a c)
-  round-neg a c = rw (round_is f true a c, round_is f false a c) (units-neg _ _)
 
 -- ---- the constants
 
@@ -94,7 +79,7 @@ round-one = refl
 -- a fraction of at most 1, rounded
 round-small : (a c : ℕ) → 0 < c → a ≤ c → Small (round binary64 true a c)
 round-small a c p h =
-    rw (round-neg binary64 a c)
+    rw (round-neg binary64 false a c)
     (neg-small (round binary64 false a c) (round-clear binary64 a c) (rw round-one at (round_mono binary64 a c 1 1 p (omega arith) (omega arith))))
 
 -- ---- the operations

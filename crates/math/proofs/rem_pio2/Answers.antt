@@ -1,27 +1,25 @@
 -- `math::rem_pio2` meets its contract: each way is what the tests pick. Assumes nothing.
-use borrow.Author.Tests.{le-leb, lt-leb, lt-ltb, le-ltb}
-use Rattle.math.specs.Rem.{remPio2}
+use borrow.Author.Tests.{eq-eqb, ne_eqb, lt-ltb, le-ltb, le-leb, lt-leb}
+use Rattle.math.proofs.I32.{read-back}
+use Rattle.math.proofs.Turns.{rem-way, at-most-4}
 use Rattle.math.proofs.rem_pio2.Goals as goal
 
-pub returns-then-ix-le1074752122 : goal.returns-then-ix-le1074752122
-unfolding remPio2
-returns-then-ix-le1074752122 c = simp (← c.abs_high_word-ix.ensures, le-leb _ _ c.if-ix-le1074752122.true) c.rem_pio2_near.ensures
+pub signed_turns-requires : goal.signed_turns-requires
+signed_turns-requires c = rw (c.quarter_turns-k.ensures) (at-most-4 c.abs_high_word-ix.result)
 
-pub returns-then-ix-le1075594811 : goal.returns-then-ix-le1075594811
-unfolding remPio2
-returns-then-ix-le1075594811 c = simp (← c.abs_high_word-ix.ensures, lt-leb _ _ c.if-ix-le1074752122.false, le-leb _ _ c.if-ix-le1075594811.true) c.rem_pio2_far.ensures
+pub returns-then-k-ne0 : goal.returns-then-k-ne0
+returns-then-k-ne0 c =
+    simp (rem-way c.args.x, ← c.abs_high_word-ix.ensures, ← c.quarter_turns-k.ensures, ne_eqb _ _ c.if-k-ne0.true, ← c.signed_turns.ensures)
+    (rw (read-back c.signed_turns.result c.signed_turns.type_inv) at c.subtract_quarter_turns.ensures)
 
 pub returns-then-ix-lt1094263291 : goal.returns-then-ix-lt1094263291
-unfolding remPio2
 returns-then-ix-lt1094263291 c =
-    simp (← c.abs_high_word-ix.ensures, lt-leb _ _ c.if-ix-le1074752122.false, lt-leb _ _ c.if-ix-le1075594811.false, lt-ltb _ _ c.if-ix-lt1094263291.true) c.rem_pio2_medium.ensures
+    simp (rem-way c.args.x, ← c.abs_high_word-ix.ensures, ← c.quarter_turns-k.ensures, eq-eqb _ _ c.if-k-ne0.false, lt-ltb _ _ c.if-ix-lt1094263291.true) c.rem_pio2_medium.ensures
 
 pub returns-then-ix-ge2146435072 : goal.returns-then-ix-ge2146435072
-unfolding remPio2
 returns-then-ix-ge2146435072 c =
-    simp (← c.abs_high_word-ix.ensures, lt-leb _ _ c.if-ix-le1074752122.false, lt-leb _ _ c.if-ix-le1075594811.false, le-ltb _ _ c.if-ix-lt1094263291.false, le-leb _ _ c.if-ix-ge2146435072.true)
+    simp (rem-way c.args.x, ← c.abs_high_word-ix.ensures, ← c.quarter_turns-k.ensures, eq-eqb _ _ c.if-k-ne0.false, le-ltb _ _ c.if-ix-lt1094263291.false, le-leb _ _ c.if-ix-ge2146435072.true)
 
 pub returns : goal.returns
-unfolding remPio2
 returns c =
-    simp (← c.abs_high_word-ix.ensures, lt-leb _ _ c.if-ix-le1074752122.false, lt-leb _ _ c.if-ix-le1075594811.false, le-ltb _ _ c.if-ix-lt1094263291.false, lt-leb _ _ c.if-ix-ge2146435072.false) c.rem_pio2_large.ensures
+    simp (rem-way c.args.x, ← c.abs_high_word-ix.ensures, ← c.quarter_turns-k.ensures, eq-eqb _ _ c.if-k-ne0.false, le-ltb _ _ c.if-ix-lt1094263291.false, lt-leb _ _ c.if-ix-ge2146435072.false) c.rem_pio2_large.ensures

@@ -1,6 +1,8 @@
 -- `math::sin` meets its contract: each way is what the tests pick. Assumes nothing.
 use borrow.Author.Tests.{le-leb, lt-leb, lt-ltb, le-ltb}
+use Rattle.math.specs.Rem.{remPio2}
 use Rattle.math.specs.Trig.{sinOf}
+use Rattle.math.proofs.Quadrants.{sin-is}
 use Rattle.math.proofs.sin.Goals as goal
 
 pub returns-then-ix-lt1045430272 : goal.returns-then-ix-lt1045430272
@@ -17,4 +19,5 @@ returns-then-ix-ge2146435072 c = simp (← c.abs_high_word-ix.ensures, lt-leb _ 
 
 pub returns : goal.returns
 unfolding sinOf
-returns c = simp (← c.abs_high_word-ix.ensures, lt-leb _ _ c.if-ix-le1072243195.false, lt-leb _ _ c.if-ix-ge2146435072.false, ← c.rem_pio2.ensures) c.sin_reduced.ensures
+returns c =
+    simp (← c.abs_high_word-ix.ensures, lt-leb _ _ c.if-ix-le1072243195.false, lt-leb _ _ c.if-ix-ge2146435072.false, ← sin-is (remPio2 c.args.x)) c.sin_turned.ensures

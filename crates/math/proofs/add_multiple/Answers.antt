@@ -1,9 +1,0 @@
--- `math::add_multiple` meets its contract: the code is the definition. Assumes nothing.
-use mir.Syntax.{w32}
-use mir.ValLaws.{to_z-of_z}
-use Rattle.math.specs.Rem.{addMultiple}
-use Rattle.math.proofs.add_multiple.Goals as goal
-
-pub returns : goal.returns
-unfolding addMultiple
-returns c = rw (to_z-of_z w32 c.args.n c.ranges.n)
