@@ -1,46 +1,46 @@
 -- Every line of document 01 that is marked (P) holds: what the definitions compute is what it states. antt computes both lists. Assumes nothing.
 use mathlib.Core.Path.{◌≡◌, refl}
 use lib.Ieee.{add, sub, mul, div, neg, lt, le, eq, ne, round, of_bits, to_bits}
-use Rattle.float.specs.F64.{maxOf, isFinite}
-use Rattle.sqrt.specs.Sqrt.{squareRoot}
-use Rattle.math.specs.Kernels.{absHighWord, signBit}
-use Rattle.math.specs.Trig.{sinOf, cosOf}
-use Rattle.math.specs.Acos.{acosOf, acosBeyond, acosSmall}
-use Rattle.linalg.specs.Vec.{add3, sub3, neg3, div3, dotOf, length2Of, lengthOf}
-use Rattle.mesh.specs.Mesh.{numberAt, indexOf, field, asHalfedges, nextHalfedge, prevHalfedge}
-use Rattle.mesh.specs.Lowest.{lowestFrom, lowest}
-use Rattle.common.specs.Fold.{foldTo}
-use Rattle.mesh.specs.Check.{checkMesh}
-use Rattle.smoothing.specs.Directions.{vec3FromVec4, isDegenerate, directionBy, safeNormalize, circularTangent}
-use Rattle.smoothing.specs.Lists.{pointAt, tangentAt, putTangent, weightAt}
-use Rattle.smoothing.specs.Edges.{edgeVec}
-use Rattle.linearize.specs.Linearize.{withUnitWeight, linearized, linearizeEnd, linearizeEdge, linearizeAt, linearizeFlatTangents}
-use Rattle.validate.specs.Validate.{noMarkedNeighbor, validAt, validTangents}
-use Rattle.mesh.specs.Check.{checkFlags}
-use Rattle.linalg.specs.Vec.{crossOf}
-use Rattle.cycles.specs.Cycles.{nextAround}
-use Rattle.distribute_spread.specs.Spread.{firstWalk, fixedFrom, pass, secondWalk, spread, spreadFrom, spreadOn, walksFrom}
-use Rattle.distribute_steps.specs.FloatSteps.{begin, nextNormal, gatherEdge, turnsNone, tangentDirection}
-use Rattle.distribute.specs.Distribute.{checkLists}
-use Rattle.cases.specs.Lines.{lines, computedOf, statedOf}
+use Rattle.float.specs.F64.{max_of, is_finite}
+use Rattle.sqrt.specs.Sqrt.{square_root}
+use Rattle.math.specs.Kernels.{abs_high_word, sign_bit}
+use Rattle.math.specs.Trig.{sin_of, cos_of}
+use Rattle.math.specs.Acos.{acos_of, acos_beyond, acos_small}
+use Rattle.linalg.specs.Vec.{add3, sub3, neg3, div3, dot_of, length2_of, length_of}
+use Rattle.mesh.specs.Mesh.{number_at, index_of, field, as_halfedges, next_halfedge, prev_halfedge}
+use Rattle.mesh.specs.Lowest.{lowest_from, lowest}
+use Rattle.common.specs.Fold.{fold_to}
+use Rattle.mesh.specs.Check.{check_mesh}
+use Rattle.smoothing.specs.Directions.{vec3_from_vec4, is_degenerate, direction_by, safe_normalize, circular_tangent}
+use Rattle.smoothing.specs.Lists.{point_at, tangent_at, put_tangent, weight_at}
+use Rattle.smoothing.specs.Edges.{edge_vec}
+use Rattle.linearize.specs.Linearize.{with_unit_weight, linearized, linearize_end, linearize_edge, linearize_at, linearize_flat_tangents}
+use Rattle.validate.specs.Validate.{no_marked_neighbor, valid_at, valid_tangents}
+use Rattle.mesh.specs.Check.{check_flags}
+use Rattle.linalg.specs.Vec.{cross_of}
+use Rattle.cycles.specs.Cycles.{next_around}
+use Rattle.distribute_spread.specs.Spread.{first_walk, fixed_from, pass, second_walk, spread, spread_from, spread_on, walks_from}
+use Rattle.distribute_steps.specs.FloatSteps.{begin, next_normal, gather_edge, turns_none, tangent_direction}
+use Rattle.distribute.specs.Distribute.{check_lists}
+use Rattle.cases.specs.Lines.{lines, computed_of, stated_of}
 
 -- what the lines compute with
 unfoldable pub floats : Unit {0}
-unfolding add sub mul div neg lt le eq ne round of_bits to_bits maxOf isFinite squareRoot absHighWord signBit sinOf cosOf acosOf acosBeyond acosSmall
+unfolding add sub mul div neg lt le eq ne round of_bits to_bits max_of is_finite square_root abs_high_word sign_bit sin_of cos_of acos_of acos_beyond acos_small
 floats = tt
 
 unfoldable pub meshes : Unit {0}
-unfolding numberAt indexOf field asHalfedges nextHalfedge prevHalfedge lowestFrom lowest foldTo checkMesh
+unfolding number_at index_of field as_halfedges next_halfedge prev_halfedge lowest_from lowest fold_to check_mesh
 meshes = tt
 
 unfoldable pub calls : Unit {0}
-unfolding add3 sub3 neg3 div3 dotOf length2Of lengthOf vec3FromVec4 isDegenerate directionBy safeNormalize circularTangent pointAt tangentAt putTangent weightAt edgeVec withUnitWeight linearized linearizeEnd linearizeEdge linearizeAt linearizeFlatTangents noMarkedNeighbor validAt validTangents
+unfolding add3 sub3 neg3 div3 dot_of length2_of length_of vec3_from_vec4 is_degenerate direction_by safe_normalize circular_tangent point_at tangent_at put_tangent weight_at edge_vec with_unit_weight linearized linearize_end linearize_edge linearize_at linearize_flat_tangents no_marked_neighbor valid_at valid_tangents
 calls = tt
 
 unfoldable pub spreads : Unit {0}
-unfolding checkFlags checkLists firstWalk fixedFrom pass secondWalk spread spreadFrom spreadOn walksFrom begin nextNormal gatherEdge turnsNone tangentDirection crossOf nextAround
+unfolding check_flags check_lists first_walk fixed_from pass second_walk spread spread_from spread_on walks_from begin next_normal gather_edge turns_none tangent_direction cross_of next_around
 spreads = tt
 
-pub lines-hold : computedOf lines ≡ statedOf lines
+pub lines_hold : computed_of lines ≡ stated_of lines
 unfolding floats meshes calls spreads
-lines-hold = refl
+lines_hold = refl

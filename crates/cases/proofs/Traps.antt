@@ -1,20 +1,20 @@
 -- The cases of document 01's trap of spreading's two walks hold. antt computes both lists. Assumes nothing.
 use mathlib.Core.Path.{◌≡◌, refl}
 use lib.Ieee.{of_int}
-use Rattle.math.specs.Kernels.{sinKernel, cosKernel}
-use Rattle.math.specs.Acos.{acosR, clearLowWord, acosPositive}
-use Rattle.linalg.specs.Vec.{scale3, qxdirOf, qydirOf, qzdirOf, qrotOf, normalizeOf, rotationQuatAxisAngle}
-use Rattle.smoothing.specs.Directions.{wrapOf, angleBetween}
-use Rattle.distribute_steps.specs.FloatSteps.{edgeDirection, lastOr, angleAround, nextCurrent, nextDesired, addOffset, scaleOf, offsetOf, plan, clampAngle, clampedAngle, turnAngle, turnedTangent, next}
-use Rattle.cases.specs.Lines.{computedOf, statedOf}
+use Rattle.math.specs.Kernels.{sin_kernel, cos_kernel}
+use Rattle.math.specs.Acos.{acos_r, clear_low_word, acos_positive}
+use Rattle.linalg.specs.Vec.{scale3, qxdir_of, qydir_of, qzdir_of, qrot_of, normalize_of, rotation_quat_axis_angle}
+use Rattle.smoothing.specs.Directions.{wrap_of, angle_between}
+use Rattle.distribute_steps.specs.FloatSteps.{edge_direction, last_or, angle_around, next_current, next_desired, add_offset, scale_of, offset_of, plan, clamp_angle, clamped_angle, turn_angle, turned_tangent, next}
+use Rattle.cases.specs.Lines.{computed_of, stated_of}
 use Rattle.cases.specs.Traps.{traps}
 use Rattle.cases.proofs.Hold.{floats, meshes, calls, spreads}
 
 -- what a turned tangent is computed with
 unfoldable turns : Unit {0}
-unfolding of_int sinKernel cosKernel acosR clearLowWord acosPositive scale3 qxdirOf qydirOf qzdirOf qrotOf normalizeOf rotationQuatAxisAngle wrapOf angleBetween edgeDirection lastOr angleAround nextCurrent nextDesired addOffset scaleOf offsetOf plan clampAngle clampedAngle turnAngle turnedTangent next
+unfolding of_int sin_kernel cos_kernel acos_r clear_low_word acos_positive scale3 qxdir_of qydir_of qzdir_of qrot_of normalize_of rotation_quat_axis_angle wrap_of angle_between edge_direction last_or angle_around next_current next_desired add_offset scale_of offset_of plan clamp_angle clamped_angle turn_angle turned_tangent next
 turns = tt
 
-pub traps-hold : computedOf traps ≡ statedOf traps
+pub traps_hold : computed_of traps ≡ stated_of traps
 unfolding floats meshes calls spreads turns
-traps-hold = refl
+traps_hold = refl

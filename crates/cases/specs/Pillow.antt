@@ -3,8 +3,8 @@ use Rattle.std.specs.Prelude.{List, [], ◌∷◌, replicate, Float}
 use Rattle.float.specs.Ops.{zero}
 
 -- all tangents 0
-abbrev pub noTangents : List Float
-noTangents = replicate 24 zero
+abbrev pub no_tangents : List Float
+no_tangents = replicate 24 zero
 
 -- tangents with direction 0 and these six weights
 abbrev pub weighted : List Float → List Float
@@ -12,9 +12,9 @@ weighted [] = []
 weighted (w ∷ ws) = zero ∷ zero ∷ zero ∷ w ∷ weighted ws
 
 -- a normal for each point, all 0
-abbrev pub zeroNormals : List Float
-zeroNormals = replicate 9 zero
+abbrev pub zero_normals : List Float
+zero_normals = replicate 9 zero
 
 -- a scratch list, with a place for each halfedge
-abbrev pub zeroAngles : List Float
-zeroAngles = replicate 6 zero
+abbrev pub zero_angles : List Float
+zero_angles = replicate 6 zero

@@ -14,8 +14,8 @@ module _ {A : Type 0} where
   more x zero (y ∷ d) l = refl
   more x (suc i) (y ∷ d) l = ap (λ (t : List A). x ∷ t) (more x i d (le_of_suc-le-suc l))
 
-  pub fill-again : (s d : List A) (x : A) (i : ℕ) → i < length d → s ≡ replicate i x ++ drop i d → set s i x ≡ replicate (i + 1) x ++ drop (i + 1) d
-  fill-again s d x i h e = rw (e, add-one i) (more x i d h)
+  pub fill_again : (s d : List A) (x : A) (i : ℕ) → i < length d → s ≡ replicate i x ++ drop i d → set s i x ≡ replicate (i + 1) x ++ drop (i + 1) d
+  fill_again s d x i h e = rw (e, add-one i) (more x i d h)
 
   pub filled : (s d : List A) (x : A) (i : ℕ) → i ≤ length d → length d ≤ i → s ≡ replicate i x ++ drop i d → s ≡ replicate (length d) x
   filled s d x i a b e =
@@ -24,8 +24,8 @@ module _ {A : Type 0} where
       rw (drop-length d, append-nil (replicate (length d) x)) at e'
 
   -- at a place of it
-  pub filled-at : (s : List A) (p : ℕ) (x d : A) (v : ℕ) → s ≡ replicate p x → v < length s → get_or s v d ≡ x
-  filled-at s p x d v e l =
+  pub filled_at : (s : List A) (p : ℕ) (x d : A) (v : ℕ) → s ≡ replicate p x → v < length s → get_or s v d ≡ x
+  filled_at s p x d v e l =
       let q : length s ≡ p = ap length e ∙ length-replicate p x in
       rw e (get_or-replicate p v x d (omega arith))
 

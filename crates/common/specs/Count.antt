@@ -7,5 +7,5 @@ sum zero f = 0
 sum (suc n) f = sum n f + f n
 
 -- how many of the numbers below n pass the test t
-unfoldable pub countBelow : (ℕ → Bool) → ℕ → ℕ
-countBelow t n = sum n (λ k. cond (t k) 1 0)
+unfoldable pub count_below : (ℕ → Bool) → ℕ → ℕ
+count_below t n = sum n (λ k. cond (t k) 1 0)

@@ -10,5 +10,5 @@ abbrev pub counted : {S : Type 0} → S → ℕ → Counted S
 counted s k = record { state = s; count = k }
 
 -- the body `step` of a fold, which counts what `more` says of the state that it finds
-unfoldable pub countStep : {S : Type 0} → (S → ℕ → S) → (S → ℕ → ℕ) → Counted S → ℕ → Counted S
-countStep step more m x = counted (step m.state x) (m.count + more m.state x)
+unfoldable pub count_step : {S : Type 0} → (S → ℕ → S) → (S → ℕ → ℕ) → Counted S → ℕ → Counted S
+count_step step more m x = counted (step m.state x) (m.count + more m.state x)

@@ -7,22 +7,22 @@ use lib.IntN.{ℤ, pos}
 use lib.Ieee.{Float, neg, of_bits}
 use Rattle.float.specs.Ops.{zero, one, half}
 use Rattle.common.specs.Pillow.{pillow, refs}
-use Rattle.mesh.specs.Mesh.{nextHalfedge, numberAt, indexOf, field, asHalfedges}
-use Rattle.mesh.specs.Lowest.{lowest, lowestFrom}
-use Rattle.mesh.specs.Questions.{signClear}
-use Rattle.mesh.specs.Check.{checkMesh, checkRefs, checkEntries}
+use Rattle.mesh.specs.Mesh.{next_halfedge, number_at, index_of, field, as_halfedges}
+use Rattle.mesh.specs.Lowest.{lowest, lowest_from}
+use Rattle.mesh.specs.Questions.{sign_clear}
+use Rattle.mesh.specs.Check.{check_mesh, check_refs, check_entries}
 use Rattle.mesh.specs.declared.Checked.{Checked}
 use Rattle.mesh.specs.declared.Checked.TheVariants.{Accepted, Refused}
-use Rattle.create.specs.Create.{checkCreate, checkLists}
+use Rattle.create.specs.Create.{check_create, check_lists}
 
 -- the answer, with so many places in the last scratch list, face references and sharp entries
 abbrev answer : ℕ → List ℤ → List ℕ → List Float → Checked
 answer k R entries values =
-    checkLists (asHalfedges pillow) (replicate 9 one) (replicate 9 one) (replicate 6 one) R entries values (replicate 24 one)
+    check_lists (as_halfedges pillow) (replicate 9 one) (replicate 9 one) (replicate 6 one) R entries values (replicate 24 one)
     (replicate 6 0) (replicate 6 0) (replicate 6 one) (replicate 6 one) (replicate 3 0) (replicate k 0) 6 3
 
 unfoldable all : Unit {0}
-unfolding checkCreate checkEntries checkRefs checkMesh lowest lowestFrom nextHalfedge numberAt indexOf field asHalfedges signClear neg of_bits
+unfolding check_create check_entries check_refs check_mesh lowest lowest_from next_halfedge number_at index_of field as_halfedges sign_clear neg of_bits
 all = tt
 
 accepted : answer 6 refs (0 ∷ 5 ∷ 0 ∷ []) (half ∷ one ∷ zero ∷ []) ≡ Accepted
@@ -30,9 +30,9 @@ unfolding all
 accepted = refl
 
 -- scratch is too long
-too-long : answer 7 refs [] [] ≡ Refused 2 0
+too_long : answer 7 refs [] [] ≡ Refused 2 0
 unfolding all
-too-long = refl
+too_long = refl
 
 -- more entries than values
 unequal : answer 6 refs (0 ∷ []) [] ≡ Refused 2 0
@@ -40,16 +40,16 @@ unfolding all
 unequal = refl
 
 -- triangle 1 has the mesh number 0
-no-mesh : answer 6 (map pos (1 ∷ 0 ∷ 0 ∷ 0 ∷ 1 ∷ 1 ∷ [])) (6 ∷ []) (half ∷ []) ≡ Refused 8 1
+no_mesh : answer 6 (map pos (1 ∷ 0 ∷ 0 ∷ 0 ∷ 1 ∷ 1 ∷ [])) (6 ∷ []) (half ∷ []) ≡ Refused 8 1
 unfolding all
-no-mesh = refl
+no_mesh = refl
 
 -- entry 1 names no halfedge
-no-halfedge : answer 6 refs (0 ∷ 6 ∷ []) (neg zero ∷ half ∷ []) ≡ Refused 9 1
+no_halfedge : answer 6 refs (0 ∷ 6 ∷ []) (neg zero ∷ half ∷ []) ≡ Refused 9 1
 unfolding all
-no-halfedge = refl
+no_halfedge = refl
 
 -- document 01's exact line: a smoothness of -0
-negative-zero : answer 6 refs (0 ∷ []) (neg zero ∷ []) ≡ Refused 10 0
+negative_zero : answer 6 refs (0 ∷ []) (neg zero ∷ []) ≡ Refused 10 0
 unfolding all
-negative-zero = refl
+negative_zero = refl

@@ -4,12 +4,12 @@
 
 ghost use Rattle.std.specs.Prelude.{◌≡◌, ◌*◌, ◌≤◌, length, replicate};
 ghost use Rattle.float.specs.Ops.{zero};
-ghost use Rattle.mesh.specs.Mesh.{asHalfedges};
-ghost use Rattle.mesh.specs.Check.{whenAccepted};
-ghost use Rattle.create_shared.specs.Answer.{directionlessOf, checkedOf, Values};
-ghost use Rattle.create_smoothness.specs.Entries.{entriesOf};
-ghost use Rattle.create_core.specs.Core.{createDirectionless};
-ghost use Rattle.create.specs.Create.{listsFit, scratchFits, checkCreate, checkLists, tangentsAfter, createAnswer};
+ghost use Rattle.mesh.specs.Mesh.{as_halfedges};
+ghost use Rattle.mesh.specs.Check.{when_accepted};
+ghost use Rattle.create_shared.specs.Answer.{directionless_of, checked_of, Values};
+ghost use Rattle.create_smoothness.specs.Entries.{entries_of};
+ghost use Rattle.create_core.specs.Core.{create_directionless};
+ghost use Rattle.create.specs.Create.{lists_fit, scratch_fits, check_create, check_lists, tangents_after, create_answer};
 
 use create_shared::Making;
 use mesh::Checked;
@@ -27,7 +27,7 @@ pub fn lists_fit(
     values: usize,
     tangents: usize,
 ) -> bool
-    ensures { result ≡ listsFit halfedges positions normals face_normals refs entries values tangents n p }
+    ensures { result ≡ lists_fit halfedges positions normals face_normals refs entries values tangents n p }
 {
     let lists = create_shared::mesh_lists_fit(
         n,
@@ -55,7 +55,7 @@ pub fn scratch_fits(
     at: usize,
     link: usize,
 ) -> bool
-    ensures { result ≡ scratchFits fixed flat smooth desired at link n p }
+    ensures { result ≡ scratch_fits fixed flat smooth desired at link n p }
 {
     let flags = common::both(mesh::has_length(fixed, n, 1), mesh::has_length(flat, n, 1));
     let angles = common::both(
@@ -79,7 +79,7 @@ fn scratch_lists_fit(
     at: &[usize],
     link: &[usize],
 ) -> bool
-    ensures { result ≡ scratchFits (length fixed.now) (length flat.now) (length smooth.now) (length desired.now) (length at.now) (length link.now) n p }
+    ensures { result ≡ scratch_fits (length fixed.now) (length flat.now) (length smooth.now) (length desired.now) (length at.now) (length link.now) n p }
 {
     scratch_fits(
         n,
@@ -103,7 +103,7 @@ fn check_create(
     values: &[f64],
     lengths: bool,
 ) -> Checked
-    ensures { result ≡ checkCreate (asHalfedges h.now) refs.now entries.now values.now n p lengths }
+    ensures { result ≡ check_create (as_halfedges h.now) refs.now entries.now values.now n p lengths }
 {
     let checked = mesh::check_mesh(h, n, p, lengths);
     mesh::check_entries(mesh::check_refs(checked, refs, n), entries, values, n)
@@ -132,16 +132,16 @@ pub fn create_tangents(
     at: &mut [usize],
     link: &mut [usize],
 ) -> Making
-    ensures answer { result ≡ createAnswer (asHalfedges h.now) pos.now normals.now face_normals.now refs.now entries.now values.now t.old fixed.old flat.old smooth.old desired.old at.old link.old old n p }
-    ensures tangents { t.new ≡ tangentsAfter (checkedOf result) (asHalfedges h.now) pos.now normals.now face_normals.now refs.now (entriesOf entries.now values.now) t.old old n p }
-    ensures fixed { fixed.new ≡ whenAccepted (checkedOf result) (replicate n 0) fixed.old }
-    ensures flat { flat.new ≡ whenAccepted (checkedOf result) (replicate n 0) flat.old }
-    ensures smooth { smooth.new ≡ whenAccepted (checkedOf result) (replicate n zero) smooth.old }
-    ensures desired { desired.new ≡ whenAccepted (checkedOf result) (replicate n zero) desired.old }
-    ensures at { at.new ≡ whenAccepted (checkedOf result) (replicate p 0) at.old }
-    ensures link { link.new ≡ whenAccepted (checkedOf result) (replicate n 0) link.old }
-    ensures bound { directionlessOf result ≤ 2 * n }
-    ensures values { Values (checkLists (asHalfedges h.now) pos.now normals.now face_normals.now refs.now entries.now values.now t.old fixed.old flat.old smooth.old desired.old at.old link.old n p) (createDirectionless (asHalfedges h.now) pos.now refs.now (entriesOf entries.now values.now) t.old old n p) result }
+    ensures answer { result ≡ create_answer (as_halfedges h.now) pos.now normals.now face_normals.now refs.now entries.now values.now t.old fixed.old flat.old smooth.old desired.old at.old link.old old n p }
+    ensures tangents { t.new ≡ tangents_after (checked_of result) (as_halfedges h.now) pos.now normals.now face_normals.now refs.now (entries_of entries.now values.now) t.old old n p }
+    ensures fixed { fixed.new ≡ when_accepted (checked_of result) (replicate n 0) fixed.old }
+    ensures flat { flat.new ≡ when_accepted (checked_of result) (replicate n 0) flat.old }
+    ensures smooth { smooth.new ≡ when_accepted (checked_of result) (replicate n zero) smooth.old }
+    ensures desired { desired.new ≡ when_accepted (checked_of result) (replicate n zero) desired.old }
+    ensures at { at.new ≡ when_accepted (checked_of result) (replicate p 0) at.old }
+    ensures link { link.new ≡ when_accepted (checked_of result) (replicate n 0) link.old }
+    ensures bound { directionless_of result ≤ 2 * n }
+    ensures values { Values (check_lists (as_halfedges h.now) pos.now normals.now face_normals.now refs.now entries.now values.now t.old fixed.old flat.old smooth.old desired.old at.old link.old n p) (create_directionless (as_halfedges h.now) pos.now refs.now (entries_of entries.now values.now) t.old old n p) result }
 {
     let lists = lists_fit(
         n,

@@ -6,19 +6,19 @@ use mathlib.Core.Bool.{Bool}
 use lib.IntN.{ℤ}
 use lib.Ieee.{Float}
 use Rattle.mesh.specs.Mesh.{Halfedges}
-use Rattle.smoothing.specs.Edges.{isInsideQuad}
-use Rattle.create_shared.specs.Makings.{Tangents, tangentsOf}
-use Rattle.create_core.specs.Shape.{shapedTangents}
-use Rattle.create_core.specs.Lent.{pairsOf}
-use Rattle.linearize.specs.Linearize.{linearizeFlatTangents}
-use Rattle.distribute.specs.Distribute.{spreadTangents}
-use Rattle.create_core.specs.Core.{createWith}
-use Rattle.create_core.specs.Filled.{createFilled}
+use Rattle.smoothing.specs.Edges.{is_inside_quad}
+use Rattle.create_shared.specs.Makings.{Tangents, tangents_of}
+use Rattle.create_core.specs.Shape.{shaped_tangents}
+use Rattle.create_core.specs.Lent.{pairs_of}
+use Rattle.linearize.specs.Linearize.{linearize_flat_tangents}
+use Rattle.distribute.specs.Distribute.{spread_tangents}
+use Rattle.create_core.specs.Core.{create_with}
+use Rattle.create_core.specs.Filled.{create_filled}
 
 -- the tangents U, where T and X are the tangents and the fixed flags before straightening, and O and S the tangents and the smoothness as lent
 pub created : (H : Halfedges) (P N A : List Float) (R : List ℤ) (S O : List Float) (old : Bool) (n p : ℕ) (T : List Float) (X : List ℕ) (U : List Float) (k : ℕ)
-    → tangentsOf T X ≡ shapedTangents H P N A R (isInsideQuad H R O old) (pairsOf H R S n) n k → k ≡ p → U ≡ (spreadTangents H P N X (linearizeFlatTangents H P T n) n).tangents
-    → U ≡ createFilled H P N A R S O old n p
-unfolding createFilled createWith
+    → tangents_of T X ≡ shaped_tangents H P N A R (is_inside_quad H R O old) (pairs_of H R S n) n k → k ≡ p → U ≡ (spread_tangents H P N X (linearize_flat_tangents H P T n) n).tangents
+    → U ≡ create_filled H P N A R S O old n p
+unfolding create_filled create_with
 created H P N A R S O old n p T X U k e q u =
-    u ∙ ap (λ (m : Tangents). (spreadTangents H P N m.fixed (linearizeFlatTangents H P m.tangents n) n).tangents) (e ∙ ap (λ (j : ℕ). shapedTangents H P N A R (isInsideQuad H R O old) (pairsOf H R S n) n j) q)
+    u ∙ ap (λ (m : Tangents). (spread_tangents H P N m.fixed (linearize_flat_tangents H P m.tangents n) n).tangents) (e ∙ ap (λ (j : ℕ). shaped_tangents H P N A R (is_inside_quad H R O old) (pairs_of H R S n) n j) q)

@@ -4,16 +4,16 @@
 
 ghost use Rattle.std.specs.Prelude.{◌≡◌, length, replicate};
 ghost use Rattle.float.specs.Ops.{zero};
-ghost use Rattle.mesh.specs.Mesh.{asHalfedges};
-ghost use Rattle.smoothing.specs.Edges.{isInsideQuad};
-ghost use Rattle.create_shared.specs.Makings.{tangentsOf};
-ghost use Rattle.linearize.specs.Linearize.{linearizeFlatTangents};
+ghost use Rattle.mesh.specs.Mesh.{as_halfedges};
+ghost use Rattle.smoothing.specs.Edges.{is_inside_quad};
+ghost use Rattle.create_shared.specs.Makings.{tangents_of};
+ghost use Rattle.linearize.specs.Linearize.{linearize_flat_tangents};
 ghost use Rattle.distribute_walks.specs.Walks.{Lists as SpreadLists};
-ghost use Rattle.distribute.specs.Distribute.{spreadTangents};
-ghost use Rattle.create_core.specs.Shape.{shapedTangents};
-ghost use Rattle.create_core.specs.Lent.{CreateLists, pairsOf};
-ghost use Rattle.create_core.specs.Core.{directionlessWith};
-ghost use Rattle.create_core.specs.Filled.{Lists, createFilled, filledDirectionless};
+ghost use Rattle.distribute.specs.Distribute.{spread_tangents};
+ghost use Rattle.create_core.specs.Shape.{shaped_tangents};
+ghost use Rattle.create_core.specs.Lent.{CreateLists, pairs_of};
+ghost use Rattle.create_core.specs.Core.{directionless_with};
+ghost use Rattle.create_core.specs.Filled.{Lists, create_filled, filled_directionless};
 
 // The tangents and the fixed flags, and the count, where `smooth` holds the smoothness of the caller's entries, and whatever the
 // flags and the other scratch lists held: `flat`, `smooth` and `link` with a place for each halfedge, `at` with one for each point.
@@ -32,9 +32,9 @@ fn shape_tangents(
     at: &mut [usize],
     link: &mut [usize],
 ) -> usize
-    requires { CreateLists (asHalfedges h.now) pos.now normals.now face_normals.now t.old fixed.old flat.old smooth.old at.old link.old n }
-    ensures tangents { tangentsOf t.new fixed.new ≡ shapedTangents (asHalfedges h.now) pos.now normals.now face_normals.now refs.now (isInsideQuad (asHalfedges h.now) refs.now t.old old) (pairsOf (asHalfedges h.now) refs.now smooth.old n) n (length at.old) }
-    ensures directionless { result ≡ directionlessWith (asHalfedges h.now) pos.now refs.now (pairsOf (asHalfedges h.now) refs.now smooth.old n) t.old old n (length at.old) }
+    requires { CreateLists (as_halfedges h.now) pos.now normals.now face_normals.now t.old fixed.old flat.old smooth.old at.old link.old n }
+    ensures tangents { tangents_of t.new fixed.new ≡ shaped_tangents (as_halfedges h.now) pos.now normals.now face_normals.now refs.now (is_inside_quad (as_halfedges h.now) refs.now t.old old) (pairs_of (as_halfedges h.now) refs.now smooth.old n) n (length at.old) }
+    ensures directionless { result ≡ directionless_with (as_halfedges h.now) pos.now refs.now (pairs_of (as_halfedges h.now) refs.now smooth.old n) t.old old n (length at.old) }
 {
     let first = create_initial::first_tangents(
         n,
@@ -67,8 +67,8 @@ fn finish_tangents(
     smooth: &mut [f64],
     desired: &mut [f64],
 )
-    requires { SpreadLists (asHalfedges h.now) pos.now normals.now fixed.now t.old smooth.old desired.old n p }
-    ensures tangents { t.new ≡ (spreadTangents (asHalfedges h.now) pos.now normals.now fixed.now (linearizeFlatTangents (asHalfedges h.now) pos.now t.old n) n).tangents }
+    requires { SpreadLists (as_halfedges h.now) pos.now normals.now fixed.now t.old smooth.old desired.old n p }
+    ensures tangents { t.new ≡ (spread_tangents (as_halfedges h.now) pos.now normals.now fixed.now (linearize_flat_tangents (as_halfedges h.now) pos.now t.old n) n).tangents }
     ensures smooth { smooth.new ≡ replicate n zero }
     ensures desired { desired.new ≡ replicate n zero }
 {
@@ -108,15 +108,15 @@ pub fn make_tangents(
     at: &mut [usize],
     link: &mut [usize],
 ) -> usize
-    requires { Lists (asHalfedges h.now) pos.now normals.now face_normals.now t.old fixed.old flat.old smooth.old desired.old at.old link.old n p }
-    ensures tangents { t.new ≡ createFilled (asHalfedges h.now) pos.now normals.now face_normals.now refs.now smooth.old t.old old n p }
+    requires { Lists (as_halfedges h.now) pos.now normals.now face_normals.now t.old fixed.old flat.old smooth.old desired.old at.old link.old n p }
+    ensures tangents { t.new ≡ create_filled (as_halfedges h.now) pos.now normals.now face_normals.now refs.now smooth.old t.old old n p }
     ensures fixed { fixed.new ≡ replicate n 0 }
     ensures flat { flat.new ≡ replicate n 0 }
     ensures smooth { smooth.new ≡ replicate n zero }
     ensures desired { desired.new ≡ replicate n zero }
     ensures at { at.new ≡ replicate p 0 }
     ensures link { link.new ≡ replicate n 0 }
-    ensures directionless { result ≡ filledDirectionless (asHalfedges h.now) pos.now refs.now smooth.old t.old old n p }
+    ensures directionless { result ≡ filled_directionless (as_halfedges h.now) pos.now refs.now smooth.old t.old old n p }
 {
     let directionless = shape_tangents(
         n,

@@ -3,51 +3,51 @@ use mathlib.Core.Path.{◌≡◌, refl}
 use mathlib.Core.List.{List, [], ◌∷◌}
 use lib.Ieee.{Float, lt, le, eq, ne, add, div, of_bits}
 use Rattle.float.specs.Ops.{zero, half, one, lit}
-use Rattle.float.specs.F64.{minOf}
-use Rattle.mesh.specs.Mesh.{numberAt, indexOf, field, asHalfedges}
-use Rattle.common.specs.Fold.{foldTo}
+use Rattle.float.specs.F64.{min_of}
+use Rattle.mesh.specs.Mesh.{number_at, index_of, field, as_halfedges}
+use Rattle.common.specs.Fold.{fold_to}
 use Rattle.common.specs.Pillow.{pillow}
 use Rattle.create_smoothness.specs.declared.Smoothness.{Smoothness}
-use Rattle.create_edges.specs.Edges.{sideOf, pairOf, andModify, orInsert, modify, keyOf, insert, edgesOf}
+use Rattle.create_edges.specs.Edges.{side_of, pair_of, and_modify, or_insert, modify, key_of, insert, edges_of}
 use Rattle.create_creases.specs.declared.Crease.TheVariants.{NoCrease, OneEnd, Through, Meeting}
-use Rattle.create_creases.specs.Creases.{pushAt, pushEdge, vertTangents, throughOf, addSides, sumsOf, meanOf, creaseOf}
+use Rattle.create_creases.specs.Creases.{push_at, push_edge, vert_tangents, through_of, add_sides, sums_of, mean_of, crease_of}
 
 -- 1/4, 5/8 and 3/4
 abbrev quarter : Float
 quarter = lit 0x3fd0_0000_0000_0000
 
-abbrev five-eighths : Float
-five-eighths = lit 0x3fe4_0000_0000_0000
+abbrev five_eighths : Float
+five_eighths = lit 0x3fe4_0000_0000_0000
 
-abbrev three-quarters : Float
-three-quarters = lit 0x3fe8_0000_0000_0000
+abbrev three_quarters : Float
+three_quarters = lit 0x3fe8_0000_0000_0000
 
 -- the edges 0-2, with 1/2 at halfedge 3, and 1-2, with 1/4 at halfedge 1
 abbrev entries : List Smoothness
-entries = sideOf 3 half ∷ sideOf 1 quarter ∷ []
+entries = side_of 3 half ∷ side_of 1 quarter ∷ []
 
 unfoldable all : Unit {0}
-unfolding vertTangents pushEdge pushAt foldTo edgesOf insert modify orInsert andModify keyOf minOf creaseOf throughOf meanOf sumsOf addSides field asHalfedges numberAt indexOf lt le eq ne add div of_bits
+unfolding vert_tangents push_edge push_at fold_to edges_of insert modify or_insert and_modify key_of min_of crease_of through_of mean_of sums_of add_sides field as_halfedges number_at index_of lt le eq ne add div of_bits
 all = tt
 
 -- at point 2 they are the halfedges 4 and 2: their forward halfedges 1 and 3 ascend, they themselves do not
-ascending : vertTangents (asHalfedges pillow) (edgesOf (asHalfedges pillow) entries) 6 2 ≡ pairOf (sideOf 4 one) (sideOf 1 quarter) ∷ pairOf (sideOf 2 one) (sideOf 3 half) ∷ []
+ascending : vert_tangents (as_halfedges pillow) (edges_of (as_halfedges pillow) entries) 6 2 ≡ pair_of (side_of 4 one) (side_of 1 quarter) ∷ pair_of (side_of 2 one) (side_of 3 half) ∷ []
 unfolding all
 ascending = refl
 
-goes-through : creaseOf (vertTangents (asHalfedges pillow) (edgesOf (asHalfedges pillow) entries) 6 2) ≡ Through 4 2 five-eighths three-quarters
+goes_through : crease_of (vert_tangents (as_halfedges pillow) (edges_of (as_halfedges pillow) entries) 6 2) ≡ Through 4 2 five_eighths three_quarters
 unfolding all
-goes-through = refl
+goes_through = refl
 
-ends : creaseOf (vertTangents (asHalfedges pillow) (edgesOf (asHalfedges pillow) entries) 6 0) ≡ OneEnd
+ends : crease_of (vert_tangents (as_halfedges pillow) (edges_of (as_halfedges pillow) entries) 6 0) ≡ OneEnd
 unfolding all
 ends = refl
 
-no-creases : creaseOf (vertTangents (asHalfedges pillow) (edgesOf (asHalfedges pillow) []) 6 0) ≡ NoCrease
+no_creases : crease_of (vert_tangents (as_halfedges pillow) (edges_of (as_halfedges pillow) []) 6 0) ≡ NoCrease
 unfolding all
-no-creases = refl
+no_creases = refl
 
 -- three creases (as if they met): the sum of 1, 1/4, 1, 1/2, 1/4 and 0, divided by 5
-meets : creaseOf (pairOf (sideOf 4 one) (sideOf 1 quarter) ∷ pairOf (sideOf 2 one) (sideOf 3 half) ∷ pairOf (sideOf 0 quarter) (sideOf 5 zero) ∷ []) ≡ Meeting (lit 0x3fe3_3333_3333_3333)
+meets : crease_of (pair_of (side_of 4 one) (side_of 1 quarter) ∷ pair_of (side_of 2 one) (side_of 3 half) ∷ pair_of (side_of 0 quarter) (side_of 5 zero) ∷ []) ≡ Meeting (lit 0x3fe3_3333_3333_3333)
 unfolding all
 meets = refl

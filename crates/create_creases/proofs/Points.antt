@@ -5,17 +5,17 @@ use mathlib.Core.Path.{◌≡◌, refl, ap, subst}
 use mathlib.Core.List.{List, [], ◌∷◌, map}
 use lib.ListN.{length, get_or, drop}
 use lib.Ieee.{Float}
-use Rattle.mesh.specs.Mesh.{startVert, Halfedges}
+use Rattle.mesh.specs.Mesh.{start_vert, Halfedges}
 use Rattle.mesh.specs.Sound.{Sound}
-use Rattle.create_shared.specs.Faces.{vertHalfedge}
-use Rattle.create_shared.proofs.Verts.{vert-halfedge-within}
+use Rattle.create_shared.specs.Faces.{vert_halfedge}
+use Rattle.create_shared.proofs.Verts.{vert_halfedge_within}
 use Rattle.create_creases.specs.declared.Crease.TheVariants.{NoCrease, OneEnd, Through, Meeting}
 use Rattle.create_creases.specs.declared.Sums.{Sums}
-use Rattle.create_edges.specs.Smoothness.{pairAt}
-use Rattle.create_creases.specs.Creases.{throughOf, sumsOf, meanOf, creaseOf, firstHalfedge}
-use Rattle.create_creases.specs.Linked.{creasesAt, pairsAt, Linked, firstCrease, halfedgeOf, CreaseLists}
-use Rattle.create_creases.proofs.Creases.{All, all-tail, creases-in, creases-below}
-use Rattle.create_creases.proofs.Linked.{linked-some, linked-in, linked-first, crease-none, crease-end, crease-through, crease-meeting}
+use Rattle.create_edges.specs.Smoothness.{pair_at}
+use Rattle.create_creases.specs.Creases.{through_of, sums_of, mean_of, crease_of, first_halfedge}
+use Rattle.create_creases.specs.Linked.{creases_at, pairs_at, Linked, first_crease, halfedge_of, CreaseLists}
+use Rattle.create_creases.proofs.Creases.{All, all_tail, creases_in, creases_below}
+use Rattle.create_creases.proofs.Linked.{linked_some, linked_in, linked_first, crease_none, crease_end, crease_through, crease_meeting}
 
 -- ---- the two functions
 
@@ -23,91 +23,91 @@ module _ {H : Halfedges} {S : List Float} {A L : List ℕ} {n : ℕ} (w : Crease
   abbrev code : ℕ
   code = get_or A v 0
 
-  here : Linked n L (vertHalfedge H n v) code (creasesAt H S n v)
+  here : Linked n L (vert_halfedge H n v) code (creases_at H S n v)
   here = w.linked v h
 
   -- what `first_crease` gives
-  pub first-is : halfedgeOf n (get_or A v 0) ≡ firstCrease H S n v
-  first-is = linked-first L (vert-halfedge-within H n v) code (creasesAt H S n v) here
+  pub first_is : halfedge_of n (get_or A v 0) ≡ first_crease H S n v
+  first_is = linked_first L (vert_halfedge_within H n v) code (creases_at H S n v) here
 
   -- what `crease_at` gives
-  pub point-none : code ≤ n → NoCrease ≡ creaseOf (pairsAt H S n v)
-  point-none k = crease-none L (vert-halfedge-within H n v) H S code (creasesAt H S n v) here k
+  pub point_none : code ≤ n → NoCrease ≡ crease_of (pairs_at H S n v)
+  point_none k = crease_none L (vert_halfedge_within H n v) H S code (creases_at H S n v) here k
 
   module _ (k : n < code) where
     abbrev next : ℕ
     next = get_or L (code - (n + 1)) 0
 
-    pub first-below : code - (n + 1) < n
-    first-below = linked-in L (vert-halfedge-within H n v) (λ e. e < n) code (creasesAt H S n v) here (creases-below w.lists.sound S v) k
+    pub first_below : code - (n + 1) < n
+    first_below = linked_in L (vert_halfedge_within H n v) (λ e. e < n) code (creases_at H S n v) here (creases_below w.lists.sound S v) k
 
-    pub point-end : next ≤ n → OneEnd ≡ creaseOf (pairsAt H S n v)
-    point-end = crease-end L (vert-halfedge-within H n v) H S code (creasesAt H S n v) here k
+    pub point_end : next ≤ n → OneEnd ≡ crease_of (pairs_at H S n v)
+    point_end = crease_end L (vert_halfedge_within H n v) H S code (creases_at H S n v) here k
 
     module _ (j : n < next) where
-      pub second-below : next - (n + 1) < n
-      second-below =
-          linked-in L (vert-halfedge-within H n v) (λ e. e < n) next (drop 1 (creasesAt H S n v)) (linked-some L (vert-halfedge-within H n v) code (creasesAt H S n v) here k).1
-          (all-tail (λ e. e < n) (creasesAt H S n v) (creases-below w.lists.sound S v)) j
+      pub second_below : next - (n + 1) < n
+      second_below =
+          linked_in L (vert_halfedge_within H n v) (λ e. e < n) next (drop 1 (creases_at H S n v)) (linked_some L (vert_halfedge_within H n v) code (creases_at H S n v) here k).1
+          (all_tail (λ e. e < n) (creases_at H S n v) (creases_below w.lists.sound S v)) j
 
-      pub point-through : get_or L (next - (n + 1)) 0 ≤ n → throughOf (pairAt H S (code - (n + 1))) (pairAt H S (next - (n + 1))) ≡ creaseOf (pairsAt H S n v)
-      point-through = crease-through L (vert-halfedge-within H n v) H S code (creasesAt H S n v) here k j
+      pub point_through : get_or L (next - (n + 1)) 0 ≤ n → through_of (pair_at H S (code - (n + 1))) (pair_at H S (next - (n + 1))) ≡ crease_of (pairs_at H S n v)
+      point_through = crease_through L (vert_halfedge_within H n v) H S code (creases_at H S n v) here k j
 
-      pub point-meeting : n < get_or L (next - (n + 1)) 0 → (m : Float) (r : Sums) → m ≡ meanOf r → r ≡ sumsOf (pairsAt H S n v) → Meeting m ≡ creaseOf (pairsAt H S n v)
-      point-meeting i m r e d = rw (e, d) (crease-meeting L (vert-halfedge-within H n v) H S code (creasesAt H S n v) here k j i)
+      pub point_meeting : n < get_or L (next - (n + 1)) 0 → (m : Float) (r : Sums) → m ≡ mean_of r → r ≡ sums_of (pairs_at H S n v) → Meeting m ≡ crease_of (pairs_at H S n v)
+      point_meeting i m r e d = rw (e, d) (crease_meeting L (vert_halfedge_within H n v) H S code (creases_at H S n v) here k j i)
 
 -- ---- which creases a point has, by what they are to it
 
 module _ (H : Halfedges) (S : List Float) where
-  none-is : (l : List ℕ) → creaseOf (map (pairAt H S) l) ≡ NoCrease → l ≡ []
-  unfolding creaseOf throughOf
-  none-is [] e = refl
-  none-is (a ∷ []) e = let z : ◌≡◌ {A = ℕ} 0 1 = cc in absurd (omega arith)
-  none-is (a ∷ b ∷ []) e = let z : ◌≡◌ {A = ℕ} 0 1 = cc in absurd (omega arith)
-  none-is (a ∷ b ∷ c ∷ l) e = let z : ◌≡◌ {A = ℕ} 0 1 = cc in absurd (omega arith)
+  none_is : (l : List ℕ) → crease_of (map (pair_at H S) l) ≡ NoCrease → l ≡ []
+  unfolding crease_of through_of
+  none_is [] e = refl
+  none_is (a ∷ []) e = let z : ◌≡◌ {A = ℕ} 0 1 = cc in absurd (omega arith)
+  none_is (a ∷ b ∷ []) e = let z : ◌≡◌ {A = ℕ} 0 1 = cc in absurd (omega arith)
+  none_is (a ∷ b ∷ c ∷ l) e = let z : ◌≡◌ {A = ℕ} 0 1 = cc in absurd (omega arith)
 
-  through-is : (l : List ℕ) (a b : ℕ) (x y : Float) → creaseOf (map (pairAt H S) l) ≡ Through a b x y → l ≡ a ∷ b ∷ []
-  unfolding creaseOf throughOf
-  through-is [] a b x y e = let z : ◌≡◌ {A = ℕ} 0 1 = cc in absurd (omega arith)
-  through-is (c ∷ []) a b x y e = let z : ◌≡◌ {A = ℕ} 0 1 = cc in absurd (omega arith)
-  through-is (c ∷ d ∷ []) a b x y e = cc
-  through-is (c ∷ d ∷ f ∷ l) a b x y e = let z : ◌≡◌ {A = ℕ} 0 1 = cc in absurd (omega arith)
+  through_is : (l : List ℕ) (a b : ℕ) (x y : Float) → crease_of (map (pair_at H S) l) ≡ Through a b x y → l ≡ a ∷ b ∷ []
+  unfolding crease_of through_of
+  through_is [] a b x y e = let z : ◌≡◌ {A = ℕ} 0 1 = cc in absurd (omega arith)
+  through_is (c ∷ []) a b x y e = let z : ◌≡◌ {A = ℕ} 0 1 = cc in absurd (omega arith)
+  through_is (c ∷ d ∷ []) a b x y e = cc
+  through_is (c ∷ d ∷ f ∷ l) a b x y e = let z : ◌≡◌ {A = ℕ} 0 1 = cc in absurd (omega arith)
 
-  meeting-is : (l : List ℕ) (m : Float) → creaseOf (map (pairAt H S) l) ≡ Meeting m → 0 < length l
-  unfolding creaseOf throughOf
-  meeting-is [] m e = let z : ◌≡◌ {A = ℕ} 0 1 = cc in absurd (omega arith)
-  meeting-is (a ∷ l) m e = omega arith
+  meeting_is : (l : List ℕ) (m : Float) → crease_of (map (pair_at H S) l) ≡ Meeting m → 0 < length l
+  unfolding crease_of through_of
+  meeting_is [] m e = let z : ◌≡◌ {A = ℕ} 0 1 = cc in absurd (omega arith)
+  meeting_is (a ∷ l) m e = omega arith
 
-first-of : (P : ℕ → Type 0) (l : List ℕ) (d : ℕ) → All P l → 0 < length l → P (get_or l 0 d)
-first-of P [] d a h = absurd (omega arith)
-first-of P (e ∷ l) d a h = a.0
+first_of : (P : ℕ → Type 0) (l : List ℕ) (d : ℕ) → All P l → 0 < length l → P (get_or l 0 d)
+first_of P [] d a h = absurd (omega arith)
+first_of P (e ∷ l) d a h = a.0
 
 module _ {H : Halfedges} {n p : ℕ} (s : Sound H n p) (S : List Float) (v : ℕ) where
   -- with no crease, its lowest halfedge
-  pub none-first : creaseOf (pairsAt H S n v) ≡ NoCrease → firstCrease H S n v ≡ vertHalfedge H n v
-  none-first e = ap (λ (l : List ℕ). get_or l 0 (vertHalfedge H n v)) (none-is H S (creasesAt H S n v) e)
+  pub none_first : crease_of (pairs_at H S n v) ≡ NoCrease → first_crease H S n v ≡ vert_halfedge H n v
+  none_first e = ap (λ (l : List ℕ). get_or l 0 (vert_halfedge H n v)) (none_is H S (creases_at H S n v) e)
 
   -- at a meeting, that of the first pair
-  pub meeting-first : (m : Float) → creaseOf (pairsAt H S n v) ≡ Meeting m → firstCrease H S n v ≡ firstHalfedge (pairsAt H S n v)
-  meeting-first m e = go (creasesAt H S n v) (meeting-is H S (creasesAt H S n v) m e)
+  pub meeting_first : (m : Float) → crease_of (pairs_at H S n v) ≡ Meeting m → first_crease H S n v ≡ first_halfedge (pairs_at H S n v)
+  meeting_first m e = go (creases_at H S n v) (meeting_is H S (creases_at H S n v) m e)
     where
-      go : (l : List ℕ) → 0 < length l → get_or l 0 (vertHalfedge H n v) ≡ firstHalfedge (map (pairAt H S) l)
+      go : (l : List ℕ) → 0 < length l → get_or l 0 (vert_halfedge H n v) ≡ first_halfedge (map (pair_at H S) l)
       go [] h = absurd (omega arith)
       go (a ∷ l) h = refl
 
   -- a crease through the point: both are halfedges that start there
-  pub through-in : (a b : ℕ) (x y : Float) → creaseOf (pairsAt H S n v) ≡ Through a b x y → (a < n) × (b < n) × (startVert H a ≡ v) × (startVert H b ≡ v)
-  through-in a b x y e =
-      let all : All (λ g. (g < n) × (startVert H g ≡ v)) (a ∷ b ∷ []) = subst (All (λ g. (g < n) × (startVert H g ≡ v))) (through-is H S (creasesAt H S n v) a b x y e) (creases-in s S v) in
+  pub through_in : (a b : ℕ) (x y : Float) → crease_of (pairs_at H S n v) ≡ Through a b x y → (a < n) × (b < n) × (start_vert H a ≡ v) × (start_vert H b ≡ v)
+  through_in a b x y e =
+      let all : All (λ g. (g < n) × (start_vert H g ≡ v)) (a ∷ b ∷ []) = subst (All (λ g. (g < n) × (start_vert H g ≡ v))) (through_is H S (creases_at H S n v) a b x y e) (creases_in s S v) in
       (all.0.0, all.1.0.0, all.0.1, all.1.0.1)
 
   -- a meeting: the first is one too
-  pub meeting-in : (m : Float) → creaseOf (pairsAt H S n v) ≡ Meeting m → (firstCrease H S n v < n) × (startVert H (firstCrease H S n v) ≡ v)
-  meeting-in m e = first-of (λ g. (g < n) × (startVert H g ≡ v)) (creasesAt H S n v) (vertHalfedge H n v) (creases-in s S v) (meeting-is H S (creasesAt H S n v) m e)
+  pub meeting_in : (m : Float) → crease_of (pairs_at H S n v) ≡ Meeting m → (first_crease H S n v < n) × (start_vert H (first_crease H S n v) ≡ v)
+  meeting_in m e = first_of (λ g. (g < n) × (start_vert H g ≡ v)) (creases_at H S n v) (vert_halfedge H n v) (creases_in s S v) (meeting_is H S (creases_at H S n v) m e)
 
-  pub first-within : firstCrease H S n v ≤ n
-  first-within = go (creasesAt H S n v) (creases-below s S v)
+  pub first_within : first_crease H S n v ≤ n
+  first_within = go (creases_at H S n v) (creases_below s S v)
     where
-      go : (l : List ℕ) → All (λ g. g < n) l → get_or l 0 (vertHalfedge H n v) ≤ n
-      go [] a = vert-halfedge-within H n v
+      go : (l : List ℕ) → All (λ g. g < n) l → get_or l 0 (vert_halfedge H n v) ≤ n
+      go [] a = vert_halfedge_within H n v
       go (e ∷ l) a = omega (arith, a.0)

@@ -1,32 +1,32 @@
--- How three scratch lists hold the Rust's map `vert_tangents`: M the smoothness of each of the n halfedges, W with a place per point, L with a place per halfedge. Only contracts inside a call name these; `vert-tangents` of `proofs/Verts.antt` says that the two agree.
+-- How three scratch lists hold the Rust's map `vert_tangents`: M the smoothness of each of the n halfedges, W with a place per point, L with a place per halfedge. Only contracts inside a call name these; `vert_tangents_lem` of `proofs/Verts.antt` says that the two agree.
 use Rattle.std.specs.Prelude.{ℕ, zero, suc, ◌+◌, ◌*◌, ◌-◌, ◌<◌, ◌≡◌, List, [], ◌∷◌, map, cond, length, get_or, eqb, leb, Float}
-use Rattle.mesh.specs.Mesh.{halfedgeStride, startVert, pairedHalfedge, Halfedges}
+use Rattle.mesh.specs.Mesh.{halfedge_stride, start_vert, paired_halfedge, Halfedges}
 use Rattle.mesh.specs.Sound.{Sound}
-use Rattle.create_shared.specs.Faces.{vertHalfedge}
+use Rattle.create_shared.specs.Faces.{vert_halfedge}
 use Rattle.create_edges.specs.Edges.{Pair}
-use Rattle.create_edges.specs.Smoothness.{isCrease, pairAt}
+use Rattle.create_edges.specs.Smoothness.{is_crease, pair_at}
 
 -- ---- the creases at a point v, each as its halfedge that starts at v, in ascending order of the forward halfedge
 
 -- e in front, if it starts at v
-unfoldable pub addHalfedge : Halfedges → ℕ → ℕ → List ℕ → List ℕ
-addHalfedge H v e l = cond (eqb (startVert H e) v) (e ∷ l) l
+unfoldable pub add_halfedge : Halfedges → ℕ → ℕ → List ℕ → List ℕ
+add_halfedge H v e l = cond (eqb (start_vert H e) v) (e ∷ l) l
 
 -- the edge of f in front, if it is a crease
-unfoldable pub addCrease : Halfedges → List Float → ℕ → ℕ → List ℕ → List ℕ
-addCrease H M v f l = cond (isCrease H M f) (addHalfedge H v f (addHalfedge H v (pairedHalfedge H f) l)) l
+unfoldable pub add_crease : Halfedges → List Float → ℕ → ℕ → List ℕ → List ℕ
+add_crease H M v f l = cond (is_crease H M f) (add_halfedge H v f (add_halfedge H v (paired_halfedge H f) l)) l
 
 -- the creases among the k halfedges from f on
-unfoldable pub creasesFrom : Halfedges → List Float → ℕ → ℕ → ℕ → List ℕ
-creasesFrom H M v zero f = []
-creasesFrom H M v (suc k) f = addCrease H M v f (creasesFrom H M v k (suc f))
+unfoldable pub creases_from : Halfedges → List Float → ℕ → ℕ → ℕ → List ℕ
+creases_from H M v zero f = []
+creases_from H M v (suc k) f = add_crease H M v f (creases_from H M v k (suc f))
 
-unfoldable pub creasesAt : Halfedges → List Float → ℕ → ℕ → List ℕ
-creasesAt H M n v = creasesFrom H M v n 0
+unfoldable pub creases_at : Halfedges → List Float → ℕ → ℕ → List ℕ
+creases_at H M n v = creases_from H M v n 0
 
 -- and as pairs
-abbrev pub pairsAt : Halfedges → List Float → ℕ → ℕ → List Pair
-pairsAt H M n v = map (pairAt H M) (creasesAt H M n v)
+abbrev pub pairs_at : Halfedges → List Float → ℕ → ℕ → List Pair
+pairs_at H M n v = map (pair_at H M) (creases_at H M n v)
 
 -- ---- the lists W and L
 
@@ -36,24 +36,24 @@ Linked n L end c [] = c ≡ end
 Linked n L end c (e ∷ l) = (c ≡ suc n + e) × Linked n L end (get_or L e 0) l
 
 -- the halfedge that stands at a point: that of its first crease, and with no crease its lowest
-abbrev pub firstCrease : Halfedges → List Float → ℕ → ℕ → ℕ
-firstCrease H M n v = get_or (creasesAt H M n v) 0 (vertHalfedge H n v)
+abbrev pub first_crease : Halfedges → List Float → ℕ → ℕ → ℕ
+first_crease H M n v = get_or (creases_at H M n v) 0 (vert_halfedge H n v)
 
 -- the halfedge that a number stands for
-unfoldable pub halfedgeOf : ℕ → ℕ → ℕ
-halfedgeOf n c = cond (leb c n) c (c - suc n)
+unfoldable pub halfedge_of : ℕ → ℕ → ℕ
+halfedge_of n c = cond (leb c n) c (c - suc n)
 
 -- the creases from halfedge f on, at each point
 abbrev pub LinkedFrom : Halfedges → List Float → List ℕ → List ℕ → ℕ → ℕ → Type 0
-LinkedFrom H M W L n f = (v : ℕ) → v < length W → Linked n L (vertHalfedge H n v) (get_or W v 0) (creasesFrom H M v (n - f) f)
+LinkedFrom H M W L n f = (v : ℕ) → v < length W → Linked n L (vert_halfedge H n v) (get_or W v 0) (creases_from H M v (n - f) f)
 
 abbrev pub LinkedAll : Halfedges → List Float → List ℕ → List ℕ → ℕ → Type 0
-LinkedAll H M W L n = (v : ℕ) → v < length W → Linked n L (vertHalfedge H n v) (get_or W v 0) (creasesAt H M n v)
+LinkedAll H M W L n = (v : ℕ) → v < length W → Linked n L (vert_halfedge H n v) (get_or W v 0) (creases_at H M n v)
 
--- what the lists must be for a call: `lists-in` of `proofs/Lent.antt` gives it on an accepted mesh
+-- what the lists must be for a call: `lists_in` of `proofs/Lent.antt` gives it on an accepted mesh
 pub record Lists (H : Halfedges) (M : List Float) (W L : List ℕ) (n : ℕ) : Type 0 where
   pub sound : Sound H n (length W)
-  pub whole : H.numbers ≡ n * halfedgeStride
+  pub whole : H.numbers ≡ n * halfedge_stride
   pub smooth : length M ≡ n
   pub links : length L ≡ n
 

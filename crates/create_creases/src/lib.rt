@@ -3,13 +3,13 @@
 #![tactic(auto)]
 
 ghost use Rattle.std.specs.Prelude.{◌≡◌, ℕ, suc, ◌+◌, ◌<◌, ◌^◌, length, get_or, set};
-ghost use Rattle.mesh.specs.Mesh.{startVert, asHalfedges};
+ghost use Rattle.mesh.specs.Mesh.{start_vert, as_halfedges};
 ghost use Rattle.mesh.specs.Inside.{Inside};
-ghost use Rattle.create_shared.specs.Faces.{isFlat, vertHalfedge};
-ghost use Rattle.create_edges.specs.Smoothness.{smoothness, pairAt};
+ghost use Rattle.create_shared.specs.Faces.{is_flat, vert_halfedge};
+ghost use Rattle.create_edges.specs.Smoothness.{smoothness, pair_at};
 ghost use Rattle.create_edges.specs.Lent.{SidesIn};
-ghost use Rattle.create_creases.specs.Creases.{throughOf, countOf, addSides, sumsOf, meanOf, creaseOf};
-ghost use Rattle.create_creases.specs.Linked.{pairsAt, halfedgeOf, LinkedFrom, LinkedAll, Lists, CreaseLists};
+ghost use Rattle.create_creases.specs.Creases.{through_of, count_of, add_sides, sums_of, mean_of, crease_of};
+ghost use Rattle.create_creases.specs.Linked.{pairs_at, halfedge_of, LinkedFrom, LinkedAll, Lists, CreaseLists};
 
 // What the creases are to a point: none; the end of one; one through it, with its two halfedges and the smoothness of either
 // side, around from the first to the second and from the second on; or a meeting of more, with the mean smoothness.
@@ -39,8 +39,8 @@ pub struct Sums {
 
 // Puts e in front of the list of the point where it starts.
 fn link_halfedge(n: usize, h: &[i32], at: &mut [usize], link: &mut [usize], e: usize)
-    requires { (e < length link.old) × (startVert (asHalfedges h.now) e < length at.old) × (n + 1 + e < 2 ^ 64) × Inside (asHalfedges h.now) e }
-    ensures { (link.new ≡ set link.old e (get_or at.old (startVert (asHalfedges h.now) e) 0)) × (at.new ≡ set at.old (startVert (asHalfedges h.now) e) (suc n + e)) }
+    requires { (e < length link.old) × (start_vert (as_halfedges h.now) e < length at.old) × (n + 1 + e < 2 ^ 64) × Inside (as_halfedges h.now) e }
+    ensures { (link.new ≡ set link.old e (get_or at.old (start_vert (as_halfedges h.now) e) 0)) × (at.new ≡ set at.old (start_vert (as_halfedges h.now) e) (suc n + e)) }
 {
     let v = mesh::start_vert(h, e);
     link[e] = at[v];
@@ -49,8 +49,8 @@ fn link_halfedge(n: usize, h: &[i32], at: &mut [usize], link: &mut [usize], e: u
 
 // Puts the edge of f, if it is a crease, in front of the lists of its two points.
 fn link_edge(n: usize, h: &[i32], smooth: &[f64], at: &mut [usize], link: &mut [usize], f: usize)
-    requires { (f < n) × Lists (asHalfedges h.now) smooth.now at.old link.old n × LinkedFrom (asHalfedges h.now) smooth.now at.old link.old n (f + 1) }
-    ensures { LinkedFrom (asHalfedges h.now) smooth.now at.new link.new n f }
+    requires { (f < n) × Lists (as_halfedges h.now) smooth.now at.old link.old n × LinkedFrom (as_halfedges h.now) smooth.now at.old link.old n (f + 1) }
+    ensures { LinkedFrom (as_halfedges h.now) smooth.now at.new link.new n f }
 {
     if !create_edges::is_crease(h, smooth, f) {
         return;
@@ -63,8 +63,8 @@ fn link_edge(n: usize, h: &[i32], smooth: &[f64], at: &mut [usize], link: &mut [
 // The creases of each point, from the last edge to the first, so that each list ascends by the forward halfedge. `at` holds
 // each point's lowest halfedge, the result of `vert_halfedge`.
 pub fn link_creases(n: usize, h: &[i32], smooth: &[f64], at: &mut [usize], link: &mut [usize])
-    requires { Lists (asHalfedges h.now) smooth.now at.old link.old n × ((v : ℕ) → v < length at.old → get_or at.old v 0 ≡ vertHalfedge (asHalfedges h.now) n v) }
-    ensures { LinkedAll (asHalfedges h.now) smooth.now at.new link.new n }
+    requires { Lists (as_halfedges h.now) smooth.now at.old link.old n × ((v : ℕ) → v < length at.old → get_or at.old v 0 ≡ vert_halfedge (as_halfedges h.now) n v) }
+    ensures { LinkedAll (as_halfedges h.now) smooth.now at.new link.new n }
 {
     let mut f = n;
     while 0 < f {
@@ -84,8 +84,8 @@ pub fn find_creases(
     at: &mut [usize],
     link: &mut [usize],
 )
-    requires { (length flat.now ≡ n) × Lists (asHalfedges h.now) smooth.old at.old link.old n }
-    ensures { (smooth.new ≡ smoothness (asHalfedges h.now) refs.now (isFlat flat.now) smooth.old n) × LinkedAll (asHalfedges h.now) smooth.new at.new link.new n }
+    requires { (length flat.now ≡ n) × Lists (as_halfedges h.now) smooth.old at.old link.old n }
+    ensures { (smooth.new ≡ smoothness (as_halfedges h.now) refs.now (is_flat flat.now) smooth.old n) × LinkedAll (as_halfedges h.now) smooth.new at.new link.new n }
 {
     create_edges::add_flat_boundaries(h, refs, flat, smooth);
     create_shared::vert_halfedge(h, at, n);
@@ -95,7 +95,7 @@ pub fn find_creases(
 // The halfedge that stands at a point after `link_creases`: that of its first crease, or with no crease its lowest, n for none.
 pub fn first_crease(n: usize, at: &[usize], v: usize) -> usize
     requires { (v < length at.now) × (n + 1 < 2 ^ 64) }
-    ensures { result ≡ halfedgeOf n (get_or at.now v 0) }
+    ensures { result ≡ halfedge_of n (get_or at.now v 0) }
 {
     let code = at[v];
     if code <= n {
@@ -108,15 +108,15 @@ pub fn first_crease(n: usize, at: &[usize], v: usize) -> usize
 
 // What a side adds to the denominator.
 fn count(s: f64) -> f64
-    ensures { result ≡ countOf s }
+    ensures { result ≡ count_of s }
 {
     if s == 0.0 { 0.0 } else { 1.0 }
 }
 
 // The sums with both sides of crease e.
 fn add_sides(h: &[i32], smooth: &[f64], sums: Sums, e: usize) -> Sums
-    requires { SidesIn (asHalfedges h.now) smooth.now e }
-    ensures { result ≡ addSides sums (pairAt (asHalfedges h.now) smooth.now e) }
+    requires { SidesIn (as_halfedges h.now) smooth.now e }
+    ensures { result ≡ add_sides sums (pair_at (as_halfedges h.now) smooth.now e) }
 {
     let a = smooth[e];
     let b = create_edges::pair_smoothness(h, smooth, e);
@@ -128,8 +128,8 @@ fn add_sides(h: &[i32], smooth: &[f64], sums: Sums, e: usize) -> Sums
 
 // The sums over all creases of point v.
 fn crease_sums(n: usize, h: &[i32], smooth: &[f64], at: &[usize], link: &[usize], v: usize) -> Sums
-    requires { (v < length at.now) × CreaseLists (asHalfedges h.now) smooth.now at.now link.now n }
-    ensures { result ≡ sumsOf (pairsAt (asHalfedges h.now) smooth.now n v) }
+    requires { (v < length at.now) × CreaseLists (as_halfedges h.now) smooth.now at.now link.now n }
+    ensures { result ≡ sums_of (pairs_at (as_halfedges h.now) smooth.now n v) }
 {
     let mut sums = Sums {
         smoothness: 0.0,
@@ -146,7 +146,7 @@ fn crease_sums(n: usize, h: &[i32], smooth: &[f64], at: &[usize], link: &[usize]
 
 // Their mean smoothness.
 fn mean(sums: Sums) -> f64
-    ensures { result ≡ meanOf sums }
+    ensures { result ≡ mean_of sums }
 {
     if sums.denom > 0.0 {
         sums.smoothness / sums.denom
@@ -157,8 +157,8 @@ fn mean(sums: Sums) -> f64
 
 // A crease through a point, of the halfedges `first` and `second`.
 fn through(h: &[i32], smooth: &[f64], first: usize, second: usize) -> Crease
-    requires { SidesIn (asHalfedges h.now) smooth.now first × SidesIn (asHalfedges h.now) smooth.now second }
-    ensures { result ≡ throughOf (pairAt (asHalfedges h.now) smooth.now first) (pairAt (asHalfedges h.now) smooth.now second) }
+    requires { SidesIn (as_halfedges h.now) smooth.now first × SidesIn (as_halfedges h.now) smooth.now second }
+    ensures { result ≡ through_of (pair_at (as_halfedges h.now) smooth.now first) (pair_at (as_halfedges h.now) smooth.now second) }
 {
     Crease::Through {
         first: first,
@@ -177,8 +177,8 @@ pub fn crease_at(
     link: &[usize],
     v: usize,
 ) -> Crease
-    requires { (v < length at.now) × CreaseLists (asHalfedges h.now) smooth.now at.now link.now n }
-    ensures { result ≡ creaseOf (pairsAt (asHalfedges h.now) smooth.now n v) }
+    requires { (v < length at.now) × CreaseLists (as_halfedges h.now) smooth.now at.now link.now n }
+    ensures { result ≡ crease_of (pairs_at (as_halfedges h.now) smooth.now n v) }
 {
     let code = at[v];
     if code <= n {

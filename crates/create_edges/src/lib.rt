@@ -3,16 +3,16 @@
 #![tactic(auto)]
 
 ghost use Rattle.std.specs.Prelude.{◌≡◌, ◌<◌, length};
-ghost use Rattle.mesh.specs.Mesh.{asHalfedges};
-ghost use Rattle.create_shared.specs.Faces.{isFlat};
+ghost use Rattle.mesh.specs.Mesh.{as_halfedges};
+ghost use Rattle.create_shared.specs.Faces.{is_flat};
 ghost use Rattle.create_shared.specs.Lent.{FlatIn};
 ghost use Rattle.create_edges.specs.Lent.{SidesIn};
-ghost use Rattle.create_edges.specs.Smoothness.{isFlatBoundary, addFlatBoundary, smoothness, pairSmoothness, isCrease};
+ghost use Rattle.create_edges.specs.Smoothness.{is_flat_boundary, add_flat_boundary, smoothness, pair_smoothness, is_crease};
 
 // Does halfedge e lie in a flat face, and across it another face?
 fn is_flat_boundary(h: &[i32], refs: &[i32], flat: &[u8], e: usize) -> bool
-    requires { (e < length flat.now) × FlatIn (asHalfedges h.now) (length flat.now) }
-    ensures { result ≡ isFlatBoundary (asHalfedges h.now) refs.now (isFlat flat.now) e }
+    requires { (e < length flat.now) × FlatIn (as_halfedges h.now) (length flat.now) }
+    ensures { result ≡ is_flat_boundary (as_halfedges h.now) refs.now (is_flat flat.now) e }
 {
     let t = e / 3;
     if flat[t] != 1 {
@@ -27,8 +27,8 @@ fn is_flat_boundary(h: &[i32], refs: &[i32], flat: &[u8], e: usize) -> bool
 
 // The entry of a flat face for halfedge e, if it ends there.
 fn add_flat_boundary(h: &[i32], refs: &[i32], flat: &[u8], smooth: &mut [f64], e: usize)
-    requires { (e < length flat.now) × FlatIn (asHalfedges h.now) (length flat.now) × (length smooth.old ≡ length flat.now) }
-    ensures { smooth.new ≡ addFlatBoundary (asHalfedges h.now) refs.now (isFlat flat.now) smooth.old e }
+    requires { (e < length flat.now) × FlatIn (as_halfedges h.now) (length flat.now) × (length smooth.old ≡ length flat.now) }
+    ensures { smooth.new ≡ add_flat_boundary (as_halfedges h.now) refs.now (is_flat flat.now) smooth.old e }
 {
     if !is_flat_boundary(h, refs, flat, e) {
         return;
@@ -38,8 +38,8 @@ fn add_flat_boundary(h: &[i32], refs: &[i32], flat: &[u8], smooth: &mut [f64], e
 
 // The entries of the flat faces, after the caller's, which `smooth` holds: 0 for each halfedge where one ends.
 pub fn add_flat_boundaries(h: &[i32], refs: &[i32], flat: &[u8], smooth: &mut [f64])
-    requires { FlatIn (asHalfedges h.now) (length flat.now) × (length smooth.old ≡ length flat.now) }
-    ensures { smooth.new ≡ smoothness (asHalfedges h.now) refs.now (isFlat flat.now) smooth.old (length flat.now) }
+    requires { FlatIn (as_halfedges h.now) (length flat.now) × (length smooth.old ≡ length flat.now) }
+    ensures { smooth.new ≡ smoothness (as_halfedges h.now) refs.now (is_flat flat.now) smooth.old (length flat.now) }
 {
     let mut e = 0;
     while e < flat.len() {
@@ -50,8 +50,8 @@ pub fn add_flat_boundaries(h: &[i32], refs: &[i32], flat: &[u8], smooth: &mut [f
 
 // The smoothness of the other side of e's edge.
 pub fn pair_smoothness(h: &[i32], smooth: &[f64], e: usize) -> f64
-    requires { SidesIn (asHalfedges h.now) smooth.now e }
-    ensures { result ≡ pairSmoothness (asHalfedges h.now) smooth.now e }
+    requires { SidesIn (as_halfedges h.now) smooth.now e }
+    ensures { result ≡ pair_smoothness (as_halfedges h.now) smooth.now e }
 {
     let k = mesh::paired_halfedge(h, e);
     smooth[k]
@@ -59,8 +59,8 @@ pub fn pair_smoothness(h: &[i32], smooth: &[f64], e: usize) -> f64
 
 // Is f the forward halfedge of a crease?
 pub fn is_crease(h: &[i32], smooth: &[f64], f: usize) -> bool
-    requires { SidesIn (asHalfedges h.now) smooth.now f }
-    ensures { result ≡ isCrease (asHalfedges h.now) smooth.now f }
+    requires { SidesIn (as_halfedges h.now) smooth.now f }
+    ensures { result ≡ is_crease (as_halfedges h.now) smooth.now f }
 {
     if !mesh::is_forward(h, f) {
         return false;

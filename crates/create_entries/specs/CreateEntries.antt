@@ -2,18 +2,18 @@
 use Rattle.std.specs.Prelude.{ℕ, List, Bool, ℤ, Float}
 use Rattle.mesh.specs.Mesh.{Halfedges}
 use Rattle.mesh.specs.declared.Checked.{Checked}
-use Rattle.create_shared.specs.Answer.{answerOf}
+use Rattle.create_shared.specs.Answer.{answer_of}
 use Rattle.create_shared.specs.declared.Making.{Making}
-use Rattle.create_smoothness.specs.Entries.{halfedgesOf, smoothnessOf}
+use Rattle.create_smoothness.specs.Entries.{halfedges_of, smoothness_of}
 use Rattle.create_smoothness.specs.declared.Smoothness.{Smoothness}
-use Rattle.create_core.specs.Core.{createDirectionless}
-use Rattle.create.specs.Create.{checkLists as checkFlatLists}
+use Rattle.create_core.specs.Core.{create_directionless}
+use Rattle.create.specs.Create.{check_lists as check_flat_lists}
 
 -- the answer of the questions, for every input: that of `create` at the halfedges and the smoothness of the entries
-abbrev pub checkLists : Halfedges → List Float → List Float → List Float → List ℤ → List Smoothness → List Float → List ℕ → List ℕ → List Float → List Float → List ℕ → List ℕ → ℕ → ℕ → Checked
-checkLists H P N A R E T X F M D W L n p = checkFlatLists H P N A R (halfedgesOf E) (smoothnessOf E) T X F M D W L n p
+abbrev pub check_lists : Halfedges → List Float → List Float → List Float → List ℤ → List Smoothness → List Float → List ℕ → List ℕ → List Float → List Float → List ℕ → List ℕ → ℕ → ℕ → Checked
+check_lists H P N A R E T X F M D W L n p = check_flat_lists H P N A R (halfedges_of E) (smoothness_of E) T X F M D W L n p
 
 -- the answer, for every input
-abbrev pub createAnswer : Halfedges → List Float → List Float → List Float → List ℤ → List Smoothness → List Float → List ℕ → List ℕ → List Float → List Float → List ℕ → List ℕ → Bool → ℕ → ℕ → Making
-createAnswer H P N A R E T X F M D W L old n p =
-    answerOf (checkLists H P N A R E T X F M D W L n p) (createDirectionless H P R E T old n p)
+abbrev pub create_answer : Halfedges → List Float → List Float → List Float → List ℤ → List Smoothness → List Float → List ℕ → List ℕ → List Float → List Float → List ℕ → List ℕ → Bool → ℕ → ℕ → Making
+create_answer H P N A R E T X F M D W L old n p =
+    answer_of (check_lists H P N A R E T X F M D W L n p) (create_directionless H P R E T old n p)

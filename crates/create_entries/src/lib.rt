@@ -4,13 +4,13 @@
 
 ghost use Rattle.std.specs.Prelude.{◌≡◌, ◌*◌, ◌≤◌, ◌&&◌, length, replicate};
 ghost use Rattle.float.specs.Ops.{zero};
-ghost use Rattle.mesh.specs.Mesh.{asHalfedges};
-ghost use Rattle.mesh.specs.Check.{checkMesh, checkRefs, whenAccepted};
-ghost use Rattle.create_shared.specs.Answer.{directionlessOf, checkedOf, Values};
-ghost use Rattle.create_smoothness.specs.Questions.{checkPassed};
-ghost use Rattle.create.specs.Create.{listsFit, scratchFits, tangentsAfter};
-ghost use Rattle.create_core.specs.Core.{createDirectionless};
-ghost use Rattle.create_entries.specs.CreateEntries.{checkLists, createAnswer};
+ghost use Rattle.mesh.specs.Mesh.{as_halfedges};
+ghost use Rattle.mesh.specs.Check.{check_mesh, check_refs, when_accepted};
+ghost use Rattle.create_shared.specs.Answer.{directionless_of, checked_of, Values};
+ghost use Rattle.create_smoothness.specs.Questions.{check_passed};
+ghost use Rattle.create.specs.Create.{lists_fit, scratch_fits, tangents_after};
+ghost use Rattle.create_core.specs.Core.{create_directionless};
+ghost use Rattle.create_entries.specs.CreateEntries.{check_lists, create_answer};
 
 use create_shared::Making;
 use create_smoothness::{Passed, Smoothness};
@@ -36,7 +36,7 @@ fn check_lists(
     at: usize,
     link: usize,
 ) -> Checked
-    ensures { result ≡ checkPassed (checkRefs (checkMesh (asHalfedges h.now) n p (listsFit (asHalfedges h.now).numbers (length pos.now) (length normals.now) (length face_normals.now) (length refs.now) sharp sharp t n p && scratchFits fixed flat smooth desired at link n p)) refs.now n) passed sharp }
+    ensures { result ≡ check_passed (check_refs (check_mesh (as_halfedges h.now) n p (lists_fit (as_halfedges h.now).numbers (length pos.now) (length normals.now) (length face_normals.now) (length refs.now) sharp sharp t n p && scratch_fits fixed flat smooth desired at link n p)) refs.now n) passed sharp }
 {
     let lists = create::lists_fit(
         n,
@@ -74,16 +74,16 @@ pub fn create_entries(
     at: &mut [usize],
     link: &mut [usize],
 ) -> Making
-    ensures answer { result ≡ createAnswer (asHalfedges h.now) pos.now normals.now face_normals.now refs.now sharp.now t.old fixed.old flat.old smooth.old desired.old at.old link.old old n p }
-    ensures tangents { t.new ≡ tangentsAfter (checkedOf result) (asHalfedges h.now) pos.now normals.now face_normals.now refs.now sharp.now t.old old n p }
-    ensures fixed { fixed.new ≡ whenAccepted (checkedOf result) (replicate n 0) fixed.old }
-    ensures flat { flat.new ≡ whenAccepted (checkedOf result) (replicate n 0) flat.old }
-    ensures smooth { smooth.new ≡ whenAccepted (checkedOf result) (replicate n zero) smooth.old }
-    ensures desired { desired.new ≡ whenAccepted (checkedOf result) (replicate n zero) desired.old }
-    ensures at { at.new ≡ whenAccepted (checkedOf result) (replicate p 0) at.old }
-    ensures link { link.new ≡ whenAccepted (checkedOf result) (replicate n 0) link.old }
-    ensures bound { directionlessOf result ≤ 2 * n }
-    ensures values { Values (checkLists (asHalfedges h.now) pos.now normals.now face_normals.now refs.now sharp.now t.old fixed.old flat.old smooth.old desired.old at.old link.old n p) (createDirectionless (asHalfedges h.now) pos.now refs.now sharp.now t.old old n p) result }
+    ensures answer { result ≡ create_answer (as_halfedges h.now) pos.now normals.now face_normals.now refs.now sharp.now t.old fixed.old flat.old smooth.old desired.old at.old link.old old n p }
+    ensures tangents { t.new ≡ tangents_after (checked_of result) (as_halfedges h.now) pos.now normals.now face_normals.now refs.now sharp.now t.old old n p }
+    ensures fixed { fixed.new ≡ when_accepted (checked_of result) (replicate n 0) fixed.old }
+    ensures flat { flat.new ≡ when_accepted (checked_of result) (replicate n 0) flat.old }
+    ensures smooth { smooth.new ≡ when_accepted (checked_of result) (replicate n zero) smooth.old }
+    ensures desired { desired.new ≡ when_accepted (checked_of result) (replicate n zero) desired.old }
+    ensures at { at.new ≡ when_accepted (checked_of result) (replicate p 0) at.old }
+    ensures link { link.new ≡ when_accepted (checked_of result) (replicate n 0) link.old }
+    ensures bound { directionless_of result ≤ 2 * n }
+    ensures values { Values (check_lists (as_halfedges h.now) pos.now normals.now face_normals.now refs.now sharp.now t.old fixed.old flat.old smooth.old desired.old at.old link.old n p) (create_directionless (as_halfedges h.now) pos.now refs.now sharp.now t.old old n p) result }
 {
     let checked = check_lists(
         n,

@@ -4,12 +4,12 @@
 
 ghost use Rattle.std.specs.Prelude.{◌≡◌, ◌*◌, ◌≤◌, length, replicate};
 ghost use Rattle.float.specs.Ops.{zero};
-ghost use Rattle.mesh.specs.Mesh.{asHalfedges};
-ghost use Rattle.mesh.specs.Check.{whenAccepted};
-ghost use Rattle.create_shared.specs.Answer.{directionlessOf, checkedOf, Values};
-ghost use Rattle.normals_state.specs.State.{getNormal};
-ghost use Rattle.normals_core.specs.Core.{fromNormalsDirectionless};
-ghost use Rattle.create_from_normals.specs.FromNormals.{listsFit, scratchFits, checkNormals, checkLists, tangentsAfter, createAnswer};
+ghost use Rattle.mesh.specs.Mesh.{as_halfedges};
+ghost use Rattle.mesh.specs.Check.{when_accepted};
+ghost use Rattle.create_shared.specs.Answer.{directionless_of, checked_of, Values};
+ghost use Rattle.normals_state.specs.State.{get_normal};
+ghost use Rattle.normals_core.specs.Core.{from_normals_directionless};
+ghost use Rattle.create_from_normals.specs.FromNormals.{lists_fit, scratch_fits, check_normals, check_lists, tangents_after, create_answer};
 
 use create_shared::Making;
 use mesh::Checked;
@@ -26,7 +26,7 @@ fn lists_fit(
     row_numbers: usize,
     tangents: usize,
 ) -> bool
-    ensures { result ≡ listsFit halfedges positions normals face_normals refs row_numbers tangents n p }
+    ensures { result ≡ lists_fit halfedges positions normals face_normals refs row_numbers tangents n p }
 {
     let lists = create_shared::mesh_lists_fit(
         n,
@@ -53,7 +53,7 @@ fn scratch_fits(
     desired: &[f64],
     first: &[usize],
 ) -> bool
-    ensures { result ≡ scratchFits (length fixed.now) (length inside.now) (length current.now) (length desired.now) (length first.now) n p }
+    ensures { result ≡ scratch_fits (length fixed.now) (length inside.now) (length current.now) (length desired.now) (length first.now) n p }
 {
     let flags = common::both(
         mesh::has_length(fixed.len(), n, 1),
@@ -68,7 +68,7 @@ fn scratch_fits(
 
 // The questions 1 to 7, 12 and 8; `lengths` is the answer to question 2, `rows` how many rows there are.
 fn check_normals(n: usize, p: usize, h: &[i32], refs: &[i32], rows: usize, lengths: bool) -> Checked
-    ensures { result ≡ checkNormals h.now refs.now rows n p lengths }
+    ensures { result ≡ check_normals h.now refs.now rows n p lengths }
 {
     let checked = mesh::check_mesh(h, n, p, lengths);
     let checked = mesh::check_rows(checked, h, rows, n);
@@ -96,15 +96,15 @@ pub fn create_tangents_from_normals(
     desired: &mut [f64],
     first: &mut [usize],
 ) -> Making
-    ensures answer { result ≡ createAnswer h.now pos.now normals.now face_normals.now refs.now rows.now t.old fixed.old inside.old current.old desired.old first.old old n p }
-    ensures tangents { t.new ≡ tangentsAfter (checkedOf result) h.now pos.now normals.now face_normals.now refs.now rows.now t.old old n p }
-    ensures fixed { fixed.new ≡ whenAccepted (checkedOf result) (replicate n 0) fixed.old }
-    ensures inside { inside.new ≡ whenAccepted (checkedOf result) (replicate n 0) inside.old }
-    ensures current { current.new ≡ whenAccepted (checkedOf result) (replicate n zero) current.old }
-    ensures desired { desired.new ≡ whenAccepted (checkedOf result) (replicate n zero) desired.old }
-    ensures first { first.new ≡ whenAccepted (checkedOf result) (replicate p 0) first.old }
-    ensures bound { directionlessOf result ≤ 3 * n }
-    ensures values { Values (checkLists h.now pos.now normals.now face_normals.now refs.now rows.now t.old fixed.old inside.old current.old desired.old first.old n p) (fromNormalsDirectionless (asHalfedges h.now) pos.now normals.now face_normals.now refs.now (getNormal h.now rows.now) t.old old n p) result }
+    ensures answer { result ≡ create_answer h.now pos.now normals.now face_normals.now refs.now rows.now t.old fixed.old inside.old current.old desired.old first.old old n p }
+    ensures tangents { t.new ≡ tangents_after (checked_of result) h.now pos.now normals.now face_normals.now refs.now rows.now t.old old n p }
+    ensures fixed { fixed.new ≡ when_accepted (checked_of result) (replicate n 0) fixed.old }
+    ensures inside { inside.new ≡ when_accepted (checked_of result) (replicate n 0) inside.old }
+    ensures current { current.new ≡ when_accepted (checked_of result) (replicate n zero) current.old }
+    ensures desired { desired.new ≡ when_accepted (checked_of result) (replicate n zero) desired.old }
+    ensures first { first.new ≡ when_accepted (checked_of result) (replicate p 0) first.old }
+    ensures bound { directionless_of result ≤ 3 * n }
+    ensures values { Values (check_lists h.now pos.now normals.now face_normals.now refs.now rows.now t.old fixed.old inside.old current.old desired.old first.old n p) (from_normals_directionless (as_halfedges h.now) pos.now normals.now face_normals.now refs.now (get_normal h.now rows.now) t.old old n p) result }
 {
     let lists = lists_fit(
         n,

@@ -2,14 +2,14 @@
 #![tactic(auto)]
 
 ghost use Rattle.std.specs.Prelude.{◌≡◌, true, false, cond, ◌+◌, ◌*◌, ◌≤◌, ◌<◌, length};
-ghost use Rattle.common.specs.Fold.{foldTo};
-ghost use Rattle.mesh.specs.Mesh.{asHalfedges};
-ghost use Rattle.smoothing.specs.Edges.{isInsideQuad};
-ghost use Rattle.create_shared.specs.Lent.{flatFlags};
-ghost use Rattle.smoothing.specs.Lists.{putTangent};
-ghost use Rattle.smoothing.specs.Inner.{putEdge};
-ghost use Rattle.create_initial.specs.First.{vertNormal, insideQuadTangent, putFirstTangent, firstTangents, firstDirectionless, firstsDirectionless};
-ghost use Rattle.create_initial.specs.Lent.{FaceIn, FirstLists, faceAt, FirstIn, NormalIn, normalAt, firstAt, firstMade, edgeTangents, edgeDirectionless};
+ghost use Rattle.common.specs.Fold.{fold_to};
+ghost use Rattle.mesh.specs.Mesh.{as_halfedges};
+ghost use Rattle.smoothing.specs.Edges.{is_inside_quad};
+ghost use Rattle.create_shared.specs.Lent.{flat_flags};
+ghost use Rattle.smoothing.specs.Lists.{put_tangent};
+ghost use Rattle.smoothing.specs.Inner.{put_edge};
+ghost use Rattle.create_initial.specs.First.{vert_normal, inside_quad_tangent, put_first_tangent, first_tangents, first_directionless, firsts_directionless};
+ghost use Rattle.create_initial.specs.Lent.{FaceIn, FirstLists, face_at, FirstIn, NormalIn, normal_at, first_at, first_made, edge_tangents, edge_directionless};
 
 use create_shared::FlatFace;
 use linalg::{Vec3, Vec4};
@@ -18,7 +18,7 @@ use smoothing::{CircularTangent, TwoTangents};
 // The normal of point v, or that of the one flat face at it.
 fn vert_normal(normals: &[f64], face_normals: &[f64], v: usize, face: FlatFace) -> Vec3
     requires { (v * 3 + 3 ≤ length normals.now) × FaceIn (length face_normals.now) face }
-    ensures { result ≡ vertNormal normals.now face_normals.now v face }
+    ensures { result ≡ vert_normal normals.now face_normals.now v face }
 {
     match face {
         FlatFace::NoFace => smoothing::point_at(normals, v),
@@ -29,8 +29,8 @@ fn vert_normal(normals: &[f64], face_normals: &[f64], v: usize, face: FlatFace) 
 
 // The normal of the start point of halfedge e, where `at` is the result of `vert_flat_face`.
 fn normal_at(h: &[i32], normals: &[f64], face_normals: &[f64], at: &[usize], e: usize) -> Vec3
-    requires { NormalIn (asHalfedges h.now) normals.now face_normals.now at.now e }
-    ensures { result ≡ normalAt (asHalfedges h.now) normals.now face_normals.now at.now e }
+    requires { NormalIn (as_halfedges h.now) normals.now face_normals.now at.now e }
+    ensures { result ≡ normal_at (as_halfedges h.now) normals.now face_normals.now at.now e }
 {
     let v = mesh::start_vert(h, e);
     vert_normal(normals, face_normals, v, create_shared::flat_face(at, v))
@@ -38,7 +38,7 @@ fn normal_at(h: &[i32], normals: &[f64], face_normals: &[f64], at: &[usize], e: 
 
 // The mark of a halfedge inside a quad.
 fn inside_quad_tangent() -> Vec4
-    ensures { result ≡ insideQuadTangent }
+    ensures { result ≡ inside_quad_tangent }
 {
     Vec4 {
         x: 0.0,
@@ -63,8 +63,8 @@ fn first_tangent(
     t: &[f64],
     e: usize,
 ) -> CircularTangent
-    requires { (e < n) × FirstIn (asHalfedges h.now) pos.now normals.now face_normals.now at.now t.now n }
-    ensures { result ≡ firstMade (asHalfedges h.now) pos.now normals.now face_normals.now refs.now at.now t.now true e }
+    requires { (e < n) × FirstIn (as_halfedges h.now) pos.now normals.now face_normals.now at.now t.now n }
+    ensures { result ≡ first_made (as_halfedges h.now) pos.now normals.now face_normals.now refs.now at.now t.now true e }
 {
     if smoothing::is_inside_quad(h, refs, t, true, e) {
         return CircularTangent {
@@ -89,9 +89,9 @@ fn put_first_tangent(
     t: &mut [f64],
     e: usize,
 ) -> usize
-    requires { (e < n) × FirstIn (asHalfedges h.now) pos.now normals.now face_normals.now at.now t.old n }
-    ensures tangents { t.new ≡ putFirstTangent (asHalfedges h.now) pos.now normals.now face_normals.now (isInsideQuad (asHalfedges h.now) refs.now t.old true) (faceAt at.now) t.old e }
-    ensures directionless { result ≡ cond (firstDirectionless (asHalfedges h.now) pos.now (isInsideQuad (asHalfedges h.now) refs.now t.old true) e) 1 0 }
+    requires { (e < n) × FirstIn (as_halfedges h.now) pos.now normals.now face_normals.now at.now t.old n }
+    ensures tangents { t.new ≡ put_first_tangent (as_halfedges h.now) pos.now normals.now face_normals.now (is_inside_quad (as_halfedges h.now) refs.now t.old true) (face_at at.now) t.old e }
+    ensures directionless { result ≡ cond (first_directionless (as_halfedges h.now) pos.now (is_inside_quad (as_halfedges h.now) refs.now t.old true) e) 1 0 }
 {
     let first = first_tangent(n, h, refs, pos, normals, face_normals, at, t, e);
     smoothing::put_tangent(t, e, first.tangent);
@@ -108,9 +108,9 @@ fn put_each(
     at: &[usize],
     t: &mut [f64],
 ) -> usize
-    requires { FirstIn (asHalfedges h.now) pos.now normals.now face_normals.now at.now t.old n }
-    ensures tangents { t.new ≡ foldTo (putFirstTangent (asHalfedges h.now) pos.now normals.now face_normals.now (isInsideQuad (asHalfedges h.now) refs.now t.old true) (faceAt at.now)) t.old n }
-    ensures directionless { result ≡ firstsDirectionless (asHalfedges h.now) pos.now (isInsideQuad (asHalfedges h.now) refs.now t.old true) n }
+    requires { FirstIn (as_halfedges h.now) pos.now normals.now face_normals.now at.now t.old n }
+    ensures tangents { t.new ≡ fold_to (put_first_tangent (as_halfedges h.now) pos.now normals.now face_normals.now (is_inside_quad (as_halfedges h.now) refs.now t.old true) (face_at at.now)) t.old n }
+    ensures directionless { result ≡ firsts_directionless (as_halfedges h.now) pos.now (is_inside_quad (as_halfedges h.now) refs.now t.old true) n }
 {
     let mut directionless = 0;
     let mut e = 0;
@@ -135,8 +135,8 @@ fn edge_tangents(
     t: &[f64],
     e: usize,
 ) -> TwoTangents
-    requires { (e < n) × FirstIn (asHalfedges h.now) pos.now normals.now face_normals.now at.now t.now n }
-    ensures { result ≡ edgeTangents (asHalfedges h.now) pos.now normals.now face_normals.now refs.now at.now t.now e }
+    requires { (e < n) × FirstIn (as_halfedges h.now) pos.now normals.now face_normals.now at.now t.now n }
+    ensures { result ≡ edge_tangents (as_halfedges h.now) pos.now normals.now face_normals.now refs.now at.now t.now e }
 {
     if smoothing::is_inside_quad(h, refs, t, false, e) {
         let mark = inside_quad_tangent();
@@ -163,9 +163,9 @@ fn put_edge(
     t: &mut [f64],
     e: usize,
 ) -> usize
-    requires { (e < n) × FirstIn (asHalfedges h.now) pos.now normals.now face_normals.now at.now t.old n }
-    ensures tangents { t.new ≡ putEdge putTangent (asHalfedges h.now) (firstAt (asHalfedges h.now) pos.now normals.now face_normals.now refs.now at.now t.old false) t.old e }
-    ensures directionless { result ≡ edgeDirectionless (asHalfedges h.now) pos.now (isInsideQuad (asHalfedges h.now) refs.now t.old false) e }
+    requires { (e < n) × FirstIn (as_halfedges h.now) pos.now normals.now face_normals.now at.now t.old n }
+    ensures tangents { t.new ≡ put_edge put_tangent (as_halfedges h.now) (first_at (as_halfedges h.now) pos.now normals.now face_normals.now refs.now at.now t.old false) t.old e }
+    ensures directionless { result ≡ edge_directionless (as_halfedges h.now) pos.now (is_inside_quad (as_halfedges h.now) refs.now t.old false) e }
 {
     if !mesh::is_forward(h, e) {
         return 0;
@@ -187,9 +187,9 @@ fn put_edges(
     at: &[usize],
     t: &mut [f64],
 ) -> usize
-    requires { FirstIn (asHalfedges h.now) pos.now normals.now face_normals.now at.now t.old n }
-    ensures tangents { t.new ≡ foldTo (putFirstTangent (asHalfedges h.now) pos.now normals.now face_normals.now (isInsideQuad (asHalfedges h.now) refs.now t.old false) (faceAt at.now)) t.old n }
-    ensures directionless { result ≡ firstsDirectionless (asHalfedges h.now) pos.now (isInsideQuad (asHalfedges h.now) refs.now t.old false) n }
+    requires { FirstIn (as_halfedges h.now) pos.now normals.now face_normals.now at.now t.old n }
+    ensures tangents { t.new ≡ fold_to (put_first_tangent (as_halfedges h.now) pos.now normals.now face_normals.now (is_inside_quad (as_halfedges h.now) refs.now t.old false) (face_at at.now)) t.old n }
+    ensures directionless { result ≡ firsts_directionless (as_halfedges h.now) pos.now (is_inside_quad (as_halfedges h.now) refs.now t.old false) n }
 {
     let mut directionless = 0;
     let mut e = 0;
@@ -214,9 +214,9 @@ fn put_first_tangents(
     old: bool,
     t: &mut [f64],
 ) -> usize
-    requires { FirstIn (asHalfedges h.now) pos.now normals.now face_normals.now at.now t.old n }
-    ensures tangents { t.new ≡ foldTo (putFirstTangent (asHalfedges h.now) pos.now normals.now face_normals.now (isInsideQuad (asHalfedges h.now) refs.now t.old old) (faceAt at.now)) t.old n }
-    ensures directionless { result ≡ firstsDirectionless (asHalfedges h.now) pos.now (isInsideQuad (asHalfedges h.now) refs.now t.old old) n }
+    requires { FirstIn (as_halfedges h.now) pos.now normals.now face_normals.now at.now t.old n }
+    ensures tangents { t.new ≡ fold_to (put_first_tangent (as_halfedges h.now) pos.now normals.now face_normals.now (is_inside_quad (as_halfedges h.now) refs.now t.old old) (face_at at.now)) t.old n }
+    ensures directionless { result ≡ firsts_directionless (as_halfedges h.now) pos.now (is_inside_quad (as_halfedges h.now) refs.now t.old old) n }
 {
     if old {
         return put_each(n, h, refs, pos, normals, face_normals, at, t);
@@ -238,10 +238,10 @@ pub fn first_tangents(
     flat: &mut [u8],
     at: &mut [usize],
 ) -> usize
-    requires { FirstLists (asHalfedges h.now) pos.now normals.now face_normals.now at.old t.old n × (length flat.old ≡ n) }
-    ensures flat { flat.new ≡ flatFlags (asHalfedges h.now) refs.now n }
-    ensures tangents { t.new ≡ firstTangents (asHalfedges h.now) pos.now normals.now face_normals.now refs.now (isInsideQuad (asHalfedges h.now) refs.now t.old old) n }
-    ensures directionless { result ≡ firstsDirectionless (asHalfedges h.now) pos.now (isInsideQuad (asHalfedges h.now) refs.now t.old old) n }
+    requires { FirstLists (as_halfedges h.now) pos.now normals.now face_normals.now at.old t.old n × (length flat.old ≡ n) }
+    ensures flat { flat.new ≡ flat_flags (as_halfedges h.now) refs.now n }
+    ensures tangents { t.new ≡ first_tangents (as_halfedges h.now) pos.now normals.now face_normals.now refs.now (is_inside_quad (as_halfedges h.now) refs.now t.old old) n }
+    ensures directionless { result ≡ firsts_directionless (as_halfedges h.now) pos.now (is_inside_quad (as_halfedges h.now) refs.now t.old old) n }
 {
     create_shared::flat_faces(h, refs, flat);
     create_shared::vert_flat_face(h, refs, flat, at);

@@ -5,23 +5,23 @@ use mathlib.Core.Path.{◌≡◌, refl, sym, ap, ◌∙◌}
 use Rattle.mesh.specs.declared.Checked.{Checked}
 use Rattle.mesh.specs.declared.Checked.TheVariants.{Accepted, Refused}
 use Rattle.create_shared.specs.declared.Making.{Making}
-use Rattle.create_shared.specs.Answer.{directionlessOf, answerOf, Values}
+use Rattle.create_shared.specs.Answer.{directionless_of, answer_of, Values}
 
-values-are : (c : Checked) (k : ℕ) → Values c k (answerOf c k)
-values-are Accepted k = record { number = refl; place = refl; directionless = refl }
-values-are (Refused number place) k = record { number = refl; place = refl; directionless = refl }
+values_are : (c : Checked) (k : ℕ) → Values c k (answer_of c k)
+values_are Accepted k = record { number = refl; place = refl; directionless = refl }
+values_are (Refused number place) k = record { number = refl; place = refl; directionless = refl }
 
-pub values-of : (c : Checked) (k : ℕ) {r : Making} → r ≡ answerOf c k → Values c k r
-values-of c k e = rw e (values-are c k)
+pub values_of : (c : Checked) (k : ℕ) {r : Making} → r ≡ answer_of c k → Values c k r
+values_of c k e = rw e (values_are c k)
 
-within : (c : Checked) (k m : ℕ) → (c ≡ Accepted → k ≤ m) → directionlessOf (answerOf c k) ≤ m
+within : (c : Checked) (k m : ℕ) → (c ≡ Accepted → k ≤ m) → directionless_of (answer_of c k) ≤ m
 within Accepted k m h = h refl
 within (Refused number place) k m h = omega arith
 
 -- a refusal counts none
-pub answer-within : (c : Checked) (k m : ℕ) {r : Making} → r ≡ answerOf c k → (c ≡ Accepted → k ≤ m) → directionlessOf r ≤ m
-answer-within c k m e h = rw e (within c k m h)
+pub answer_within : (c : Checked) (k m : ℕ) {r : Making} → r ≡ answer_of c k → (c ≡ Accepted → k ≤ m) → directionless_of r ≤ m
+answer_within c k m e h = rw e (within c k m h)
 
 -- a refusal is the same with any count
-pub refused-answer : (k m : ℕ) {c d : Checked} {number place : ℕ} {r : Making} → c ≡ d → c ≡ Refused number place → r ≡ answerOf c k → r ≡ answerOf d m
-refused-answer k m same told e = e ∙ ap (λ (x : Checked). answerOf x k) told ∙ ap (λ (x : Checked). answerOf x m) (sym told ∙ same)
+pub refused_answer : (k m : ℕ) {c d : Checked} {number place : ℕ} {r : Making} → c ≡ d → c ≡ Refused number place → r ≡ answer_of c k → r ≡ answer_of d m
+refused_answer k m same told e = e ∙ ap (λ (x : Checked). answer_of x k) told ∙ ap (λ (x : Checked). answer_of x m) (sym told ∙ same)

@@ -8,93 +8,93 @@ use lib.ListN.{length, get_or, set, replicate, length-set, length-replicate, rep
 use lib.Seq.{set-append_left}
 use lib.IntN.{ℤ}
 use lib.Dec.{eqb, ltb}
-use Rattle.common.specs.Fold.{foldTo}
-use Rattle.common.proofs.Fold.{fold-keeps}
+use Rattle.common.specs.Fold.{fold_to}
+use Rattle.common.proofs.Fold.{fold_keeps}
 use Rattle.mesh.specs.Mesh.{Halfedges}
-use Rattle.create_shared.specs.Faces.{neighborTri, isFaceNeighbor, faceNeighbors, markNeighbor, markFlat, flatFaces, isFlat}
-use Rattle.create_shared.specs.Lent.{FlatIn, flatFlags}
+use Rattle.create_shared.specs.Faces.{neighbor_tri, is_face_neighbor, face_neighbors, mark_neighbor, mark_flat, flat_faces, is_flat}
+use Rattle.create_shared.specs.Lent.{FlatIn, flat_flags}
 
--- ---- `flatFaces` has a place for each triangle
+-- ---- `flat_faces` has a place for each triangle
 
-length-cond : (b : Bool) (F G : List ℕ) (m : ℕ) → length F ≡ m → length G ≡ m → length (cond b F G) ≡ m
-length-cond true F G m p q = p
-length-cond false F G m p q = q
+length_cond : (b : Bool) (F G : List ℕ) (m : ℕ) → length F ≡ m → length G ≡ m → length (cond b F G) ≡ m
+length_cond true F G m p q = p
+length_cond false F G m p q = q
 
 module _ (H : Halfedges) (R : List ℤ) (m : ℕ) where
-  length-neighbor : (t : ℕ) (F : List ℕ) (j : ℕ) → length F ≡ m → length (markNeighbor H R t F j) ≡ m
-  unfolding markNeighbor
-  length-neighbor t F j p = length-cond (isFaceNeighbor H R t j) (set F (neighborTri H t j) 1) F m (length-set F (neighborTri H t j) 1 ∙ p) p
+  length_neighbor : (t : ℕ) (F : List ℕ) (j : ℕ) → length F ≡ m → length (mark_neighbor H R t F j) ≡ m
+  unfolding mark_neighbor
+  length_neighbor t F j p = length_cond (is_face_neighbor H R t j) (set F (neighbor_tri H t j) 1) F m (length-set F (neighbor_tri H t j) 1 ∙ p) p
 
-  length-mark : (F : List ℕ) (t : ℕ) → length F ≡ m → length (markFlat H R F t) ≡ m
-  unfolding markFlat
-  length-mark F t p =
-      length-cond (ltb 1 (faceNeighbors H R t)) (foldTo (markNeighbor H R t) (set F t 1) 3) F m
-      (fold-keeps (markNeighbor H R t) (set F t 1) (λ (G : List ℕ). length G ≡ m) 3 (λ G j l q. length-neighbor t G j q) (length-set F t 1 ∙ p) 3 (omega arith))
+  length_mark : (F : List ℕ) (t : ℕ) → length F ≡ m → length (mark_flat H R F t) ≡ m
+  unfolding mark_flat
+  length_mark F t p =
+      length_cond (ltb 1 (face_neighbors H R t)) (fold_to (mark_neighbor H R t) (set F t 1) 3) F m
+      (fold_keeps (mark_neighbor H R t) (set F t 1) (λ (G : List ℕ). length G ≡ m) 3 (λ G j l q. length_neighbor t G j q) (length-set F t 1 ∙ p) 3 (omega arith))
       p
 
-pub length-flat-faces : (H : Halfedges) (R : List ℤ) (n : ℕ) → length (flatFaces H R n) ≡ n / 3
-unfolding flatFaces
-length-flat-faces H R n =
-    fold-keeps (markFlat H R) (replicate (n / 3) 0) (λ (G : List ℕ). length G ≡ n / 3) (n / 3) (λ G t l q. length-mark H R (n / 3) G t q) (length-replicate (n / 3) 0) (n / 3) (omega arith)
+pub length_flat_faces : (H : Halfedges) (R : List ℤ) (n : ℕ) → length (flat_faces H R n) ≡ n / 3
+unfolding flat_faces
+length_flat_faces H R n =
+    fold_keeps (mark_flat H R) (replicate (n / 3) 0) (λ (G : List ℕ). length G ≡ n / 3) (n / 3) (λ G t l q. length_mark H R (n / 3) G t q) (length-replicate (n / 3) 0) (n / 3) (omega arith)
 
 -- ---- zeros after the flags are read as no flag
 
-zero-at : (k t : ℕ) → ◌≡◌ {A = ℕ} (get_or (replicate k 0) t 0) 0
-zero-at zero t = refl
-zero-at (suc k) zero = refl
-zero-at (suc k) (suc t) = zero-at k t
+zero_at : (k t : ℕ) → ◌≡◌ {A = ℕ} (get_or (replicate k 0) t 0) 0
+zero_at zero t = refl
+zero_at (suc k) zero = refl
+zero_at (suc k) (suc t) = zero_at k t
 
-padded-at : (F : List ℕ) (k t : ℕ) → get_or (F ++ replicate k 0) t 0 ≡ get_or F t 0
-padded-at [] k t = zero-at k t
-padded-at (x ∷ xs) k zero = refl
-padded-at (x ∷ xs) k (suc t) = padded-at xs k t
+padded_at : (F : List ℕ) (k t : ℕ) → get_or (F ++ replicate k 0) t 0 ≡ get_or F t 0
+padded_at [] k t = zero_at k t
+padded_at (x ∷ xs) k zero = refl
+padded_at (x ∷ xs) k (suc t) = padded_at xs k t
 
-pub flat-padded : (F : List ℕ) (k : ℕ) → isFlat (F ++ replicate k 0) ≡ isFlat F
-flat-padded F k = fun_ext (λ t. ap (λ (x : ℕ). eqb x 1) (padded-at F k t))
+pub flat_padded : (F : List ℕ) (k : ℕ) → is_flat (F ++ replicate k 0) ≡ is_flat F
+flat_padded F k = fun_ext (λ t. ap (λ (x : ℕ). eqb x 1) (padded_at F k t))
 
 -- ---- what follows the flags, Z, is not written
 
-cond-padded : (b : Bool) (F G F' G' Z : List ℕ) → F' ≡ F ++ Z → G' ≡ G ++ Z → cond b F' G' ≡ cond b F G ++ Z
-cond-padded true F G F' G' Z p q = p
-cond-padded false F G F' G' Z p q = q
+cond_padded : (b : Bool) (F G F' G' Z : List ℕ) → F' ≡ F ++ Z → G' ≡ G ++ Z → cond b F' G' ≡ cond b F G ++ Z
+cond_padded true F G F' G' Z p q = p
+cond_padded false F G F' G' Z p q = q
 
-fold-padded : (f : List ℕ → ℕ → List ℕ) (Z : List ℕ) (m n : ℕ) → ((F : List ℕ) (k : ℕ) → k < n → length F ≡ m → length (f F k) ≡ m) → ((F : List ℕ) (k : ℕ) → k < n → length F ≡ m → f (F ++ Z) k ≡ f F k ++ Z) → (F : List ℕ) → length F ≡ m → (k : ℕ) → k ≤ n → foldTo f (F ++ Z) k ≡ foldTo f F k ++ Z
-unfolding foldTo
-fold-padded f Z m n keeps pads F p zero h = refl
-fold-padded f Z m n keeps pads F p (suc k) h =
+fold_padded : (f : List ℕ → ℕ → List ℕ) (Z : List ℕ) (m n : ℕ) → ((F : List ℕ) (k : ℕ) → k < n → length F ≡ m → length (f F k) ≡ m) → ((F : List ℕ) (k : ℕ) → k < n → length F ≡ m → f (F ++ Z) k ≡ f F k ++ Z) → (F : List ℕ) → length F ≡ m → (k : ℕ) → k ≤ n → fold_to f (F ++ Z) k ≡ fold_to f F k ++ Z
+unfolding fold_to
+fold_padded f Z m n keeps pads F p zero h = refl
+fold_padded f Z m n keeps pads F p (suc k) h =
     let l : k ≤ n = omega arith in
-    ap (λ (G : List ℕ). f G k) (fold-padded f Z m n keeps pads F p k l) ∙ pads (foldTo f F k) k h (fold-keeps f F (λ (G : List ℕ). length G ≡ m) n keeps p k l)
+    ap (λ (G : List ℕ). f G k) (fold_padded f Z m n keeps pads F p k l) ∙ pads (fold_to f F k) k h (fold_keeps f F (λ (G : List ℕ). length G ≡ m) n keeps p k l)
 
 module _ (H : Halfedges) (R : List ℤ) (n : ℕ) (w : FlatIn H n) (Z : List ℕ) where
-  set-padded : (F : List ℕ) (i : ℕ) → i < n / 3 → length F ≡ n / 3 → set (F ++ Z) i 1 ≡ set F i 1 ++ Z
-  set-padded F i h p = set-append_left F Z i 1 (omega arith)
+  set_padded : (F : List ℕ) (i : ℕ) → i < n / 3 → length F ≡ n / 3 → set (F ++ Z) i 1 ≡ set F i 1 ++ Z
+  set_padded F i h p = set-append_left F Z i 1 (omega arith)
 
-  neighbor-padded : (t : ℕ) → t < n / 3 → (F : List ℕ) (j : ℕ) → j < 3 → length F ≡ n / 3 → markNeighbor H R t (F ++ Z) j ≡ markNeighbor H R t F j ++ Z
-  unfolding markNeighbor
-  neighbor-padded t h F j l p =
-      cond-padded (isFaceNeighbor H R t j) (set F (neighborTri H t j) 1) F (set (F ++ Z) (neighborTri H t j) 1) (F ++ Z) Z
-      (set-padded F (neighborTri H t j) (omega (arith, w.triangles, w.paired-in (t * 3 + j) (omega arith))) p)
+  neighbor_padded : (t : ℕ) → t < n / 3 → (F : List ℕ) (j : ℕ) → j < 3 → length F ≡ n / 3 → mark_neighbor H R t (F ++ Z) j ≡ mark_neighbor H R t F j ++ Z
+  unfolding mark_neighbor
+  neighbor_padded t h F j l p =
+      cond_padded (is_face_neighbor H R t j) (set F (neighbor_tri H t j) 1) F (set (F ++ Z) (neighbor_tri H t j) 1) (F ++ Z) Z
+      (set_padded F (neighbor_tri H t j) (omega (arith, w.triangles, w.paired_in (t * 3 + j) (omega arith))) p)
       refl
 
-  mark-padded : (F : List ℕ) (t : ℕ) → t < n / 3 → length F ≡ n / 3 → markFlat H R (F ++ Z) t ≡ markFlat H R F t ++ Z
-  unfolding markFlat
-  mark-padded F t h p =
-      cond-padded (ltb 1 (faceNeighbors H R t)) (foldTo (markNeighbor H R t) (set F t 1) 3) F (foldTo (markNeighbor H R t) (set (F ++ Z) t 1) 3) (F ++ Z) Z
-      (ap (λ (G : List ℕ). foldTo (markNeighbor H R t) G 3) (set-padded F t h p)
-      ∙ fold-padded (markNeighbor H R t) Z (n / 3) 3 (λ G j l q. length-neighbor H R (n / 3) t G j q) (neighbor-padded t h) (set F t 1) (length-set F t 1 ∙ p) 3 (omega arith))
+  mark_padded : (F : List ℕ) (t : ℕ) → t < n / 3 → length F ≡ n / 3 → mark_flat H R (F ++ Z) t ≡ mark_flat H R F t ++ Z
+  unfolding mark_flat
+  mark_padded F t h p =
+      cond_padded (ltb 1 (face_neighbors H R t)) (fold_to (mark_neighbor H R t) (set F t 1) 3) F (fold_to (mark_neighbor H R t) (set (F ++ Z) t 1) 3) (F ++ Z) Z
+      (ap (λ (G : List ℕ). fold_to (mark_neighbor H R t) G 3) (set_padded F t h p)
+      ∙ fold_padded (mark_neighbor H R t) Z (n / 3) 3 (λ G j l q. length_neighbor H R (n / 3) t G j q) (neighbor_padded t h) (set F t 1) (length-set F t 1 ∙ p) 3 (omega arith))
       refl
 
 -- the loop over a list of n zeros
-pub flat-filled : (H : Halfedges) (R : List ℤ) (n : ℕ) → FlatIn H n → foldTo (markFlat H R) (replicate n 0) (n / 3) ≡ flatFlags H R n
-unfolding flatFaces flatFlags
-flat-filled H R n w =
+pub flat_filled : (H : Halfedges) (R : List ℤ) (n : ℕ) → FlatIn H n → fold_to (mark_flat H R) (replicate n 0) (n / 3) ≡ flat_flags H R n
+unfolding flat_faces flat_flags
+flat_filled H R n w =
     let k = n - n / 3 in
     let q : n / 3 + k ≡ n = omega arith in
     let e : ◌≡◌ {A = List ℕ} (replicate n 0) (replicate (n / 3) 0 ++ replicate k 0) = ap {B = List ℕ} (λ i. replicate i 0) (sym q) ∙ sym (replicate-append-replicate (n / 3) k 0) in
-    ap (λ (G : List ℕ). foldTo (markFlat H R) G (n / 3)) e
-    ∙ fold-padded (markFlat H R) (replicate k 0) (n / 3) (n / 3) (λ G t l p. length-mark H R (n / 3) G t p) (mark-padded H R n w (replicate k 0)) (replicate (n / 3) 0) (length-replicate (n / 3) 0) (n / 3) (omega arith)
+    ap (λ (G : List ℕ). fold_to (mark_flat H R) G (n / 3)) e
+    ∙ fold_padded (mark_flat H R) (replicate k 0) (n / 3) (n / 3) (λ G t l p. length_mark H R (n / 3) G t p) (mark_padded H R n w (replicate k 0)) (replicate (n / 3) 0) (length-replicate (n / 3) 0) (n / 3) (omega arith)
 
--- of a triangle it says what `flatFaces` does
-pub flags-same : (H : Halfedges) (R : List ℤ) (n : ℕ) → isFlat (flatFlags H R n) ≡ isFlat (flatFaces H R n)
-unfolding flatFlags
-flags-same H R n = flat-padded (flatFaces H R n) (n - n / 3)
+-- of a triangle it says what `flat_faces` does
+pub flags_same : (H : Halfedges) (R : List ℤ) (n : ℕ) → is_flat (flat_flags H R n) ≡ is_flat (flat_faces H R n)
+unfolding flat_flags
+flags_same H R n = flat_padded (flat_faces H R n) (n - n / 3)

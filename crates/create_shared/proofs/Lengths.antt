@@ -3,31 +3,31 @@ use Prim.Native.Nat.{ℕ, ◌*◌, ◌/◌, ◌%◌}
 use native.Mathlib.Omega.{arith}
 use mathlib.Core.Path.{◌≡◌}
 use mathlib.Core.Bool.{true}
-use Rattle.mesh.specs.Mesh.{halfedgeStride, refStride}
-use Rattle.mesh.specs.Questions.{hasLength}
-use Rattle.common.proofs.Tests.{and-true}
-use Rattle.mesh.proofs.Tests.{has-length}
-use Rattle.create_shared.specs.Lengths.{meshListsFit}
+use Rattle.mesh.specs.Mesh.{halfedge_stride, ref_stride}
+use Rattle.mesh.specs.Questions.{has_length}
+use Rattle.common.proofs.Tests.{and_true}
+use Rattle.mesh.proofs.Tests.{has_length_lem}
+use Rattle.create_shared.specs.Lengths.{mesh_lists_fit}
 
 pub record MeshListsFit (h l m a n p : ℕ) : Type 0 where
-  pub halfedges : h ≡ n * halfedgeStride
+  pub halfedges : h ≡ n * halfedge_stride
   pub positions : l ≡ p * 3
   pub normals : m ≡ p * 3
-  pub face-normals : n % 3 ≡ 0 → a ≡ n
+  pub face_normals : n % 3 ≡ 0 → a ≡ n
 
 -- three numbers for each triangle are one for each halfedge
-three-each : (a n : ℕ) → a ≡ n / 3 * 3 → n % 3 ≡ 0 → a ≡ n
-three-each a n e d = omega arith
+three_each : (a n : ℕ) → a ≡ n / 3 * 3 → n % 3 ≡ 0 → a ≡ n
+three_each a n e d = omega arith
 
-pub mesh-lists-fit : (h l m a r n p : ℕ) → meshListsFit h l m a r n p ≡ true → MeshListsFit h l m a n p
-mesh-lists-fit h l m a r n p e =
-    let e₅ = and-true _ (hasLength r (n / 3) refStride) e in
-    let e₄ = and-true _ (hasLength a (n / 3) 3) e₅.0 in
-    let e₃ = and-true _ (hasLength m p 3) e₄.0 in
-    let e₂ = and-true (hasLength h n halfedgeStride) (hasLength l p 3) e₃.0 in
+pub mesh_lists_fit_lem : (h l m a r n p : ℕ) → mesh_lists_fit h l m a r n p ≡ true → MeshListsFit h l m a n p
+mesh_lists_fit_lem h l m a r n p e =
+    let e₅ = and_true _ (has_length r (n / 3) ref_stride) e in
+    let e₄ = and_true _ (has_length a (n / 3) 3) e₅.0 in
+    let e₃ = and_true _ (has_length m p 3) e₄.0 in
+    let e₂ = and_true (has_length h n halfedge_stride) (has_length l p 3) e₃.0 in
     record {
-      halfedges = has-length h n halfedgeStride e₂.0;
-      positions = has-length l p 3 e₂.1;
-      normals = has-length m p 3 e₃.1;
-      face-normals = three-each a n (has-length a (n / 3) 3 e₄.1);
+      halfedges = has_length_lem h n halfedge_stride e₂.0;
+      positions = has_length_lem l p 3 e₂.1;
+      normals = has_length_lem m p 3 e₃.1;
+      face_normals = three_each a n (has_length_lem a (n / 3) 3 e₄.1);
     }

@@ -1,7 +1,7 @@
 -- The answer of a making: request 3's count, or the refusal.
 use Rattle.std.specs.Prelude.{ℕ, ◌≡◌}
 use Rattle.mesh.specs.Check as mesh
-use Rattle.mesh.specs.Check.{whenAccepted}
+use Rattle.mesh.specs.Check.{when_accepted}
 use Rattle.mesh.specs.declared.Checked.{Checked}
 use Rattle.mesh.specs.declared.Checked.TheVariants.{Accepted, Refused}
 use Rattle.create_shared.specs.declared.Making.{Making}
@@ -10,33 +10,33 @@ use Rattle.create_shared.specs.declared.Making.TheVariants.{Made, Refused as Ref
 -- ---- the values of an answer
 
 -- document 01's number and place of a refusal; 0 for a mesh that got through
-abbrev pub numberOf : Making → ℕ
-numberOf (Made directionless) = 0
-numberOf (RefusedMaking number place) = number
+abbrev pub number_of : Making → ℕ
+number_of (Made directionless) = 0
+number_of (RefusedMaking number place) = number
 
-abbrev pub placeOf : Making → ℕ
-placeOf (Made directionless) = 0
-placeOf (RefusedMaking number place) = place
+abbrev pub place_of : Making → ℕ
+place_of (Made directionless) = 0
+place_of (RefusedMaking number place) = place
 
 -- how many circular tangents were computed on an edge without direction; 0 for a refusal, which computes none
-abbrev pub directionlessOf : Making → ℕ
-directionlessOf (Made directionless) = directionless
-directionlessOf (RefusedMaking number place) = 0
+abbrev pub directionless_of : Making → ℕ
+directionless_of (Made directionless) = directionless
+directionless_of (RefusedMaking number place) = 0
 
 -- ---- answer and questions
 
 -- the answer after the answer of the questions, where the making counts so many
-abbrev pub answerOf : Checked → ℕ → Making
-answerOf Accepted directionless = Made directionless
-answerOf (Refused number place) directionless = RefusedMaking number place
+abbrev pub answer_of : Checked → ℕ → Making
+answer_of Accepted directionless = Made directionless
+answer_of (Refused number place) directionless = RefusedMaking number place
 
 -- what the questions were answered
-abbrev pub checkedOf : Making → Checked
-checkedOf (Made directionless) = Accepted
-checkedOf (RefusedMaking number place) = Refused number place
+abbrev pub checked_of : Making → Checked
+checked_of (Made directionless) = Accepted
+checked_of (RefusedMaking number place) = Refused number place
 
 -- what the definitions give of an answer `r`, after the answer `checked` of the questions, where the making counts so many: number, place and count
 pub record Values (checked : Checked) (count : ℕ) (r : Making) : Type 0 where
-  pub number : numberOf r ≡ mesh.numberOf checked
-  pub place : placeOf r ≡ mesh.placeOf checked
-  pub directionless : directionlessOf r ≡ whenAccepted checked count 0
+  pub number : number_of r ≡ mesh.number_of checked
+  pub place : place_of r ≡ mesh.place_of checked
+  pub directionless : directionless_of r ≡ when_accepted checked count 0

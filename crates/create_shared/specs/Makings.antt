@@ -2,11 +2,11 @@
 use Rattle.std.specs.Prelude.{ℕ, ◌*◌, ◌+◌, ◌≡◌, List, cond, length, set, Float}
 use Rattle.linalg.specs.declared.Vec3.{Vec3}
 use Rattle.linalg.specs.Vec.{neg3}
-use Rattle.mesh.specs.Mesh.{halfedgeStride, Halfedges}
+use Rattle.mesh.specs.Mesh.{halfedge_stride, Halfedges}
 use Rattle.mesh.specs.Sound.{Sound}
-use Rattle.smoothing.specs.Directions.{directionless, circularTangent}
-use Rattle.smoothing.specs.Lists.{putTangent}
-use Rattle.smoothing.specs.Edges.{edgeVec}
+use Rattle.smoothing.specs.Directions.{directionless, circular_tangent}
+use Rattle.smoothing.specs.Lists.{put_tangent}
+use Rattle.smoothing.specs.Edges.{edge_vec}
 
 -- ---- what the lists must be for a call
 
@@ -14,7 +14,7 @@ use Rattle.smoothing.specs.Edges.{edgeVec}
 pub record TangentsIn (H : Halfedges) (T : List Float) (n : ℕ) : Type 0 where
   pub points : ℕ
   pub sound : Sound H n points
-  pub whole : H.numbers ≡ n * halfedgeStride
+  pub whole : H.numbers ≡ n * halfedge_stride
   pub tangents : length T ≡ n * 4
 
 -- a position for each point, a tangent and a fixed flag for each halfedge
@@ -29,28 +29,28 @@ pub record Tangents : Type 0 where
   pub tangents : List Float
   pub fixed : List ℕ
 
-abbrev pub tangentsOf : List Float → List ℕ → Tangents
-tangentsOf T X = record { tangents = T; fixed = X }
+abbrev pub tangents_of : List Float → List ℕ → Tangents
+tangents_of T X = record { tangents = T; fixed = X }
 
 -- ---- two halfedges of a point along one line
 
 -- `circular_tangent` with the edge of halfedge e, stored at e
-unfoldable pub putCircularTangent : Halfedges → List Float → List Float → ℕ → Vec3 → List Float
-putCircularTangent H P T e dir = putTangent T e (circularTangent dir (edgeVec H P e))
+unfoldable pub put_circular_tangent : Halfedges → List Float → List Float → ℕ → Vec3 → List Float
+put_circular_tangent H P T e dir = put_tangent T e (circular_tangent dir (edge_vec H P e))
 
 -- Both are fixed, the first with a tangent in the direction `dir`, which is `new_tangent`, the second in the opposite one. For a crease the Rust takes both edges from the start of the first: each starts at the point, so its own edge vector is the same.
-unfoldable pub alignTangents : Halfedges → List Float → Tangents → ℕ → ℕ → Vec3 → Tangents
-alignTangents H P m first second dir =
-    tangentsOf
-    (putCircularTangent H P (putCircularTangent H P m.tangents first dir) second (neg3 dir))
+unfoldable pub align_tangents : Halfedges → List Float → Tangents → ℕ → ℕ → Vec3 → Tangents
+align_tangents H P m first second dir =
+    tangents_of
+    (put_circular_tangent H P (put_circular_tangent H P m.tangents first dir) second (neg3 dir))
     (set (set m.fixed first 1) second 1)
 
 -- ---- request 3's count: the circular tangents on an edge without direction, those that are written over later too
 
 -- a circular tangent of halfedge e, with its edge, counts 1 where the edge has no direction
-unfoldable pub directionlessAt : Halfedges → List Float → ℕ → ℕ
-directionlessAt H P e = cond (directionless (edgeVec H P e)) 1 0
+unfoldable pub directionless_at : Halfedges → List Float → ℕ → ℕ
+directionless_at H P e = cond (directionless (edge_vec H P e)) 1 0
 
--- both of `alignTangents`
-unfoldable pub alignedDirectionless : Halfedges → List Float → ℕ → ℕ → ℕ
-alignedDirectionless H P first second = directionlessAt H P first + directionlessAt H P second
+-- both of `align_tangents`
+unfoldable pub aligned_directionless : Halfedges → List Float → ℕ → ℕ → ℕ
+aligned_directionless H P first second = directionless_at H P first + directionless_at H P second

@@ -4,14 +4,14 @@
 #![tactic(auto)]
 
 ghost use Rattle.std.specs.Prelude.{◌≡◌, ℕ, ◌+◌, ◌*◌, ◌≤◌, ◌<◌, ◌^◌, length, get_or, replicate};
-ghost use Rattle.mesh.specs.Mesh.{asHalfedges};
+ghost use Rattle.mesh.specs.Mesh.{as_halfedges};
 ghost use Rattle.mesh.specs.Inside.{Inside};
 ghost use Rattle.smoothing.specs.Edges.{EdgeIn};
-ghost use Rattle.create_shared.specs.Faces.{neighborTri, isFaceNeighbor, faceNeighbors, markNeighbor, markFlat, isFlat, addFlatFace, vertFaceAt, vertFlatFace, vertHalfedge};
-ghost use Rattle.create_shared.specs.Lent.{FlatIn, VertsIn, faceOf, flatFlags};
-ghost use Rattle.create_shared.specs.Lengths.{meshListsFit};
-ghost use Rattle.create_shared.specs.Makings.{MakingIn, tangentsOf, putCircularTangent, alignTangents, directionlessAt, alignedDirectionless};
-ghost use Rattle.create_shared.specs.Answer.{numberOf, placeOf, directionlessOf, answerOf};
+ghost use Rattle.create_shared.specs.Faces.{neighbor_tri, is_face_neighbor, face_neighbors, mark_neighbor, mark_flat, is_flat, add_flat_face, vert_face_at, vert_flat_face, vert_halfedge};
+ghost use Rattle.create_shared.specs.Lent.{FlatIn, VertsIn, face_of, flat_flags};
+ghost use Rattle.create_shared.specs.Lengths.{mesh_lists_fit};
+ghost use Rattle.create_shared.specs.Makings.{MakingIn, tangents_of, put_circular_tangent, align_tangents, directionless_at, aligned_directionless};
+ghost use Rattle.create_shared.specs.Answer.{number_of, place_of, directionless_of, answer_of};
 
 use linalg::Vec3;
 use mesh::Checked;
@@ -37,22 +37,22 @@ pub enum Making {
 
 // The triangle across edge j of triangle t.
 fn neighbor_tri(h: &[i32], t: usize, j: usize) -> usize
-    requires { Inside (asHalfedges h.now) (t * 3 + j) }
-    ensures { result ≡ neighborTri (asHalfedges h.now) t j }
+    requires { Inside (as_halfedges h.now) (t * 3 + j) }
+    ensures { result ≡ neighbor_tri (as_halfedges h.now) t j }
 {
     mesh::paired_halfedge(h, t * 3 + j) / 3
 }
 
 fn is_face_neighbor(h: &[i32], refs: &[i32], t: usize, j: usize) -> bool
-    requires { Inside (asHalfedges h.now) (t * 3 + j) }
-    ensures { result ≡ isFaceNeighbor (asHalfedges h.now) refs.now t j }
+    requires { Inside (as_halfedges h.now) (t * 3 + j) }
+    ensures { result ≡ is_face_neighbor (as_halfedges h.now) refs.now t j }
 {
     mesh::same_face(refs, neighbor_tri(h, t, j), t)
 }
 
 fn face_neighbors(h: &[i32], refs: &[i32], t: usize) -> usize
-    requires { (j : ℕ) → j < 3 → Inside (asHalfedges h.now) (t * 3 + j) }
-    ensures { result ≡ faceNeighbors (asHalfedges h.now) refs.now t }
+    requires { (j : ℕ) → j < 3 → Inside (as_halfedges h.now) (t * 3 + j) }
+    ensures { result ≡ face_neighbors (as_halfedges h.now) refs.now t }
 {
     let a = common::one_if(is_face_neighbor(h, refs, t, 0));
     let b = common::one_if(is_face_neighbor(h, refs, t, 1));
@@ -61,8 +61,8 @@ fn face_neighbors(h: &[i32], refs: &[i32], t: usize) -> usize
 }
 
 fn mark_neighbor(h: &[i32], refs: &[i32], flat: &mut [u8], t: usize, j: usize)
-    requires { (t * 3 + j < length flat.old) × FlatIn (asHalfedges h.now) (length flat.old) }
-    ensures { flat.new ≡ markNeighbor (asHalfedges h.now) refs.now t flat.old j }
+    requires { (t * 3 + j < length flat.old) × FlatIn (as_halfedges h.now) (length flat.old) }
+    ensures { flat.new ≡ mark_neighbor (as_halfedges h.now) refs.now t flat.old j }
 {
     if is_face_neighbor(h, refs, t, j) {
         let k = neighbor_tri(h, t, j);
@@ -71,8 +71,8 @@ fn mark_neighbor(h: &[i32], refs: &[i32], flat: &mut [u8], t: usize, j: usize)
 }
 
 fn mark_flat(h: &[i32], refs: &[i32], flat: &mut [u8], t: usize)
-    requires { (t * 3 + 2 < length flat.old) × FlatIn (asHalfedges h.now) (length flat.old) }
-    ensures { flat.new ≡ markFlat (asHalfedges h.now) refs.now flat.old t }
+    requires { (t * 3 + 2 < length flat.old) × FlatIn (as_halfedges h.now) (length flat.old) }
+    ensures { flat.new ≡ mark_flat (as_halfedges h.now) refs.now flat.old t }
 {
     if face_neighbors(h, refs, t) <= 1 {
         return;
@@ -85,8 +85,8 @@ fn mark_flat(h: &[i32], refs: &[i32], flat: &mut [u8], t: usize)
 
 // A 1 for each triangle in a flat face. The list has a place for each halfedge; all but the first third become 0.
 pub fn flat_faces(h: &[i32], refs: &[i32], flat: &mut [u8])
-    requires { FlatIn (asHalfedges h.now) (length flat.old) }
-    ensures { flat.new ≡ flatFlags (asHalfedges h.now) refs.now (length flat.old) }
+    requires { FlatIn (as_halfedges h.now) (length flat.old) }
+    ensures { flat.new ≡ flat_flags (as_halfedges h.now) refs.now (length flat.old) }
 {
     common::fill_bytes(flat, 0);
     let mut t = 0;
@@ -99,7 +99,7 @@ pub fn flat_faces(h: &[i32], refs: &[i32], flat: &mut [u8])
 // What stands for the flat faces at a point after another triangle t.
 fn add_flat_face(refs: &[i32], code: usize, t: usize) -> usize
     requires { t * 2 + 2 < 2 ^ 64 }
-    ensures { faceOf result ≡ addFlatFace refs.now (faceOf code) t }
+    ensures { face_of result ≡ add_flat_face refs.now (face_of code) t }
 {
     if code == 0 {
         return t * 2 + 1;
@@ -111,8 +111,8 @@ fn add_flat_face(refs: &[i32], code: usize, t: usize) -> usize
 }
 
 fn vert_face_at(h: &[i32], refs: &[i32], flat: &[u8], at: &mut [usize], e: usize)
-    requires { (e < length flat.now) × VertsIn (asHalfedges h.now) (length flat.now) (length at.old) }
-    ensures { (v : ℕ) → v < length at.old → faceOf (get_or at.new v 0) ≡ vertFaceAt (asHalfedges h.now) refs.now (isFlat flat.now) v (faceOf (get_or at.old v 0)) e }
+    requires { (e < length flat.now) × VertsIn (as_halfedges h.now) (length flat.now) (length at.old) }
+    ensures { (v : ℕ) → v < length at.old → face_of (get_or at.new v 0) ≡ vert_face_at (as_halfedges h.now) refs.now (is_flat flat.now) v (face_of (get_or at.old v 0)) e }
 {
     let t = e / 3;
     if flat[t] != 1 {
@@ -125,8 +125,8 @@ fn vert_face_at(h: &[i32], refs: &[i32], flat: &[u8], at: &mut [usize], e: usize
 
 // The flat faces at each point, from the result of `flat_faces`.
 pub fn vert_flat_face(h: &[i32], refs: &[i32], flat: &[u8], at: &mut [usize])
-    requires { VertsIn (asHalfedges h.now) (length flat.now) (length at.old) }
-    ensures { (v : ℕ) → v < length at.old → faceOf (get_or at.new v 0) ≡ vertFlatFace (asHalfedges h.now) refs.now (isFlat flat.now) (length flat.now) v }
+    requires { VertsIn (as_halfedges h.now) (length flat.now) (length at.old) }
+    ensures { (v : ℕ) → v < length at.old → face_of (get_or at.new v 0) ≡ vert_flat_face (as_halfedges h.now) refs.now (is_flat flat.now) (length flat.now) v }
 {
     common::fill_numbers(at, 0);
     let mut e = 0;
@@ -139,7 +139,7 @@ pub fn vert_flat_face(h: &[i32], refs: &[i32], flat: &[u8], at: &mut [usize])
 // The flat faces at point v, from the result of `vert_flat_face`.
 pub fn flat_face(at: &[usize], v: usize) -> FlatFace
     requires { v < length at.now }
-    ensures { result ≡ faceOf (get_or at.now v 0) }
+    ensures { result ≡ face_of (get_or at.now v 0) }
 {
     let code = at[v];
     if code == 0 {
@@ -154,8 +154,8 @@ pub fn flat_face(at: &[usize], v: usize) -> FlatFace
 
 // The lowest halfedge that starts at each point, n where there is none.
 pub fn vert_halfedge(h: &[i32], at: &mut [usize], n: usize)
-    requires { VertsIn (asHalfedges h.now) n (length at.old) }
-    ensures { (v : ℕ) → v < length at.old → get_or at.new v 0 ≡ vertHalfedge (asHalfedges h.now) n v }
+    requires { VertsIn (as_halfedges h.now) n (length at.old) }
+    ensures { (v : ℕ) → v < length at.old → get_or at.new v 0 ≡ vert_halfedge (as_halfedges h.now) n v }
 {
     common::fill_numbers(at, n);
     let mut e = n;
@@ -176,7 +176,7 @@ pub fn mesh_lists_fit(
     face_normals: usize,
     refs: usize,
 ) -> bool
-    ensures { result ≡ meshListsFit halfedges positions normals face_normals refs n p }
+    ensures { result ≡ mesh_lists_fit halfedges positions normals face_normals refs n p }
 {
     let points = common::both(
         common::both(
@@ -195,9 +195,9 @@ pub fn mesh_lists_fit(
 
 // The circular tangent of halfedge e that leaves in the direction `dir`, and 1 where its edge has no direction.
 fn put_circular_tangent(h: &[i32], pos: &[f64], t: &mut [f64], e: usize, dir: Vec3) -> usize
-    requires { (e * 4 + 4 ≤ length t.old) × EdgeIn (asHalfedges h.now) pos.now e }
-    ensures tangents { t.new ≡ putCircularTangent (asHalfedges h.now) pos.now t.old e dir }
-    ensures directionless { result ≡ directionlessAt (asHalfedges h.now) pos.now e }
+    requires { (e * 4 + 4 ≤ length t.old) × EdgeIn (as_halfedges h.now) pos.now e }
+    ensures tangents { t.new ≡ put_circular_tangent (as_halfedges h.now) pos.now t.old e dir }
+    ensures directionless { result ≡ directionless_at (as_halfedges h.now) pos.now e }
 {
     let made = smoothing::circular_tangent(dir, smoothing::edge_vec(h, pos, e));
     smoothing::put_tangent(t, e, made.tangent);
@@ -216,9 +216,9 @@ pub fn align_tangents(
     second: usize,
     dir: Vec3,
 ) -> usize
-    requires { (first < n) × (second < n) × MakingIn (asHalfedges h.now) pos.now t.old fixed.old n }
-    ensures tangents { tangentsOf t.new fixed.new ≡ alignTangents (asHalfedges h.now) pos.now (tangentsOf t.old fixed.old) first second dir }
-    ensures directionless { result ≡ alignedDirectionless (asHalfedges h.now) pos.now first second }
+    requires { (first < n) × (second < n) × MakingIn (as_halfedges h.now) pos.now t.old fixed.old n }
+    ensures tangents { tangents_of t.new fixed.new ≡ align_tangents (as_halfedges h.now) pos.now (tangents_of t.old fixed.old) first second dir }
+    ensures directionless { result ≡ aligned_directionless (as_halfedges h.now) pos.now first second }
 {
     let one = put_circular_tangent(h, pos, t, first, dir);
     let other = put_circular_tangent(h, pos, t, second, linalg::neg(dir));
@@ -230,7 +230,7 @@ pub fn align_tangents(
 // ---- the answer
 
 pub fn number_of(making: Making) -> usize
-    ensures { result ≡ numberOf making }
+    ensures { result ≡ number_of making }
 {
     match making {
         Making::Made { directionless: _ } => 0,
@@ -239,7 +239,7 @@ pub fn number_of(making: Making) -> usize
 }
 
 pub fn place_of(making: Making) -> usize
-    ensures { result ≡ placeOf making }
+    ensures { result ≡ place_of making }
 {
     match making {
         Making::Made { directionless: _ } => 0,
@@ -248,7 +248,7 @@ pub fn place_of(making: Making) -> usize
 }
 
 pub fn directionless_of(making: Making) -> usize
-    ensures { result ≡ directionlessOf making }
+    ensures { result ≡ directionless_of making }
 {
     match making {
         Making::Made { directionless } => directionless,
@@ -261,7 +261,7 @@ pub fn directionless_of(making: Making) -> usize
 
 // The answer with the count, or the refusal with its number and place.
 pub fn answer(checked: Checked, directionless: usize) -> Making
-    ensures { result ≡ answerOf checked directionless }
+    ensures { result ≡ answer_of checked directionless }
 {
     match checked {
         Checked::Accepted => Making::Made { directionless },

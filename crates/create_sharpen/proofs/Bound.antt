@@ -4,38 +4,38 @@ use native.Mathlib.Omega.{arith}
 use mathlib.Core.Path.{◌≡◌, refl, subst}
 use mathlib.Core.List.{List}
 use lib.Ieee.{Float}
-use Rattle.common.specs.Count.{countBelow}
-use Rattle.mesh.specs.Mesh.{startVert, Halfedges}
+use Rattle.common.specs.Count.{count_below}
+use Rattle.mesh.specs.Mesh.{start_vert, Halfedges}
 use Rattle.mesh.specs.Sound.{Sound}
-use Rattle.cycles.proofs.Around.{cycle-two}
-use Rattle.cycles.proofs.Starts.{startsAt, cycle-starts, points-bound}
-use Rattle.create_shared.proofs.Counts.{aligned-two}
+use Rattle.cycles.proofs.Around.{cycle_two}
+use Rattle.cycles.proofs.Starts.{starts_at, cycle_starts, points_bound}
+use Rattle.create_shared.proofs.Counts.{aligned_two}
 use Rattle.create_creases.specs.declared.Crease.{Crease}
 use Rattle.create_creases.specs.declared.Crease.TheVariants.{NoCrease, OneEnd, Through, Meeting}
-use Rattle.create_creases.specs.Creases.{creaseOf}
-use Rattle.create_creases.specs.Linked.{pairsAt}
-use Rattle.create_creases.proofs.Points.{through-in}
-use Rattle.create_sharpen.specs.Shapes.{creaseDirectionless, vertDirectionless, creasesDirectionless}
+use Rattle.create_creases.specs.Creases.{crease_of}
+use Rattle.create_creases.specs.Linked.{pairs_at}
+use Rattle.create_creases.proofs.Points.{through_in}
+use Rattle.create_sharpen.specs.Shapes.{crease_directionless, vert_directionless, creases_directionless}
 
 module _ {H : Halfedges} {n p : ℕ} (s : Sound H n p) (P S : List Float) where
   -- at least two halfedges start where one does
-  starts-two : (e : ℕ) → e < n → 2 ≤ countBelow (startsAt H (startVert H e)) n
-  starts-two e h = omega (arith, cycle-two s e h, cycle-starts s e h)
+  starts_two : (e : ℕ) → e < n → 2 ≤ count_below (starts_at H (start_vert H e)) n
+  starts_two e h = omega (arith, cycle_two s e h, cycle_starts s e h)
 
   -- only a crease through a point counts, 2 at most, and it has halfedges that start there
-  point-within : (v : ℕ) → vertDirectionless H P (pairsAt H S n) v ≤ countBelow (startsAt H v) n
-  unfolding creaseDirectionless
-  point-within v = go (creaseOf (pairsAt H S n v)) refl
+  point_within : (v : ℕ) → vert_directionless H P (pairs_at H S n) v ≤ count_below (starts_at H v) n
+  unfolding crease_directionless
+  point_within v = go (crease_of (pairs_at H S n v)) refl
     where
-      go : (k : Crease) → creaseOf (pairsAt H S n v) ≡ k → creaseDirectionless H P k ≤ countBelow (startsAt H v) n
+      go : (k : Crease) → crease_of (pairs_at H S n v) ≡ k → crease_directionless H P k ≤ count_below (starts_at H v) n
       go NoCrease e = omega arith
       go OneEnd e = omega arith
       go (Through a b x y) e =
-          let t = through-in s S v a b x y e in
-          let two : 2 ≤ countBelow (startsAt H v) n = subst (λ (u : ℕ). 2 ≤ countBelow (startsAt H u) n) t.2 (starts-two a t.0) in
-          omega (arith, two, aligned-two H P a b)
+          let t = through_in s S v a b x y e in
+          let two : 2 ≤ count_below (starts_at H v) n = subst (λ (u : ℕ). 2 ≤ count_below (starts_at H u) n) t.2 (starts_two a t.0) in
+          omega (arith, two, aligned_two H P a b)
       go (Meeting m) e = omega arith
 
-  pub creases-within : creasesDirectionless H P (pairsAt H S n) p ≤ n
-  creases-within =
-      omega (arith, points-bound H n p (vertDirectionless H P (pairsAt H S n)) 1 (λ v h. omega (arith, point-within v)))
+  pub creases_within : creases_directionless H P (pairs_at H S n) p ≤ n
+  creases_within =
+      omega (arith, points_bound H n p (vert_directionless H P (pairs_at H S n)) 1 (λ v h. omega (arith, point_within v)))

@@ -3,13 +3,13 @@
 #![tactic(auto)]
 
 ghost use Rattle.std.specs.Prelude.{◌≡◌, ◌+◌, ◌*◌, ◌≤◌, ◌<◌, length};
-ghost use Rattle.mesh.specs.Mesh.{asHalfedges};
-ghost use Rattle.create_shared.specs.Faces.{isFlat};
+ghost use Rattle.mesh.specs.Mesh.{as_halfedges};
+ghost use Rattle.create_shared.specs.Faces.{is_flat};
 ghost use Rattle.create_shared.specs.Lent.{FlatIn};
-ghost use Rattle.create_creases.specs.Linked.{pairsAt};
-ghost use Rattle.create_shared.specs.Makings.{TangentsIn, MakingIn, tangentsOf, alignedDirectionless};
-ghost use Rattle.create_sharpen.specs.Sharpen.{sharpened, sharpenTangent, newTangent, sidesOf, sharpenSide, sharpenSides, meetingSmoothness, sharpenMeetingAt, sharpenMeeting};
-ghost use Rattle.create_sharpen.specs.Shapes.{fixHalfedge, shapeThrough, shapeCrease, shapeVert, shapeVerts, creaseDirectionless, vertDirectionless, creasesDirectionless};
+ghost use Rattle.create_creases.specs.Linked.{pairs_at};
+ghost use Rattle.create_shared.specs.Makings.{TangentsIn, MakingIn, tangents_of, aligned_directionless};
+ghost use Rattle.create_sharpen.specs.Sharpen.{sharpened, sharpen_tangent, new_tangent, sides_of, sharpen_side, sharpen_sides, meeting_smoothness, sharpen_meeting_at, sharpen_meeting};
+ghost use Rattle.create_sharpen.specs.Shapes.{fix_halfedge, shape_through, shape_crease, shape_vert, shape_verts, crease_directionless, vert_directionless, creases_directionless};
 ghost use Rattle.create_sharpen.specs.Lent.{MeetingIn, CreaseIn, VertIn};
 
 use create_creases::Crease;
@@ -32,7 +32,7 @@ fn sharpened(t: Vec4, s: f64) -> Vec4
 // The same, of halfedge e.
 fn sharpen_tangent(t: &mut [f64], e: usize, s: f64)
     requires { e * 4 + 4 ≤ length t.old }
-    ensures { t.new ≡ sharpenTangent t.old e s }
+    ensures { t.new ≡ sharpen_tangent t.old e s }
 {
     let old = smoothing::tangent_at(t, e);
     smoothing::put_tangent(t, e, sharpened(old, s));
@@ -41,7 +41,7 @@ fn sharpen_tangent(t: &mut [f64], e: usize, s: f64)
 // The line of a crease through a point, in the direction of `first`.
 fn new_tangent(t: &[f64], first: usize, second: usize) -> Vec3
     requires { (first * 4 + 4 ≤ length t.now) × (second * 4 + 4 ≤ length t.now) }
-    ensures { result ≡ newTangent t.now first second }
+    ensures { result ≡ new_tangent t.now first second }
 {
     let a = smoothing::vec3_from_vec4(smoothing::tangent_at(t, first));
     let b = smoothing::vec3_from_vec4(smoothing::tangent_at(t, second));
@@ -58,7 +58,7 @@ fn sharpen_side(
     current: usize,
 ) -> f64
     requires { current * 4 + 4 ≤ length t.old }
-    ensures { sidesOf t.new result ≡ sharpenSide first second beyond (sidesOf t.old s) current }
+    ensures { sides_of t.new result ≡ sharpen_side first second beyond (sides_of t.old s) current }
 {
     if current == second {
         return beyond;
@@ -73,8 +73,8 @@ fn sharpen_side(
 
 // The smoothness of a halfedge at a meeting: 0 beside a flat face, else the mean.
 fn meeting_smoothness(h: &[i32], flat: &[u8], mean: f64, current: usize) -> f64
-    requires { (current < length flat.now) × FlatIn (asHalfedges h.now) (length flat.now) }
-    ensures { result ≡ meetingSmoothness (asHalfedges h.now) (isFlat flat.now) mean current }
+    requires { (current < length flat.now) × FlatIn (as_halfedges h.now) (length flat.now) }
+    ensures { result ≡ meeting_smoothness (as_halfedges h.now) (is_flat flat.now) mean current }
 {
     let a = current / 3;
     let b = mesh::paired_halfedge(h, current) / 3;
@@ -86,8 +86,8 @@ fn meeting_smoothness(h: &[i32], flat: &[u8], mean: f64, current: usize) -> f64
 
 // One halfedge of a meeting.
 fn sharpen_meeting_at(h: &[i32], flat: &[u8], t: &mut [f64], mean: f64, current: usize)
-    requires { (current * 4 + 4 ≤ length t.old) × (current < length flat.now) × FlatIn (asHalfedges h.now) (length flat.now) }
-    ensures { t.new ≡ sharpenMeetingAt (asHalfedges h.now) (isFlat flat.now) mean t.old current }
+    requires { (current * 4 + 4 ≤ length t.old) × (current < length flat.now) × FlatIn (as_halfedges h.now) (length flat.now) }
+    ensures { t.new ≡ sharpen_meeting_at (as_halfedges h.now) (is_flat flat.now) mean t.old current }
 {
     if smoothing::is_marked_inside_quad(t, current) {
         return;
@@ -106,8 +106,8 @@ fn sharpen_sides(
     between: f64,
     beyond: f64,
 )
-    requires { (first < n) × TangentsIn (asHalfedges h.now) t.old n }
-    ensures { t.new ≡ sharpenSides (asHalfedges h.now) n t.old first second between beyond }
+    requires { (first < n) × TangentsIn (as_halfedges h.now) t.old n }
+    ensures { t.new ≡ sharpen_sides (as_halfedges h.now) n t.old first second between beyond }
 {
     let mut s = between;
     let mut current = first;
@@ -122,8 +122,8 @@ fn sharpen_sides(
 
 // The vertex cycle of a meeting, from the halfedge of its first crease on.
 fn sharpen_meeting(n: usize, h: &[i32], flat: &[u8], t: &mut [f64], first: usize, mean: f64)
-    requires { (first < n) × MeetingIn (asHalfedges h.now) flat.now t.old n }
-    ensures { t.new ≡ sharpenMeeting (asHalfedges h.now) (isFlat flat.now) n t.old first mean }
+    requires { (first < n) × MeetingIn (as_halfedges h.now) flat.now t.old n }
+    ensures { t.new ≡ sharpen_meeting (as_halfedges h.now) (is_flat flat.now) n t.old first mean }
 {
     let mut current = first;
     loop {
@@ -149,9 +149,9 @@ fn shape_through(
     between: f64,
     beyond: f64,
 ) -> usize
-    requires { (first < n) × (second < n) × MakingIn (asHalfedges h.now) pos.now t.old fixed.old n }
-    ensures tangents { tangentsOf t.new fixed.new ≡ shapeThrough (asHalfedges h.now) pos.now n (tangentsOf t.old fixed.old) first second between beyond }
-    ensures directionless { result ≡ alignedDirectionless (asHalfedges h.now) pos.now first second }
+    requires { (first < n) × (second < n) × MakingIn (as_halfedges h.now) pos.now t.old fixed.old n }
+    ensures tangents { tangents_of t.new fixed.new ≡ shape_through (as_halfedges h.now) pos.now n (tangents_of t.old fixed.old) first second between beyond }
+    ensures directionless { result ≡ aligned_directionless (as_halfedges h.now) pos.now first second }
 {
     let dir = new_tangent(t, first, second);
     let directionless = create_shared::align_tangents(n, h, pos, t, fixed, first, second, dir);
@@ -162,7 +162,7 @@ fn shape_through(
 // Fixes halfedge e, if it is one.
 fn fix_halfedge(n: usize, fixed: &mut [u8], e: usize)
     requires { length fixed.old ≡ n }
-    ensures { fixed.new ≡ fixHalfedge n fixed.old e }
+    ensures { fixed.new ≡ fix_halfedge n fixed.old e }
 {
     if e >= n {
         return;
@@ -181,9 +181,9 @@ fn shape_crease(
     first: usize,
     crease: Crease,
 ) -> usize
-    requires { CreaseIn n first crease × (length flat.now ≡ n) × MakingIn (asHalfedges h.now) pos.now t.old fixed.old n }
-    ensures tangents { tangentsOf t.new fixed.new ≡ shapeCrease (asHalfedges h.now) pos.now (isFlat flat.now) n first first (tangentsOf t.old fixed.old) crease }
-    ensures directionless { result ≡ creaseDirectionless (asHalfedges h.now) pos.now crease }
+    requires { CreaseIn n first crease × (length flat.now ≡ n) × MakingIn (as_halfedges h.now) pos.now t.old fixed.old n }
+    ensures tangents { tangents_of t.new fixed.new ≡ shape_crease (as_halfedges h.now) pos.now (is_flat flat.now) n first first (tangents_of t.old fixed.old) crease }
+    ensures directionless { result ≡ crease_directionless (as_halfedges h.now) pos.now crease }
 {
     match crease {
         Crease::NoCrease => {
@@ -217,9 +217,9 @@ fn shape_vert(
     fixed: &mut [u8],
     v: usize,
 ) -> usize
-    requires { (v < length at.now) × VertIn (asHalfedges h.now) pos.now flat.now smooth.now at.now link.now t.old fixed.old n }
-    ensures tangents { tangentsOf t.new fixed.new ≡ shapeVert (asHalfedges h.now) pos.now (isFlat flat.now) n (pairsAt (asHalfedges h.now) smooth.now n) (tangentsOf t.old fixed.old) v }
-    ensures directionless { result ≡ vertDirectionless (asHalfedges h.now) pos.now (pairsAt (asHalfedges h.now) smooth.now n) v }
+    requires { (v < length at.now) × VertIn (as_halfedges h.now) pos.now flat.now smooth.now at.now link.now t.old fixed.old n }
+    ensures tangents { tangents_of t.new fixed.new ≡ shape_vert (as_halfedges h.now) pos.now (is_flat flat.now) n (pairs_at (as_halfedges h.now) smooth.now n) (tangents_of t.old fixed.old) v }
+    ensures directionless { result ≡ vert_directionless (as_halfedges h.now) pos.now (pairs_at (as_halfedges h.now) smooth.now n) v }
 {
     let first = create_creases::first_crease(n, at, v);
     let crease = create_creases::crease_at(n, h, smooth, at, link, v);
@@ -238,9 +238,9 @@ pub fn shape_verts(
     t: &mut [f64],
     fixed: &mut [u8],
 ) -> usize
-    requires { VertIn (asHalfedges h.now) pos.now flat.now smooth.now at.now link.now t.old fixed.old n }
-    ensures tangents { tangentsOf t.new fixed.new ≡ shapeVerts (asHalfedges h.now) pos.now (isFlat flat.now) n (pairsAt (asHalfedges h.now) smooth.now n) (length at.now) (tangentsOf t.old fixed.old) }
-    ensures directionless { result ≡ creasesDirectionless (asHalfedges h.now) pos.now (pairsAt (asHalfedges h.now) smooth.now n) (length at.now) }
+    requires { VertIn (as_halfedges h.now) pos.now flat.now smooth.now at.now link.now t.old fixed.old n }
+    ensures tangents { tangents_of t.new fixed.new ≡ shape_verts (as_halfedges h.now) pos.now (is_flat flat.now) n (pairs_at (as_halfedges h.now) smooth.now n) (length at.now) (tangents_of t.old fixed.old) }
+    ensures directionless { result ≡ creases_directionless (as_halfedges h.now) pos.now (pairs_at (as_halfedges h.now) smooth.now n) (length at.now) }
 {
     let mut directionless = 0;
     let mut v = 0;

@@ -8,29 +8,29 @@ use lib.ListN.{length, get_or, take, replicate}
 use lib.Seq.{take_all}
 use lib.Ieee.{Float}
 use Rattle.float.specs.Ops.{one}
-use Rattle.create_smoothness.specs.EntrySmoothness.{EntriesIn, addEntry, addSmoothness, entrySmoothness}
+use Rattle.create_smoothness.specs.EntrySmoothness.{EntriesIn, add_entry, add_smoothness, entry_smoothness}
 use Rattle.create_smoothness.specs.declared.Smoothness.{Smoothness}
-use Rattle.create_smoothness.proofs.Passing.{get-map}
+use Rattle.create_smoothness.proofs.Passing.{get_map}
 
 -- a fold over the first k of a list, and one more
-fold-more : {A B : Type 0} (f : B → A → B) (d : A) (s : B) (l : List A) (k : ℕ) → k < length l → foldl f s (take (suc k) l) ≡ f (foldl f s (take k l)) (get_or l k d)
-fold-more f d s [] k h = absurd (not-suc-le-zero h)
-fold-more f d s (x ∷ l) zero h = refl
-fold-more f d s (x ∷ l) (suc k) h = fold-more f d (f s x) l k (le_of_suc-le-suc h)
+fold_more : {A B : Type 0} (f : B → A → B) (d : A) (s : B) (l : List A) (k : ℕ) → k < length l → foldl f s (take (suc k) l) ≡ f (foldl f s (take k l)) (get_or l k d)
+fold_more f d s [] k h = absurd (not-suc-le-zero h)
+fold_more f d s (x ∷ l) zero h = refl
+fold_more f d s (x ∷ l) (suc k) h = fold_more f d (f s x) l k (le_of_suc-le-suc h)
 
 -- what the first k entries make of S
 abbrev pub added : List Float → List Smoothness → ℕ → List Float
-added S E k = foldl addSmoothness S (take k E)
+added S E k = foldl add_smoothness S (take k E)
 
-pub add-more : (S : List Float) (E : List Smoothness) (d : Smoothness) (k : ℕ) → k < length E → added S E (k + 1) ≡ addEntry (added S E k) (get_or E k d).halfedge (get_or E k d).smoothness
-unfolding addSmoothness
-add-more S E d k h = ap (added S E) (add-one k) ∙ fold-more addSmoothness d S E k h
+pub add_more : (S : List Float) (E : List Smoothness) (d : Smoothness) (k : ℕ) → k < length E → added S E (k + 1) ≡ add_entry (added S E k) (get_or E k d).halfedge (get_or E k d).smoothness
+unfolding add_smoothness
+add_more S E d k h = ap (added S E) (add-one k) ∙ fold_more add_smoothness d S E k h
 
 -- after the last
-pub all-added : (S : List Float) (E : List Smoothness) (n : ℕ) → S ≡ replicate n one → added S E (length E) ≡ entrySmoothness E n
-unfolding entrySmoothness
-all-added S E n e = ap (foldl addSmoothness S) (take_all (length E) E (le_refl (length E))) ∙ ap (λ (T : List Float). foldl addSmoothness T E) e
+pub all_added : (S : List Float) (E : List Smoothness) (n : ℕ) → S ≡ replicate n one → added S E (length E) ≡ entry_smoothness E n
+unfolding entry_smoothness
+all_added S E n e = ap (foldl add_smoothness S) (take_all (length E) E (le_refl (length E))) ∙ ap (λ (T : List Float). foldl add_smoothness T E) e
 
 -- the halfedge of entry k
-pub named-at : {E : List Smoothness} {n : ℕ} → EntriesIn E n → (d : Smoothness) (k : ℕ) → k < length E → (get_or E k d).halfedge < n
-named-at {E} {n} i d k h = subst (λ (m : ℕ). m < n) (get-map (λ e. e.halfedge) d 0 E k h) (i.named k h)
+pub named_at : {E : List Smoothness} {n : ℕ} → EntriesIn E n → (d : Smoothness) (k : ℕ) → k < length E → (get_or E k d).halfedge < n
+named_at {E} {n} i d k h = subst (λ (m : ℕ). m < n) (get_map (λ e. e.halfedge) d 0 E k h) (i.named k h)

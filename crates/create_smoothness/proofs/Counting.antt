@@ -2,5 +2,5 @@
 use lib.Ieee.{nan}
 use Rattle.create_smoothness.specs.declared.Smoothness.{Smoothness}
 
-abbrev pub noEntry : Smoothness
-noEntry = record { halfedge = 0; smoothness = nan }
+abbrev pub no_entry : Smoothness
+no_entry = record { halfedge = 0; smoothness = nan }

@@ -4,10 +4,10 @@
 
 ghost use Rattle.std.specs.Prelude.{◌≡◌, ◌+◌, ◌<◌, ◌^◌, length, replicate};
 ghost use Rattle.float.specs.Ops.{one};
-ghost use Rattle.mesh.specs.Check.{refusedBelow, ◌then◌};
-ghost use Rattle.create_smoothness.specs.Entries.{entriesOf};
-ghost use Rattle.create_smoothness.specs.Questions.{onward, passEntry, passedOf, checkPassed};
-ghost use Rattle.create_smoothness.specs.EntrySmoothness.{EntriesIn, addEntry, entrySmoothness};
+ghost use Rattle.mesh.specs.Check.{refused_below, ◌then◌};
+ghost use Rattle.create_smoothness.specs.Entries.{entries_of};
+ghost use Rattle.create_smoothness.specs.Questions.{onward, pass_entry, passed_of, check_passed};
+ghost use Rattle.create_smoothness.specs.EntrySmoothness.{EntriesIn, add_entry, entry_smoothness};
 
 use mesh::Checked;
 
@@ -40,7 +40,7 @@ fn onward(passed: usize, k: usize, pass: bool) -> usize
 // The questions 9 and 10 of entry k.
 fn pass_entry(passed: Passed, k: usize, halfedge: usize, smoothness: f64, n: usize) -> Passed
     requires { k + 1 < 2 ^ 64 }
-    ensures { result ≡ passEntry passed k halfedge smoothness n }
+    ensures { result ≡ pass_entry passed k halfedge smoothness n }
 {
     let entry = onward(passed.entry, k, halfedge < n);
     let sign = onward(passed.sign, k, mesh::sign_clear(smoothness));
@@ -49,7 +49,7 @@ fn pass_entry(passed: Passed, k: usize, halfedge: usize, smoothness: f64, n: usi
 
 // The questions 9 and 10 of all entries.
 pub fn scan(sharp: &[Smoothness], n: usize) -> Passed
-    ensures { result ≡ passedOf sharp.now n (length sharp.now) }
+    ensures { result ≡ passed_of sharp.now n (length sharp.now) }
 {
     let mut passed = Passed { entry: 0, sign: 0 };
     let mut k: usize = 0;
@@ -63,7 +63,7 @@ pub fn scan(sharp: &[Smoothness], n: usize) -> Passed
 
 // The answers so far, and then that of the question `number`, which place k is the lowest to break, or none of so many.
 fn refused_below(sofar: Checked, number: usize, k: usize, places: usize) -> Checked
-    ensures { result ≡ (sofar then refusedBelow number k places) }
+    ensures { result ≡ (sofar then refused_below number k places) }
 {
     let Checked::Accepted = sofar else {
         return sofar;
@@ -76,7 +76,7 @@ fn refused_below(sofar: Checked, number: usize, k: usize, places: usize) -> Chec
 
 // The answers so far, and then those of the questions 9 and 10, of so many entries that were scanned.
 pub fn check_passed(sofar: Checked, passed: Passed, count: usize) -> Checked
-    ensures { result ≡ checkPassed sofar passed count }
+    ensures { result ≡ check_passed sofar passed count }
 {
     refused_below(
         refused_below(sofar, 9, passed.entry, count),
@@ -96,7 +96,7 @@ fn fill_ones(smooth: &mut [f64])
 // An entry of smoothness s for halfedge e.
 pub fn add_entry(smooth: &mut [f64], e: usize, s: f64)
     requires { e < length smooth.old }
-    ensures { smooth.new ≡ addEntry smooth.old e s }
+    ensures { smooth.new ≡ add_entry smooth.old e s }
 {
     if s >= 1.0 {
         return;
@@ -107,8 +107,8 @@ pub fn add_entry(smooth: &mut [f64], e: usize, s: f64)
 
 // The smoothness that the entries of two flat lists give each halfedge, whatever the list held.
 pub fn entry_smoothness(entries: &[usize], values: &[f64], smooth: &mut [f64])
-    requires { (length values.now ≡ length entries.now) × EntriesIn (entriesOf entries.now values.now) (length smooth.old) }
-    ensures { smooth.new ≡ entrySmoothness (entriesOf entries.now values.now) (length smooth.old) }
+    requires { (length values.now ≡ length entries.now) × EntriesIn (entries_of entries.now values.now) (length smooth.old) }
+    ensures { smooth.new ≡ entry_smoothness (entries_of entries.now values.now) (length smooth.old) }
 {
     fill_ones(smooth);
     let mut k = 0;
@@ -121,7 +121,7 @@ pub fn entry_smoothness(entries: &[usize], values: &[f64], smooth: &mut [f64])
 // The same of a list of entries.
 pub fn sharp_smoothness(sharp: &[Smoothness], smooth: &mut [f64])
     requires { EntriesIn sharp.now (length smooth.old) }
-    ensures { smooth.new ≡ entrySmoothness sharp.now (length smooth.old) }
+    ensures { smooth.new ≡ entry_smoothness sharp.now (length smooth.old) }
 {
     fill_ones(smooth);
     let mut k: usize = 0;

@@ -1,34 +1,34 @@
 -- Vertex cycles (document 01's rounds): the halfedges that leave one point, reached one from the other by going to the pair and then to the next in that triangle.
 use Rattle.std.specs.Prelude.{ℕ, ◌≤◌, ◌<◌, ◌≡◌, List, length}
-use Rattle.mesh.specs.Mesh.{startVert, pairedHalfedge, nextHalfedge, prevHalfedge, Halfedges}
+use Rattle.mesh.specs.Mesh.{start_vert, paired_halfedge, next_halfedge, prev_halfedge, Halfedges}
 use Rattle.cycles.specs.Count.{count, ◌∈◌}
-use Rattle.cycles.specs.Walk.{cycleOf}
+use Rattle.cycles.specs.Walk.{cycle_of}
 use Rattle.cycles.specs.Orbits.{Orbits}
 
 -- the next halfedge around the start point of e, and the previous one
-unfoldable pub nextAround : Halfedges → ℕ → ℕ
-nextAround H e = nextHalfedge (pairedHalfedge H e)
+unfoldable pub next_around : Halfedges → ℕ → ℕ
+next_around H e = next_halfedge (paired_halfedge H e)
 
-unfoldable pub prevAround : Halfedges → ℕ → ℕ
-prevAround H e = pairedHalfedge H (prevHalfedge e)
+unfoldable pub prev_around : Halfedges → ℕ → ℕ
+prev_around H e = paired_halfedge H (prev_halfedge e)
 
 -- `collect_vertex_cycle` over n halfedges: the vertex cycle of e (document 01's round), e first. Question 4 rules out the Rust's break at a negative pair.
-abbrev pub vertexCycle : Halfedges → ℕ → ℕ → List ℕ
-vertexCycle H n e = cycleOf (nextAround H) n e
+abbrev pub vertex_cycle : Halfedges → ℕ → ℕ → List ℕ
+vertex_cycle H n e = cycle_of (next_around H) n e
 
 -- the same the other way round
-abbrev pub vertexCycleBack : Halfedges → ℕ → ℕ → List ℕ
-vertexCycleBack H n e = cycleOf (prevAround H) n e
+abbrev pub vertex_cycle_back : Halfedges → ℕ → ℕ → List ℕ
+vertex_cycle_back H n e = cycle_of (prev_around H) n e
 
 -- What is claimed of an accepted mesh. Its walks forward and backward have all that `Orbits` says; each step undoes the other and stays at the start point.
 pub record Cycles (H : Halfedges) (n : ℕ) : Type 0 where
-  pub forward : Orbits (nextAround H) n
-  pub backward : Orbits (prevAround H) n
-  pub prev-next : (e : ℕ) → e < n → prevAround H (nextAround H e) ≡ e
-  pub next-prev : (e : ℕ) → e < n → nextAround H (prevAround H e) ≡ e
-  pub next-start : (e : ℕ) → e < n → startVert H (nextAround H e) ≡ startVert H e
-  pub prev-start : (e : ℕ) → e < n → startVert H (prevAround H e) ≡ startVert H e
+  pub forward : Orbits (next_around H) n
+  pub backward : Orbits (prev_around H) n
+  pub prev_next : (e : ℕ) → e < n → prev_around H (next_around H e) ≡ e
+  pub next_prev : (e : ℕ) → e < n → next_around H (prev_around H e) ≡ e
+  pub next_start : (e : ℕ) → e < n → start_vert H (next_around H e) ≡ start_vert H e
+  pub prev_start : (e : ℕ) → e < n → start_vert H (prev_around H e) ≡ start_vert H e
   -- a vertex cycle leaves one point, has at least two halfedges, and has the same halfedges both ways
-  pub cycle-start : (e x : ℕ) → e < n → x ∈ vertexCycle H n e → startVert H x ≡ startVert H e
-  pub cycle-two : (e : ℕ) → e < n → 2 ≤ length (vertexCycle H n e)
-  pub cycle-ways : (e x : ℕ) → e < n → count x (vertexCycleBack H n e) ≡ count x (vertexCycle H n e)
+  pub cycle_start : (e x : ℕ) → e < n → x ∈ vertex_cycle H n e → start_vert H x ≡ start_vert H e
+  pub cycle_two : (e : ℕ) → e < n → 2 ≤ length (vertex_cycle H n e)
+  pub cycle_ways : (e x : ℕ) → e < n → count x (vertex_cycle_back H n e) ≡ count x (vertex_cycle H n e)

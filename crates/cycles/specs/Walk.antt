@@ -12,18 +12,18 @@ path step stop zero h = []
 path step stop (suc k) h = step h ∷ cond (stop (step h)) [] (path step stop k (step h))
 
 -- the place where that walk ends
-unfoldable pub walkEnd : (ℕ → ℕ) → (ℕ → Bool) → ℕ → ℕ → ℕ
-walkEnd step stop zero h = h
-walkEnd step stop (suc k) h = cond (stop (step h)) (step h) (walkEnd step stop k (step h))
+unfoldable pub walk_end : (ℕ → ℕ) → (ℕ → Bool) → ℕ → ℕ → ℕ
+walk_end step stop zero h = h
+walk_end step stop (suc k) h = cond (stop (step h)) (step h) (walk_end step stop k (step h))
 
 -- c and the places after it, at most k, until the next would be s (`collect_vertex_cycle`, which has no guard)
-unfoldable pub cycleFrom : (ℕ → ℕ) → ℕ → ℕ → ℕ → List ℕ
-cycleFrom step zero s c = []
-cycleFrom step (suc k) s c = c ∷ cond (eqb (step c) s) [] (cycleFrom step k s (step c))
+unfoldable pub cycle_from : (ℕ → ℕ) → ℕ → ℕ → ℕ → List ℕ
+cycle_from step zero s c = []
+cycle_from step (suc k) s c = c ∷ cond (eqb (step c) s) [] (cycle_from step k s (step c))
 
 -- the cycle of h, under a map of the numbers below n
-abbrev pub cycleOf : (ℕ → ℕ) → ℕ → ℕ → List ℕ
-cycleOf step n h = cycleFrom step n h h
+abbrev pub cycle_of : (ℕ → ℕ) → ℕ → ℕ → List ℕ
+cycle_of step n h = cycle_from step n h h
 
 -- x is reached from h
 abbrev pub Reaches : (ℕ → ℕ) → ℕ → ℕ → Type 0

@@ -3,22 +3,22 @@
 #![tactic(auto)]
 
 ghost use Rattle.std.specs.Prelude.{◌≡◌, ◌+◌, ◌<◌, ◌^◌};
-ghost use Rattle.mesh.specs.Mesh.{prevHalfedge, asHalfedges};
+ghost use Rattle.mesh.specs.Mesh.{prev_halfedge, as_halfedges};
 ghost use Rattle.mesh.specs.Inside.{Inside};
-ghost use Rattle.cycles.specs.Cycles.{nextAround, prevAround};
+ghost use Rattle.cycles.specs.Cycles.{next_around, prev_around};
 
 // The next halfedge around the start point of e: the next of the pair.
 pub fn next_around(h: &[i32], e: usize) -> usize
-    requires { Inside (asHalfedges h.now) e }
-    ensures { result ≡ nextAround (asHalfedges h.now) e }
+    requires { Inside (as_halfedges h.now) e }
+    ensures { result ≡ next_around (as_halfedges h.now) e }
 {
     mesh::next_halfedge(mesh::paired_halfedge(h, e))
 }
 
 // The previous one: the pair of the previous.
 pub fn prev_around(h: &[i32], e: usize) -> usize
-    requires { (e + 1 < 2 ^ 64) × Inside (asHalfedges h.now) (prevHalfedge e) }
-    ensures { result ≡ prevAround (asHalfedges h.now) e }
+    requires { (e + 1 < 2 ^ 64) × Inside (as_halfedges h.now) (prev_halfedge e) }
+    ensures { result ≡ prev_around (as_halfedges h.now) e }
 {
     mesh::paired_halfedge(h, mesh::prev_halfedge(e))
 }

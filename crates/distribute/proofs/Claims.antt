@@ -6,99 +6,99 @@ use mathlib.Core.List.{List, [], ◌∷◌}
 use borrow.Author.Tests.{le-ltb}
 use lib.ListN.{length, get_or, length-set, length-append}
 use lib.Ieee.{Float}
-use Rattle.common.specs.Fold.{foldTo}
-use Rattle.common.proofs.Fold.{fold-first}
+use Rattle.common.specs.Fold.{fold_to}
+use Rattle.common.proofs.Fold.{fold_first}
 use Rattle.mesh.specs.Mesh.{Halfedges}
-use Rattle.cycles.specs.Walk.{cycleOf}
-use Rattle.cycles.proofs.Orbits.{cycle-back, cycle-within, cycle-some}
-use Rattle.cycles.proofs.Around.{next-permutes}
-use Rattle.distribute_spread.specs.Spread.{State, marked, turnAt}
+use Rattle.cycles.specs.Walk.{cycle_of}
+use Rattle.cycles.proofs.Orbits.{cycle_back, cycle_within, cycle_some}
+use Rattle.cycles.proofs.Around.{next_permutes}
+use Rattle.distribute_spread.specs.Spread.{State, marked, turn_at}
 use Rattle.distribute_spread.specs.Order.{AngleCount, AnglesSuffice}
-use Rattle.distribute_spread.proofs.Sublists.{sublist-length}
-use Rattle.distribute_spread.proofs.Turns.{turnAll}
-use Rattle.distribute_spread.proofs.Places.{gatherPlaces, turnPlaces, turns-gathers}
-use Rattle.distribute_spread.proofs.Walks.{second-is}
-use Rattle.distribute_spread.proofs.Guards.{unguarded, angles-suffice, angles-gathered}
-use Rattle.distribute_steps.specs.FloatSteps.{Plan, begin, gatherEdge, plan, clampAngle, clampedAngle, next, floatSteps}
-use Rattle.distribute_walks.proofs.Lawful.{lawful, angleCount, angles-counted}
-use Rattle.distribute.specs.Claims.{WalksGo, GuardsNeverFire, planAt, planFrom, AnglesInLists, NextInList}
-use Rattle.distribute.proofs.Accepted.{lists-of}
+use Rattle.distribute_spread.proofs.Sublists.{sublist_length}
+use Rattle.distribute_spread.proofs.Turns.{turn_all}
+use Rattle.distribute_spread.proofs.Places.{gather_places, turn_places, turns_gathers}
+use Rattle.distribute_spread.proofs.Walks.{second_is}
+use Rattle.distribute_spread.proofs.Guards.{unguarded, angles_suffice, angles_gathered}
+use Rattle.distribute_steps.specs.FloatSteps.{Plan, begin, gather_edge, plan, clamp_angle, clamped_angle, next, float_steps}
+use Rattle.distribute_walks.proofs.Lawful.{lawful, angle_count, angles_counted}
+use Rattle.distribute.specs.Claims.{WalksGo, GuardsNeverFire, plan_at, plan_from, AnglesInLists, NextInList}
+use Rattle.distribute.proofs.Accepted.{lists_of}
 
 -- ---- the guards
 
-pub guards-never-fire : GuardsNeverFire
-guards-never-fire H P N F T C D n p U start w =
-    let s = (lists-of H P N F T C D n p w.accepted).sound in
+pub guards_never_fire : GuardsNeverFire
+guards_never_fire H P N F T C D n p U start w =
+    let s = (lists_of H P N F T C D n p w.accepted).sound in
     record {
-      comes-back = (
-        length (cycleOf (floatSteps H P N F n).step n start),
-        cycle-some (next-permutes s) start w.below,
-        cycle-within (next-permutes s) start w.below,
-        cycle-back (next-permutes s) start w.below,
+      comes_back = (
+        length (cycle_of (float_steps H P N F n).step n start),
+        cycle_some (next_permutes s) start w.below,
+        cycle_within (next_permutes s) start w.below,
+        cycle_back (next_permutes s) start w.below,
       );
-      unguarded = unguarded (lawful s P N F) U start w.below w.whole w.is-start;
+      unguarded = unguarded (lawful s P N F) U start w.below w.whole w.is_start;
     }
 
 -- ---- the plan, turn after turn
 
-plan-index : (i : ℕ) (by : Plan) → (planAt by i).index ≡ by.index + i
-unfolding planAt next
-plan-index zero by = omega arith
-plan-index (suc i) by = omega (arith, plan-index i (next by))
+plan_index : (i : ℕ) (by : Plan) → (plan_at by i).index ≡ by.index + i
+unfolding plan_at next
+plan_index zero by = omega arith
+plan_index (suc i) by = omega (arith, plan_index i (next by))
 
-plan-current : (i : ℕ) (by : Plan) → (planAt by i).currentAngle ≡ by.currentAngle
-unfolding planAt next
-plan-current zero by = refl
-plan-current (suc i) by = plan-current i (next by)
+plan_current : (i : ℕ) (by : Plan) → (plan_at by i).current_angle ≡ by.current_angle
+unfolding plan_at next
+plan_current zero by = refl
+plan_current (suc i) by = plan_current i (next by)
 
-plan-desired : (i : ℕ) (by : Plan) → length (planAt by i).desiredAngle ≡ length by.desiredAngle
-unfolding planAt next
-plan-desired zero by = refl
-plan-desired (suc i) by = plan-desired i (next by) ∙ simp length-set
+plan_desired : (i : ℕ) (by : Plan) → length (plan_at by i).desired_angle ≡ length by.desired_angle
+unfolding plan_at next
+plan_desired zero by = refl
+plan_desired (suc i) by = plan_desired i (next by) ∙ simp length-set
 
 module _ (H : Halfedges) (P N : List Float) (F : List ℕ) (n : ℕ) where
-  turn-fold : (cs : List ℕ) (by : Plan) (st : State (floatSteps H P N F n))
-      → turnAll (floatSteps H P N F n) cs by st ≡ foldTo (λ s i. turnAt (floatSteps H P N F n) (get_or cs i 0) (planAt by i) s) st (length cs)
-  unfolding turnAll planAt foldTo
-  turn-fold [] by st = refl
-  turn-fold (c ∷ cs) by st =
-      turn-fold cs (next by) (turnAt (floatSteps H P N F n) c by st)
-      ∙ sym (fold-first (λ s i. turnAt (floatSteps H P N F n) (get_or (c ∷ cs) i 0) (planAt by i) s) st (length cs))
+  turn_fold : (cs : List ℕ) (by : Plan) (st : State (float_steps H P N F n))
+      → turn_all (float_steps H P N F n) cs by st ≡ fold_to (λ s i. turn_at (float_steps H P N F n) (get_or cs i 0) (plan_at by i) s) st (length cs)
+  unfolding turn_all plan_at fold_to
+  turn_fold [] by st = refl
+  turn_fold (c ∷ cs) by st =
+      turn_fold cs (next by) (turn_at (float_steps H P N F n) c by st)
+      ∙ sym (fold_first (λ s i. turn_at (float_steps H P N F n) (get_or (c ∷ cs) i 0) (plan_at by i) s) st (length cs))
 
   -- `current_angle` grows as `desired_angle` does
-  currents-counted : AngleCount (floatSteps H P N F n) (λ g. length g.currentAngle)
-  unfolding begin gatherEdge
-  currents-counted = record { at-start = λ start v. refl; grows = λ start e v g. simp length-append (omega arith) }
+  currents_counted : AngleCount (float_steps H P N F n) (λ g. length g.current_angle)
+  unfolding begin gather_edge
+  currents_counted = record { at_start = λ start v. refl; grows = λ start e v g. simp length-append (omega arith) }
 
 -- ---- the angles
 
-pub angles-in-lists : AnglesInLists
+pub angles_in_lists : AnglesInLists
 unfolding plan
-angles-in-lists H P N F T C D n p U start w looked st e =
-    let S = floatSteps H P N F n in
-    let L = lawful (lists-of H P N F T C D n p w.accepted).sound P N F in
-    let by = planFrom H P N F n U start looked in
-    let cs = turnPlaces S U start (suc n) start in
-    let current : length by.currentAngle ≡ length (gatherPlaces S U (suc n) start) =
-    angles-gathered L U start w.below w.is-start (λ g. length g.currentAngle) (currents-counted H P N F n) (suc n) looked in
-    let desired : length by.desiredAngle ≡ length (gatherPlaces S U (suc n) start) =
-    angles-gathered L U start w.below w.is-start angleCount (angles-counted H P N F n) (suc n) looked in
-    let within : length cs ≤ length (gatherPlaces S U (suc n) start) = sublist-length (turns-gathers S U start (suc n) start) in
+angles_in_lists H P N F T C D n p U start w looked st e =
+    let S = float_steps H P N F n in
+    let L = lawful (lists_of H P N F T C D n p w.accepted).sound P N F in
+    let by = plan_from H P N F n U start looked in
+    let cs = turn_places S U start (suc n) start in
+    let current : length by.current_angle ≡ length (gather_places S U (suc n) start) =
+    angles_gathered L U start w.below w.is_start (λ g. length g.current_angle) (currents_counted H P N F n) (suc n) looked in
+    let desired : length by.desired_angle ≡ length (gather_places S U (suc n) start) =
+    angles_gathered L U start w.below w.is_start angle_count (angles_counted H P N F n) (suc n) looked in
+    let within : length cs ≤ length (gather_places S U (suc n) start) = sublist_length (turns_gathers S U start (suc n) start) in
     record {
-      as-many = current ∙ sym desired;
+      as_many = current ∙ sym desired;
       places = cs;
-      turns = second-is S U L start w.is-start.0 (suc n) start by st w.below (rw e w.whole) (λ x. ap (λ (u : List Float). marked S u x) e) ∙ turn-fold H P N F n cs by st;
-      index-is = λ i. omega (arith, plan-index i by);
-      current-in = λ i h. omega (arith, ap length (plan-current i by));
-      desired-in = λ i h. omega (arith, plan-desired i by);
+      turns = second_is S U L start w.is_start.0 (suc n) start by st w.below (rw e w.whole) (λ x. ap (λ (u : List Float). marked S u x) e) ∙ turn_fold H P N F n cs by st;
+      index_is = λ i. omega (arith, plan_index i by);
+      current_in = λ i h. omega (arith, ap length (plan_current i by));
+      desired_in = λ i h. omega (arith, plan_desired i by);
     }
 
 -- the same as a count, of any steps: with any fuel the second walk turns at most as many tangents as the first one gathered angles
-pub angles-never-run-out : (H : Halfedges) (P N : List Float) (F : List ℕ) (T C D : List Float) (n p : ℕ) (U : List Float) (start : ℕ)
-    → WalksGo H P N F T C D n p U start → AnglesSuffice (floatSteps H P N F n) U start
-angles-never-run-out H P N F T C D n p U start w =
-    angles-suffice (lawful (lists-of H P N F T C D n p w.accepted).sound P N F) U start w.below w.whole w.is-start
+pub angles_never_run_out : (H : Halfedges) (P N : List Float) (F : List ℕ) (T C D : List Float) (n p : ℕ) (U : List Float) (start : ℕ)
+    → WalksGo H P N F T C D n p U start → AnglesSuffice (float_steps H P N F n) U start
+angles_never_run_out H P N F T C D n p U start w =
+    angles_suffice (lawful (lists_of H P N F T C D n p w.accepted).sound P N F) U start w.below w.whole w.is_start
 
-pub next-in-list : NextInList
-unfolding clampedAngle clampAngle
-next-in-list by x h = rw (le-ltb (by.index + 1) (length by.desiredAngle) h)
+pub next_in_list : NextInList
+unfolding clamped_angle clamp_angle
+next_in_list by x h = rw (le-ltb (by.index + 1) (length by.desired_angle) h)

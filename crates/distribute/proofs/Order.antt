@@ -4,15 +4,15 @@ use mathlib.Core.List.{List}
 use Prim.Native.Nat.{ℕ}
 use lib.Ieee.{Float}
 use Rattle.mesh.specs.Mesh.{Halfedges}
-use Rattle.distribute_spread.proofs.Order.{order-free}
-use Rattle.distribute.specs.Distribute.{distributeTangents, tangentsAfter, AnyOrder}
+use Rattle.distribute_spread.proofs.Order.{order_free}
+use Rattle.distribute.specs.Distribute.{distribute_tangents, tangents_after, AnyOrder}
 use Rattle.distribute.specs.declared.Spreading.{Spreading}
 use Rattle.distribute_walks.proofs.Lawful.{lawful}
-use Rattle.distribute.proofs.Accepted.{lists-of}
+use Rattle.distribute.proofs.Accepted.{lists_of}
 
 module _ (H : Halfedges) (P N : List Float) (F : List ℕ) (T C D : List Float) (n p : ℕ) where
-  pub any-order : {after : List Float} {r : Spreading} → r ≡ distributeTangents H P N F T C D n p → after ≡ tangentsAfter H P N F T C D n p
+  pub any_order : {after : List Float} {r : Spreading} → r ≡ distribute_tangents H P N F T C D n p → after ≡ tangents_after H P N F T C D n p
       → AnyOrder H P N F T C D n p after r
-  any-order er et acc starts names =
-      let l = lists-of H P N F T C D n p acc in
-      rw (er, et, acc) (order-free (lawful l.sound P N F) T l.tangents starts names)
+  any_order er et acc starts names =
+      let l = lists_of H P N F T C D n p acc in
+      rw (er, et, acc) (order_free (lawful l.sound P N F) T l.tangents starts names)

@@ -3,68 +3,68 @@ use Rattle.std.specs.Prelude.{ℕ, zero, suc, ◌+◌, ◌*◌, ◌≤◌, ◌<�
 use Rattle.std.specs.Float.{nan}
 use Rattle.float.specs.Ops as float
 use Rattle.float.specs.Ops.{◌⊗◌}
-use Rattle.common.specs.Fold.{foldTo}
+use Rattle.common.specs.Fold.{fold_to}
 use Rattle.mesh.specs.Mesh.{Halfedges}
 use Rattle.mesh.specs.declared.Checked.TheVariants.{Accepted}
 use Rattle.cycles.specs.Walk.{iter}
 use Rattle.distribute_spread.specs.Steps.{Steps}
-use Rattle.distribute_spread.specs.Spread.{State, turnAt, secondWalk}
+use Rattle.distribute_spread.specs.Spread.{State, turn_at, second_walk}
 use Rattle.distribute_spread.specs.Order.{FixedUnmarked, Unguarded}
-use Rattle.distribute_steps.specs.FloatSteps.{Plan, lastOr, plan, clampAngle, desiredAngle, next, floatSteps}
-use Rattle.distribute_walks.specs.Walks.{firstFrom}
-use Rattle.distribute.specs.Distribute.{checkLists}
+use Rattle.distribute_steps.specs.FloatSteps.{Plan, last_or, plan, clamp_angle, desired_angle, next, float_steps}
+use Rattle.distribute_walks.specs.Walks.{first_from}
+use Rattle.distribute.specs.Distribute.{check_lists}
 
 -- Both walks go from `start` on an accepted mesh: it is fixed, and unmarked in the tangents T' that the starts before it left. T' may be any list with four numbers for each halfedge.
 pub record WalksGo (H : Halfedges) (P N : List Float) (X : List ℕ) (T C D : List Float) (n p : ℕ) (T' : List Float) (start : ℕ) : Type 0 where
-  pub accepted : checkLists H P N X T C D n p ≡ Accepted
+  pub accepted : check_lists H P N X T C D n p ≡ Accepted
   pub whole : length T' ≡ n * 4
   pub below : start < n
-  pub is-start : FixedUnmarked (floatSteps H P N X n) T' start
+  pub is_start : FixedUnmarked (float_steps H P N X n) T' start
 
 -- ---- the guards, which let n + 1 steps pass and then end a walk
 
 pub record GuardFree (S : Steps) (ts : S.Tangents) (start : ℕ) : Type 0 where
   -- the start, at which either walk ends, comes again after at most n steps
-  pub comes-back : (k : ℕ) × (1 ≤ k) × (k ≤ S.n) × (iter S.step k start ≡ start)
+  pub comes_back : (k : ℕ) × (1 ≤ k) × (k ≤ S.n) × (iter S.step k start ≡ start)
   -- with n steps, or any more, each walk comes to the same
   pub unguarded : Unguarded S ts start
 
 abbrev pub GuardsNeverFire : Type 0
 GuardsNeverFire =
     (H : Halfedges) (P N : List Float) (X : List ℕ) (T C D : List Float) (n p : ℕ) (T' : List Float) (start : ℕ)
-    → WalksGo H P N X T C D n p T' start → GuardFree (floatSteps H P N X n) T' start
+    → WalksGo H P N X T C D n p T' start → GuardFree (float_steps H P N X n) T' start
 
 -- ---- the angles
 
 -- what the second walk goes by at its turn number i
-unfoldable pub planAt : Plan → ℕ → Plan
-planAt by zero = by
-planAt by (suc i) = planAt (next by) i
+unfoldable pub plan_at : Plan → ℕ → Plan
+plan_at by zero = by
+plan_at by (suc i) = plan_at (next by) i
 
 -- what it sets out with: from the first walk, with so many steps looked at before
-abbrev pub planFrom : Halfedges → List Float → List Float → List ℕ → ℕ → List Float → ℕ → ℕ → Plan
-planFrom H P N X n T' start looked = let found = firstFrom H P N X n T' start looked in plan start found.last found.gathered
+abbrev pub plan_from : Halfedges → List Float → List Float → List ℕ → ℕ → List Float → ℕ → ℕ → Plan
+plan_from H P N X n T' start looked = let found = first_from H P N X n T' start looked in plan start found.last found.gathered
 
 -- of the second walk, on the state st and by the plan `by` with which it sets out
-pub record AnglesIn (H : Halfedges) (P N : List Float) (X : List ℕ) (n start : ℕ) (by : Plan) (st : State (floatSteps H P N X n)) : Type 0 where
+pub record AnglesIn (H : Halfedges) (P N : List Float) (X : List ℕ) (n start : ℕ) (by : Plan) (st : State (float_steps H P N X n)) : Type 0 where
   -- both lists have as many angles: the loop that sums the offset over `current_angle` reads `desired_angle` too
-  pub as-many : length by.currentAngle ≡ length by.desiredAngle
+  pub as_many : length by.current_angle ≡ length by.desired_angle
   -- the walk turns these halfedges, number i of them by the plan number i
   pub places : List ℕ
-  pub turns : secondWalk (floatSteps H P N X n) (suc n) start start by st ≡ foldTo (λ s i. turnAt (floatSteps H P N X n) (get_or places i 0) (planAt by i) s) st (length places)
+  pub turns : second_walk (float_steps H P N X n) (suc n) start start by st ≡ fold_to (λ s i. turn_at (float_steps H P N X n) (get_or places i 0) (plan_at by i) s) st (length places)
   -- at the angles `current_angle[i]` and `desired_angle[i]`, which are in their lists
-  pub index-is : (i : ℕ) → (planAt by i).index ≡ i
-  pub current-in : (i : ℕ) → i < length places → i < length (planAt by i).currentAngle
-  pub desired-in : (i : ℕ) → i < length places → i < length (planAt by i).desiredAngle
+  pub index_is : (i : ℕ) → (plan_at by i).index ≡ i
+  pub current_in : (i : ℕ) → i < length places → i < length (plan_at by i).current_angle
+  pub desired_in : (i : ℕ) → i < length places → i < length (plan_at by i).desired_angle
 
 abbrev pub AnglesInLists : Type 0
 AnglesInLists =
     (H : Halfedges) (P N : List Float) (X : List ℕ) (T C D : List Float) (n p : ℕ) (T' : List Float) (start : ℕ)
     → WalksGo H P N X T C D n p T' start
-    → (looked : ℕ) (st : State (floatSteps H P N X n)) → st.tangents ≡ T' → AnglesIn H P N X n start (planFrom H P N X n T' start looked) st
+    → (looked : ℕ) (st : State (float_steps H P N X n)) → st.tangents ≡ T' → AnglesIn H P N X n start (plan_from H P N X n T' start looked) st
 
 -- `desired_angle[i + 1]` is asked for only where there is one: past the end any number x does as well
 abbrev pub NextInList : Type 0
 NextInList =
-    (by : Plan) (x : Float) → length by.desiredAngle ≤ by.index + 1
-    → desiredAngle by ≡ clampAngle (get_or by.desiredAngle by.index nan ⊗ by.scale) (lastOr by.desiredAngle by.index float.zero) false x
+    (by : Plan) (x : Float) → length by.desired_angle ≤ by.index + 1
+    → desired_angle by ≡ clamp_angle (get_or by.desired_angle by.index nan ⊗ by.scale) (last_or by.desired_angle by.index float.zero) false x

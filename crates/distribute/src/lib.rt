@@ -4,10 +4,10 @@
 
 ghost use Rattle.std.specs.Prelude.{◌≡◌, length, replicate};
 ghost use Rattle.float.specs.Ops.{zero};
-ghost use Rattle.mesh.specs.Mesh.{asHalfedges};
-ghost use Rattle.distribute_steps.specs.FloatSteps.{floatSteps};
+ghost use Rattle.mesh.specs.Mesh.{as_halfedges};
+ghost use Rattle.distribute_steps.specs.FloatSteps.{float_steps};
 ghost use Rattle.distribute_walks.specs.Walks.{Lists};
-ghost use Rattle.distribute.specs.Distribute.{numberOf, placeOf, lookedOf, turnedOf, listsFit, lengthsFit, checkLists, spreadTangents, Reports, answerOf, distributeTangents, tangentsAfter, scratchAfter, AnyOrder, Values};
+ghost use Rattle.distribute.specs.Distribute.{number_of, place_of, looked_of, turned_of, lists_fit, lengths_fit, check_lists, spread_tangents, Reports, answer_of, distribute_tangents, tangents_after, scratch_after, AnyOrder, Values};
 
 use distribute_walks::Counts;
 use mesh::Checked;
@@ -20,7 +20,7 @@ pub enum Spreading {
 }
 
 pub fn number_of(spreading: Spreading) -> usize
-    ensures { result ≡ numberOf spreading }
+    ensures { result ≡ number_of spreading }
 {
     match spreading {
         Spreading::Spread {
@@ -32,7 +32,7 @@ pub fn number_of(spreading: Spreading) -> usize
 }
 
 pub fn place_of(spreading: Spreading) -> usize
-    ensures { result ≡ placeOf spreading }
+    ensures { result ≡ place_of spreading }
 {
     match spreading {
         Spreading::Spread {
@@ -44,7 +44,7 @@ pub fn place_of(spreading: Spreading) -> usize
 }
 
 pub fn looked_of(spreading: Spreading) -> usize
-    ensures { result ≡ lookedOf spreading }
+    ensures { result ≡ looked_of spreading }
 {
     match spreading {
         Spreading::Spread { looked, turned: _ } => looked,
@@ -56,7 +56,7 @@ pub fn looked_of(spreading: Spreading) -> usize
 }
 
 pub fn turned_of(spreading: Spreading) -> usize
-    ensures { result ≡ turnedOf spreading }
+    ensures { result ≡ turned_of spreading }
 {
     match spreading {
         Spreading::Spread { looked: _, turned } => turned,
@@ -79,8 +79,8 @@ fn spread_all(
     current: &mut [f64],
     desired: &mut [f64],
 ) -> Counts
-    requires { Lists (asHalfedges h.now) pos.now normals.now fixed.now t.old current.old desired.old n p }
-    ensures { Reports (floatSteps (asHalfedges h.now) pos.now normals.now fixed.now n) (spreadTangents (asHalfedges h.now) pos.now normals.now fixed.now t.old n) t.new result }
+    requires { Lists (as_halfedges h.now) pos.now normals.now fixed.now t.old current.old desired.old n p }
+    ensures { Reports (float_steps (as_halfedges h.now) pos.now normals.now fixed.now n) (spread_tangents (as_halfedges h.now) pos.now normals.now fixed.now t.old n) t.new result }
 {
     let mut counts = Counts {
         looked: 0,
@@ -106,8 +106,8 @@ pub fn spread_tangents(
     current: &mut [f64],
     desired: &mut [f64],
 ) -> Counts
-    requires { Lists (asHalfedges h.now) pos.now normals.now fixed.now t.old current.old desired.old n p }
-    ensures report { Reports (floatSteps (asHalfedges h.now) pos.now normals.now fixed.now n) (spreadTangents (asHalfedges h.now) pos.now normals.now fixed.now t.old n) t.new result }
+    requires { Lists (as_halfedges h.now) pos.now normals.now fixed.now t.old current.old desired.old n p }
+    ensures report { Reports (float_steps (as_halfedges h.now) pos.now normals.now fixed.now n) (spread_tangents (as_halfedges h.now) pos.now normals.now fixed.now t.old n) t.new result }
     ensures current { current.new ≡ replicate n zero }
     ensures desired { desired.new ≡ replicate n zero }
 {
@@ -127,7 +127,7 @@ pub fn lists_fit(
     fixed: &[u8],
     t: &[f64],
 ) -> bool
-    ensures { result ≡ listsFit (asHalfedges h.now) pos.now normals.now fixed.now t.now n p }
+    ensures { result ≡ lists_fit (as_halfedges h.now) pos.now normals.now fixed.now t.now n p }
 {
     let points = common::both(
         common::both(
@@ -154,7 +154,7 @@ fn lengths_fit(
     current: &[f64],
     desired: &[f64],
 ) -> bool
-    ensures { result ≡ lengthsFit (asHalfedges h.now) pos.now normals.now fixed.now t.now current.now desired.now n p }
+    ensures { result ≡ lengths_fit (as_halfedges h.now) pos.now normals.now fixed.now t.now current.now desired.now n p }
 {
     let lists = lists_fit(n, p, h, pos, normals, fixed, t);
     common::both(
@@ -175,7 +175,7 @@ fn check_lists(
     current: &[f64],
     desired: &[f64],
 ) -> Checked
-    ensures { result ≡ checkLists (asHalfedges h.now) pos.now normals.now fixed.now t.now current.now desired.now n p }
+    ensures { result ≡ check_lists (as_halfedges h.now) pos.now normals.now fixed.now t.now current.now desired.now n p }
 {
     let lengths = lengths_fit(n, p, h, pos, normals, fixed, t, current, desired);
     let checked = mesh::check_mesh(h, n, p, lengths);
@@ -184,7 +184,7 @@ fn check_lists(
 
 // The answer with the counts, or the refusal with its number and place.
 pub fn answer(checked: Checked, counts: Counts) -> Spreading
-    ensures { result ≡ answerOf checked counts.looked counts.turned }
+    ensures { result ≡ answer_of checked counts.looked counts.turned }
 {
     match checked {
         Checked::Accepted => Spreading::Spread {
@@ -209,12 +209,12 @@ pub fn distribute_tangents(
     current: &mut [f64],
     desired: &mut [f64],
 ) -> Spreading
-    ensures answer { result ≡ distributeTangents (asHalfedges h.now) pos.now normals.now fixed.now t.old current.old desired.old n p }
-    ensures tangents { t.new ≡ tangentsAfter (asHalfedges h.now) pos.now normals.now fixed.now t.old current.old desired.old n p }
-    ensures current { current.new ≡ scratchAfter (checkLists (asHalfedges h.now) pos.now normals.now fixed.now t.old current.old desired.old n p) current.old n }
-    ensures desired { desired.new ≡ scratchAfter (checkLists (asHalfedges h.now) pos.now normals.now fixed.now t.old current.old desired.old n p) desired.old n }
-    ensures order { AnyOrder (asHalfedges h.now) pos.now normals.now fixed.now t.old current.old desired.old n p t.new result }
-    ensures values { Values (checkLists (asHalfedges h.now) pos.now normals.now fixed.now t.old current.old desired.old n p) (floatSteps (asHalfedges h.now) pos.now normals.now fixed.now n) (spreadTangents (asHalfedges h.now) pos.now normals.now fixed.now t.old n) result }
+    ensures answer { result ≡ distribute_tangents (as_halfedges h.now) pos.now normals.now fixed.now t.old current.old desired.old n p }
+    ensures tangents { t.new ≡ tangents_after (as_halfedges h.now) pos.now normals.now fixed.now t.old current.old desired.old n p }
+    ensures current { current.new ≡ scratch_after (check_lists (as_halfedges h.now) pos.now normals.now fixed.now t.old current.old desired.old n p) current.old n }
+    ensures desired { desired.new ≡ scratch_after (check_lists (as_halfedges h.now) pos.now normals.now fixed.now t.old current.old desired.old n p) desired.old n }
+    ensures order { AnyOrder (as_halfedges h.now) pos.now normals.now fixed.now t.old current.old desired.old n p t.new result }
+    ensures values { Values (check_lists (as_halfedges h.now) pos.now normals.now fixed.now t.old current.old desired.old n p) (float_steps (as_halfedges h.now) pos.now normals.now fixed.now n) (spread_tangents (as_halfedges h.now) pos.now normals.now fixed.now t.old n) result }
 {
     let checked = check_lists(n, p, h, pos, normals, fixed, t, current, desired);
     let Checked::Accepted = checked else {

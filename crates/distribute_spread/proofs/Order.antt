@@ -10,20 +10,20 @@ use native.Mathlib.Omega.{arith}
 use lib.ListN.{length}
 use Rattle.cycles.specs.Count.{count, ◌∈◌, Exactly}
 use Rattle.common.specs.Count.{sum}
-use Rattle.common.proofs.Sums.{sum-ext, sum-le, sum-one}
-use Rattle.cycles.proofs.Count.{delta-equal, delta-other, total, Below, total-count, total-some, exactly, total-has, total-le, total-length, count-reverse, zero-or-more}
-use Rattle.cycles.proofs.Orbits.{iter-below, path-apart, path-index, sole-stop, stop-before, reaches-back}
+use Rattle.common.proofs.Sums.{sum_ext, sum_le, sum_one}
+use Rattle.cycles.proofs.Count.{delta_equal, delta_other, total, Below, total_count, total_some, exactly, total_has, total_le, total_length, count_reverse, zero_or_more}
+use Rattle.cycles.proofs.Orbits.{iter_below, path_apart, path_index, sole_stop, stop_before, reaches_back}
 use Rattle.distribute_spread.specs.Steps.{Steps, Lawful}
-use Rattle.distribute_spread.specs.Spread.{State, spreadFrom, spreadAt, spreadOn, handedIn, spread, fixedFrom, pass}
+use Rattle.distribute_spread.specs.Spread.{State, spread_from, spread_at, spread_on, handed_in, spread, fixed_from, pass}
 use Rattle.distribute_spread.specs.Order.{NamesFixed, Touched, Sole, WasTurned, OrderFree}
-use Rattle.distribute_spread.proofs.Branches.{at-fixed, at-other, PassLeft, left-all, left-next, left-none}
-use Rattle.distribute_spread.proofs.Turns.{SameMarks, SameCounts, onTangents}
-use Rattle.distribute_spread.proofs.Places.{isStop, stop-is}
-use Rattle.distribute_spread.proofs.Starts.{looksOf, turnsOf, afterStart, looks-of, looks-unmarked, turns-looks, turns-fixed, looks-below, looks-once, turns-below, Untouched, StartDoes, start-does, from-same}
+use Rattle.distribute_spread.proofs.Branches.{at_fixed, at_other, PassLeft, left_all, left_next, left_none}
+use Rattle.distribute_spread.proofs.Turns.{SameMarks, SameCounts, on_tangents}
+use Rattle.distribute_spread.proofs.Places.{is_stop, stop_is}
+use Rattle.distribute_spread.proofs.Starts.{looks_of, turns_of, after_start, looks_of_lem, looks_unmarked, turns_looks, turns_fixed, looks_below, looks_once, turns_below, Untouched, StartDoes, start_does, from_same}
 use Rattle.distribute_spread.proofs.Own.{own}
 
 module _ {S : Steps} (L : Lawful S) (ts : S.Tangents) (whole : L.Whole ts) where
-  open S use {n, step, fixed, read, weight, isMark}
+  open S use {n, step, fixed, read, weight, is_mark}
   open L use {permutes, Whole}
 
   -- a list of fixed halfedges, none of them twice
@@ -33,120 +33,120 @@ module _ {S : Steps} (L : Lawful S) (ts : S.Tangents) (whole : L.Whole ts) where
     pub once : (s : ℕ) → count s l ≤ 1
 
   -- the walks of two fixed halfedges have no halfedge in common
-  looks-apart : (s r e : ℕ) → s < n → r < n → fixed s ≡ true → fixed r ≡ true → e ∈ looksOf S ts s → e ∈ looksOf S ts r → s ≡ r
-  looks-apart s r e ls lr fs fr hs hr =
-      let ms = looks-unmarked S ts s e hs in
-      let mr = looks-unmarked S ts r e hr in
-      path-apart permutes (isStop S ts) s ls (rw ms fs) r lr (rw mr fr) e (rw (looks-of S ts s ms) at hs) (rw (looks-of S ts r mr) at hr)
+  looks_apart : (s r e : ℕ) → s < n → r < n → fixed s ≡ true → fixed r ≡ true → e ∈ looks_of S ts s → e ∈ looks_of S ts r → s ≡ r
+  looks_apart s r e ls lr fs fr hs hr =
+      let ms = looks_unmarked S ts s e hs in
+      let mr = looks_unmarked S ts r e hr in
+      path_apart permutes (is_stop S ts) s ls (rw ms fs) r lr (rw mr fr) e (rw (looks_of_lem S ts s ms) at hs) (rw (looks_of_lem S ts r mr) at hr)
 
   -- ---- what holds once the starts of a list have been taken, in whatever order
 
   pub record After (l : List ℕ) (st : State S) : Type 0 where
-    pub looked : st.looked ≡ total l (λ s. length (looksOf S ts s))
-    pub turned : st.turned ≡ total l (λ s. length (turnsOf S ts s))
-    pub places : (e : ℕ) → count e st.places ≡ total l (λ s. count e (turnsOf S ts s))
-    pub is-whole : Whole st.tangents
+    pub looked : st.looked ≡ total l (λ s. length (looks_of S ts s))
+    pub turned : st.turned ≡ total l (λ s. length (turns_of S ts s))
+    pub places : (e : ℕ) → count e st.places ≡ total l (λ s. count e (turns_of S ts s))
+    pub is_whole : Whole st.tangents
     pub weights : (e : ℕ) → weight (read st.tangents e) ≡ weight (read ts e)
-    pub kept : (e : ℕ) → total l (λ s. count e (turnsOf S ts s)) ≡ 0 → read st.tangents e ≡ read ts e
-    pub value : (s e : ℕ) → s ∈ l → e ∈ turnsOf S ts s → read st.tangents e ≡ read (afterStart S ts s (handedIn S ts)).tangents e
+    pub kept : (e : ℕ) → total l (λ s. count e (turns_of S ts s)) ≡ 0 → read st.tangents e ≡ read ts e
+    pub value : (s e : ℕ) → s ∈ l → e ∈ turns_of S ts s → read st.tangents e ≡ read (after_start S ts s (handed_in S ts)).tangents e
 
-  after-none : After [] (handedIn S ts)
+  after_none : After [] (handed_in S ts)
   unfolding total count
-  after-none = record {
+  after_none = record {
     looked = refl;
     turned = refl;
     places = λ e. refl;
-    is-whole = whole;
+    is_whole = whole;
     weights = λ e. refl;
     kept = λ e h. refl;
     value = λ s e h. absurd (omega arith);
   }
 
   module _ (s : ℕ) (l : List ℕ) (st : State S) (ok : Listed (s ∷ l)) (a : After l st) where
-    s-here : s ∈ (s ∷ l)
+    s_here : s ∈ (s ∷ l)
     unfolding count
-    s-here = omega (arith, delta-equal s s refl)
+    s_here = omega (arith, delta_equal s s refl)
 
-    s-new : count s l ≡ 0
+    s_new : count s l ≡ 0
     unfolding count
-    s-new = omega (arith, ok.once s, delta-equal s s refl)
+    s_new = omega (arith, ok.once s, delta_equal s s refl)
 
-    s-below : s < n
-    s-below = ok.below s s-here
+    s_below : s < n
+    s_below = ok.below s s_here
 
-    s-fixed : fixed s ≡ true
-    s-fixed = ok.flag s s-here
+    s_fixed : fixed s ≡ true
+    s_fixed = ok.flag s s_here
 
     later : (r : ℕ) → r ∈ l → r ∈ (s ∷ l)
     unfolding count
     later r h = omega arith
 
     -- a start taken before turned nothing that the new one steps onto
-    clash : (r e : ℕ) → r ∈ l → e ∈ turnsOf S ts r → e ∈ looksOf S ts s → ⊥
+    clash : (r e : ℕ) → r ∈ l → e ∈ turns_of S ts r → e ∈ looks_of S ts s → ⊥
     clash r e hr he h =
-        let q : r ≡ s = looks-apart r s e (ok.below r (later r hr)) s-below (ok.flag r (later r hr)) s-fixed (le_trans he (turns-looks S ts r e)) h in
+        let q : r ≡ s = looks_apart r s e (ok.below r (later r hr)) s_below (ok.flag r (later r hr)) s_fixed (le_trans he (turns_looks S ts r e)) h in
         let z : s ∈ l = rw q at hr in
-        omega (arith, s-new)
+        omega (arith, s_new)
 
-    as-handed-in : (e : ℕ) → ((r : ℕ) → r ∈ l → e ∈ turnsOf S ts r → ⊥) → read st.tangents e ≡ read ts e
-    as-handed-in e h = go (zero-or-more (total l (λ r. count e (turnsOf S ts r))))
+    as_handed_in : (e : ℕ) → ((r : ℕ) → r ∈ l → e ∈ turns_of S ts r → ⊥) → read st.tangents e ≡ read ts e
+    as_handed_in e h = go (zero_or_more (total l (λ r. count e (turns_of S ts r))))
       where
-        go : (total l (λ r. count e (turnsOf S ts r)) ≡ 0) ⊎ (1 ≤ total l (λ r. count e (turnsOf S ts r))) → read st.tangents e ≡ read ts e
+        go : (total l (λ r. count e (turns_of S ts r)) ≡ 0) ⊎ (1 ≤ total l (λ r. count e (turns_of S ts r))) → read st.tangents e ≡ read ts e
         go (inl z) = a.kept e z
-        go (inr p) = let w = total-some l (λ r. count e (turnsOf S ts r)) p in absurd (h w.0 w.1 w.2)
+        go (inr p) = let w = total_some l (λ r. count e (turns_of S ts r)) p in absurd (h w.0 w.1 w.2)
 
     -- so its walks read no tangent that another start's walks wrote
     untouched : Untouched S ts s st
     untouched = record {
-      start-same = as-handed-in s (λ r hr he. let q : s ≡ r = turns-fixed S ts r s he s-fixed in let z : s ∈ l = rw (← q) at hr in omega (arith, s-new));
-      looks-same = λ e h. as-handed-in e (λ r hr he. clash r e hr he h);
+      start_same = as_handed_in s (λ r hr he. let q : s ≡ r = turns_fixed S ts r s he s_fixed in let z : s ∈ l = rw (← q) at hr in omega (arith, s_new));
+      looks_same = λ e h. as_handed_in e (λ r hr he. clash r e hr he h);
     }
 
     marks : SameMarks S ts st.tangents
-    marks e = ap isMark (a.weights e)
+    marks e = ap is_mark (a.weights e)
 
-    does : StartDoes L ts s s-below s-fixed st (spreadFrom S s st)
-    does = start-does L ts s s-below s-fixed whole st a.is-whole marks untouched
+    does : StartDoes L ts s s_below s_fixed st (spread_from S s st)
+    does = start_does L ts s s_below s_fixed whole st a.is_whole marks untouched
 
-    by-start : {r : ℕ} → Dec (r ≡ s) → (e : ℕ) → r ∈ (s ∷ l) → e ∈ turnsOf S ts r
-        → read (spreadFrom S s st).tangents e ≡ read (afterStart S ts r (handedIn S ts)).tangents e
+    by_start : {r : ℕ} → Dec (r ≡ s) → (e : ℕ) → r ∈ (s ∷ l) → e ∈ turns_of S ts r
+        → read (spread_from S s st).tangents e ≡ read (after_start S ts r (handed_in S ts)).tangents e
     unfolding count
-    by-start {r} (yes q) e hr he = rw q (does.value e (rw q at he))
-    by-start {r} (no q) e hr he = go (zero-or-more (count e (turnsOf S ts s)))
+    by_start {r} (yes q) e hr he = rw q (does.value e (rw q at he))
+    by_start {r} (no q) e hr he = go (zero_or_more (count e (turns_of S ts s)))
       where
         hr' : r ∈ l
-        hr' = omega (arith, delta-other r s q)
+        hr' = omega (arith, delta_other r s q)
 
-        go : (count e (turnsOf S ts s) ≡ 0) ⊎ (e ∈ turnsOf S ts s) → read (spreadFrom S s st).tangents e ≡ read (afterStart S ts r (handedIn S ts)).tangents e
+        go : (count e (turns_of S ts s) ≡ 0) ⊎ (e ∈ turns_of S ts s) → read (spread_from S s st).tangents e ≡ read (after_start S ts r (handed_in S ts)).tangents e
         go (inl z) = does.turning.kept e z ∙ a.value r e hr' he
-        go (inr p) = absurd (clash r e hr' he (le_trans p (turns-looks S ts s e)))
+        go (inr p) = absurd (clash r e hr' he (le_trans p (turns_looks S ts s e)))
 
-    after-one : After (s ∷ l) (spreadFrom S s st)
+    after_one : After (s ∷ l) (spread_from S s st)
     unfolding total count
-    after-one = record {
+    after_one = record {
       looked = omega (arith, does.looked, a.looked);
       turned = omega (arith, does.turning.turned, a.turned);
       places = λ e. omega (arith, does.turning.places e, a.places e);
-      is-whole = does.whole;
+      is_whole = does.whole;
       weights = λ e. does.turning.weights e ∙ a.weights e;
       kept = λ e h. does.turning.kept e (omega arith) ∙ a.kept e (omega arith);
-      value = λ r e hr he. by-start (ℕ_discrete r s) e hr he;
+      value = λ r e hr he. by_start (ℕ_discrete r s) e hr he;
     }
 
-  listed-head : (s : ℕ) (hs l : List ℕ) → Listed (reverse_aux hs (s ∷ l)) → Listed (s ∷ l)
-  listed-head s hs l ok = record {
+  listed_head : (s : ℕ) (hs l : List ℕ) → Listed (reverse_aux hs (s ∷ l)) → Listed (s ∷ l)
+  listed_head s hs l ok = record {
     below = λ r h. ok.below r (more r h);
     flag = λ r h. ok.flag r (more r h);
-    once = λ r. omega (arith, ok.once r, count-reverse r hs (s ∷ l));
+    once = λ r. omega (arith, ok.once r, count_reverse r hs (s ∷ l));
   }
     where
       more : (r : ℕ) → r ∈ (s ∷ l) → r ∈ reverse_aux hs (s ∷ l)
-      more r h = omega (arith, count-reverse r hs (s ∷ l))
+      more r h = omega (arith, count_reverse r hs (s ∷ l))
 
-  after-all : (hs l : List ℕ) (st : State S) → Listed (reverse_aux hs l) → After l st → After (reverse_aux hs l) (spreadOn S hs st)
-  unfolding spreadOn
-  after-all [] l st ok a = a
-  after-all (s ∷ hs) l st ok a = after-all hs (s ∷ l) (spreadFrom S s st) ok (after-one s l st (listed-head s hs l ok) a)
+  after_all : (hs l : List ℕ) (st : State S) → Listed (reverse_aux hs l) → After l st → After (reverse_aux hs l) (spread_on S hs st)
+  unfolding spread_on
+  after_all [] l st ok a = a
+  after_all (s ∷ hs) l st ok a = after_all hs (s ∷ l) (spread_from S s st) ok (after_one s l st (listed_head s hs l ok) a)
 
   -- ---- the unit's own pass, halfedge by halfedge
 
@@ -158,14 +158,14 @@ module _ {S : Steps} (L : Lawful S) (ts : S.Tangents) (whole : L.Whole ts) where
     pub after : After taken st
     pub left : PassLeft S ts i st
 
-  pub pass-begin : PassAt 0 (handedIn S ts)
+  pub pass_begin : PassAt 0 (handed_in S ts)
   unfolding count
-  pass-begin = record {
+  pass_begin = record {
     taken = [];
     listed = record { below = λ s h. absurd (omega arith); flag = λ s h. absurd (omega arith); once = λ s. omega arith };
     earlier = λ s h. absurd (omega arith);
-    after = after-none;
-    left = left-all S ts;
+    after = after_none;
+    left = left_all S ts;
   }
 
   module _ {i : ℕ} {st : State S} (w : PassAt i st) (b : i < n) where
@@ -174,54 +174,54 @@ module _ {S : Steps} (L : Lawful S) (ts : S.Tangents) (whole : L.Whole ts) where
     more f = record {
       below = λ s h. at s (ℕ_discrete s i) h (λ q. rw q b) (w.listed.below s);
       flag = λ s h. at s (ℕ_discrete s i) h (λ q. rw q f) (w.listed.flag s);
-      once = λ s. go s (ℕ_discrete s i) (zero-or-more (count s w.taken));
+      once = λ s. go s (ℕ_discrete s i) (zero_or_more (count s w.taken));
     }
       where
         at : {P : Type 0} (s : ℕ) → Dec (s ≡ i) → s ∈ (i ∷ w.taken) → (s ≡ i → P) → (s ∈ w.taken → P) → P
         at s (yes q) h here there = here q
-        at s (no q) h here there = there (omega (arith, delta-other s i q))
+        at s (no q) h here there = there (omega (arith, delta_other s i q))
 
         go : (s : ℕ) → Dec (s ≡ i) → (count s w.taken ≡ 0) ⊎ (s ∈ w.taken) → count s (i ∷ w.taken) ≤ 1
-        go s (no q) z = omega (arith, delta-other s i q, w.listed.once s)
-        go s (yes q) (inl z) = omega (arith, delta-equal s i q)
+        go s (no q) z = omega (arith, delta_other s i q, w.listed.once s)
+        go s (yes q) (inl z) = omega (arith, delta_equal s i q)
         go s (yes q) (inr p) = absurd (omega (arith, w.earlier s p))
 
-    pub pass-next : PassAt (suc i) (spreadAt S i st)
+    pub pass_next : PassAt (suc i) (spread_at S i st)
     unfolding count
-    pass-next = go (fixed i) refl
+    pass_next = go (fixed i) refl
       where
-        go : (c : Bool) → fixed i ≡ c → PassAt (suc i) (spreadAt S i st)
+        go : (c : Bool) → fixed i ≡ c → PassAt (suc i) (spread_at S i st)
         go true f = record {
           taken = i ∷ w.taken;
           listed = more f;
           earlier = λ s h. at s (ℕ_discrete s i) h;
-          after = rw (at-fixed S i st f) (after-one i w.taken st (more f) w.after);
-          left = left-next S ts i st b w.left;
+          after = rw (at_fixed S i st f) (after_one i w.taken st (more f) w.after);
+          left = left_next S ts i st b w.left;
         }
           where
             at : (s : ℕ) → Dec (s ≡ i) → s ∈ (i ∷ w.taken) → s < suc i
             at s (yes q) h = omega arith
-            at s (no q) h = omega (arith, w.earlier s (omega (arith, delta-other s i q)))
+            at s (no q) h = omega (arith, w.earlier s (omega (arith, delta_other s i q)))
         go false f = record {
           taken = w.taken;
           listed = w.listed;
           earlier = λ s h. omega (arith, w.earlier s h);
-          after = rw (at-other S i st f) w.after;
-          left = left-next S ts i st b w.left;
+          after = rw (at_other S i st f) w.after;
+          left = left_next S ts i st b w.left;
         }
 
     -- what a start does to the counts and the places, it does to them on the tangents handed in
-    pub pass-apart : SameCounts S (spreadAt S i st) (spreadAt S i (onTangents S ts st))
-    pass-apart = go (fixed i) refl
+    pub pass_apart : SameCounts S (spread_at S i st) (spread_at S i (on_tangents S ts st))
+    pass_apart = go (fixed i) refl
       where
-        go : (c : Bool) → fixed i ≡ c → SameCounts S (spreadAt S i st) (spreadAt S i (onTangents S ts st))
+        go : (c : Bool) → fixed i ≡ c → SameCounts S (spread_at S i st) (spread_at S i (on_tangents S ts st))
         go true f =
-            rw (at-fixed S i st f, at-fixed S i (onTangents S ts st) f)
-            (from-same L ts i b f whole st w.after.is-whole (marks i w.taken st (more f) w.after) (untouched i w.taken st (more f) w.after))
-        go false f = rw (at-other S i st f, at-other S i (onTangents S ts st) f) record { looked = refl; turned = refl; places = refl }
+            rw (at_fixed S i st f, at_fixed S i (on_tangents S ts st) f)
+            (from_same L ts i b f whole st w.after.is_whole (marks i w.taken st (more f) w.after) (untouched i w.taken st (more f) w.after))
+        go false f = rw (at_other S i st f, at_other S i (on_tangents S ts st) f) record { looked = refl; turned = refl; places = refl }
 
-  pub pass-end : {i : ℕ} {st : State S} → PassAt i st → n ≤ i → st ≡ pass S ts
-  pass-end {i} {st} w l = left-none S ts i st l w.left
+  pub pass_end : {i : ℕ} {st : State S} → PassAt i st → n ≤ i → st ≡ pass S ts
+  pass_end {i} {st} w l = left_none S ts i st l w.left
 
   -- ---- what a list that names all fixed halfedges comes to
 
@@ -230,7 +230,7 @@ module _ {S : Steps} (L : Lawful S) (ts : S.Tangents) (whole : L.Whole ts) where
     listed = record {
       below = λ s h. (names.only s h).0;
       flag = λ s h. (names.only s h).1;
-      once = λ s. go s (zero-or-more (count s l));
+      once = λ s. go s (zero_or_more (count s l));
     }
       where
         go : (s : ℕ) → (count s l ≡ 0) ⊎ (s ∈ l) → count s l ≤ 1
@@ -238,110 +238,110 @@ module _ {S : Steps} (L : Lawful S) (ts : S.Tangents) (whole : L.Whole ts) where
         go s (inr p) = let w = names.only s p in omega (arith, names.each s w.0 w.1)
 
     -- how many starts step onto e
-    looksAt : ℕ → ℕ
-    looksAt e = total l (λ s. count e (looksOf S ts s))
+    looks_at : ℕ → ℕ
+    looks_at e = total l (λ s. count e (looks_of S ts s))
 
-    looks-one : (e : ℕ) → 1 ≤ looksAt e → looksAt e ≡ 1
-    unfolding looksAt
-    looks-one e h =
-        let w = total-some l (λ s. count e (looksOf S ts s)) h in go w.0 w.1 w.2
+    looks_one : (e : ℕ) → 1 ≤ looks_at e → looks_at e ≡ 1
+    unfolding looks_at
+    looks_one e h =
+        let w = total_some l (λ s. count e (looks_of S ts s)) h in go w.0 w.1 w.2
       where
-        go : (s : ℕ) → s ∈ l → e ∈ looksOf S ts s → total l (λ s. count e (looksOf S ts s)) ≡ 1
+        go : (s : ℕ) → s ∈ l → e ∈ looks_of S ts s → total l (λ s. count e (looks_of S ts s)) ≡ 1
         go s hs he =
-            total-count n l (λ s. count e (looksOf S ts s)) listed.below
-            ∙ sum-one n (λ r. count r l * count e (looksOf S ts r)) s (listed.below s hs) others
+            total_count n l (λ s. count e (looks_of S ts s)) listed.below
+            ∙ sum_one n (λ r. count r l * count e (looks_of S ts r)) s (listed.below s hs) others
             ∙ rw (le_antisymm (listed.once s) hs, one) refl
           where
-            one : count e (looksOf S ts s) ≡ 1
-            one = le_antisymm (looks-once L ts s (listed.below s hs) (listed.flag s hs) e) he
+            one : count e (looks_of S ts s) ≡ 1
+            one = le_antisymm (looks_once L ts s (listed.below s hs) (listed.flag s hs) e) he
 
-            others : (r : ℕ) → r < n → r ≢ s → count r l * count e (looksOf S ts r) ≡ 0
-            others r lr q = by-cases (zero-or-more (count r l)) (zero-or-more (count e (looksOf S ts r)))
+            others : (r : ℕ) → r < n → r ≢ s → count r l * count e (looks_of S ts r) ≡ 0
+            others r lr q = by_cases (zero_or_more (count r l)) (zero_or_more (count e (looks_of S ts r)))
               where
-                by-cases : (count r l ≡ 0) ⊎ (r ∈ l) → (count e (looksOf S ts r) ≡ 0) ⊎ (e ∈ looksOf S ts r) → count r l * count e (looksOf S ts r) ≡ 0
-                by-cases (inl z) c = rw z (zero-mul (count e (looksOf S ts r)))
-                by-cases (inr p) (inl z) = rw z (mul-zero (count r l))
-                by-cases (inr p) (inr o) = absurd (q (looks-apart r s e lr (listed.below s hs) (listed.flag r p) (listed.flag s hs) o he))
+                by_cases : (count r l ≡ 0) ⊎ (r ∈ l) → (count e (looks_of S ts r) ≡ 0) ⊎ (e ∈ looks_of S ts r) → count r l * count e (looks_of S ts r) ≡ 0
+                by_cases (inl z) c = rw z (zero-mul (count e (looks_of S ts r)))
+                by_cases (inr p) (inl z) = rw z (mul-zero (count r l))
+                by_cases (inr p) (inr o) = absurd (q (looks_apart r s e lr (listed.below s hs) (listed.flag r p) (listed.flag s hs) o he))
 
-    looks-at-most : (e : ℕ) → looksAt e ≤ 1
-    looks-at-most e = go (zero-or-more (looksAt e))
+    looks_at_most : (e : ℕ) → looks_at e ≤ 1
+    looks_at_most e = go (zero_or_more (looks_at e))
       where
-        go : (looksAt e ≡ 0) ⊎ (1 ≤ looksAt e) → looksAt e ≤ 1
+        go : (looks_at e ≡ 0) ⊎ (1 ≤ looks_at e) → looks_at e ≤ 1
         go (inl z) = omega arith
-        go (inr p) = omega (arith, looks-one e p)
+        go (inr p) = omega (arith, looks_one e p)
 
     -- the halfedges stepped onto are those of the touched rounds
-    looks-touched : (e : ℕ) → 1 ≤ looksAt e → Touched S ts e
-    unfolding looksAt
-    looks-touched e h =
-        let w = total-some l (λ s. count e (looksOf S ts s)) h in
+    looks_touched : (e : ℕ) → 1 ≤ looks_at e → Touched S ts e
+    unfolding looks_at
+    looks_touched e h =
+        let w = total_some l (λ s. count e (looks_of S ts s)) h in
         let s : ℕ = w.0 in
         let ls : s < n = listed.below s w.1 in
         let fs : fixed s ≡ true = listed.flag s w.1 in
-        let m = looks-unmarked S ts s e w.2 in
-        let i = path-index permutes (isStop S ts) s ls (rw m fs) e (rw (looks-of S ts s m) at w.2) in
-        (s, reaches-back permutes s ls e (i.0, i.3), (fs, m))
+        let m = looks_unmarked S ts s e w.2 in
+        let i = path_index permutes (is_stop S ts) s ls (rw m fs) e (rw (looks_of_lem S ts s m) at w.2) in
+        (s, reaches_back permutes s ls e (i.0, i.3), (fs, m))
 
-    touched-looks : (e : ℕ) → e < n → Touched S ts e → 1 ≤ looksAt e
-    unfolding looksAt
-    touched-looks e le (d, r, c) =
-        let ld : d < n = subst (λ (x : ℕ). x < n) r.1 (iter-below permutes r.0 e le) in
-        let o = stop-before permutes (isStop S ts) d ld (rw c.1 c.0) e (reaches-back permutes e le d r) in
+    touched_looks : (e : ℕ) → e < n → Touched S ts e → 1 ≤ looks_at e
+    unfolding looks_at
+    touched_looks e le (d, r, c) =
+        let ld : d < n = subst (λ (x : ℕ). x < n) r.1 (iter_below permutes r.0 e le) in
+        let o = stop_before permutes (is_stop S ts) d ld (rw c.1 c.0) e (reaches_back permutes e le d r) in
         let s : ℕ = o.0 in
-        let p = stop-is S ts s o.2 in
-        let m : e ∈ looksOf S ts s = rw (looks-of S ts s p.1) o.3 in
-        le_trans m (total-has l (λ r. count e (looksOf S ts r)) s (omega (arith, names.each s o.1 p.0)))
+        let p = stop_is S ts s o.2 in
+        let m : e ∈ looks_of S ts s = rw (looks_of_lem S ts s p.1) o.3 in
+        le_trans m (total_has l (λ r. count e (looks_of S ts r)) s (omega (arith, names.each s o.1 p.0)))
 
     module _ (st : State S) (a : After l st) where
-      looked-sum : st.looked ≡ sum n looksAt
-      unfolding looksAt
-      looked-sum = a.looked ∙ total-length n l (looksOf S ts) (λ s h. looks-below L ts s (listed.below s h) (listed.flag s h))
+      looked_sum : st.looked ≡ sum n looks_at
+      unfolding looks_at
+      looked_sum = a.looked ∙ total_length n l (looks_of S ts) (λ s h. looks_below L ts s (listed.below s h) (listed.flag s h))
 
-      turned-sum : st.turned ≡ sum n (λ e. count e st.places)
-      turned-sum =
-          a.turned ∙ total-length n l (turnsOf S ts) (λ s h. turns-below L ts s (listed.below s h) (listed.flag s h))
-          ∙ sum-ext n (λ e. total l (λ s. count e (turnsOf S ts s))) (λ e. count e st.places) (λ e b. sym (a.places e))
+      turned_sum : st.turned ≡ sum n (λ e. count e st.places)
+      turned_sum =
+          a.turned ∙ total_length n l (turns_of S ts) (λ s h. turns_below L ts s (listed.below s h) (listed.flag s h))
+          ∙ sum_ext n (λ e. total l (λ s. count e (turns_of S ts s))) (λ e. count e st.places) (λ e b. sym (a.places e))
 
-      places-looks : (e : ℕ) → count e st.places ≤ looksAt e
-      unfolding looksAt
-      places-looks e = rw (a.places e) (total-le l (λ s. count e (turnsOf S ts s)) (λ s. count e (looksOf S ts s)) (λ s h. turns-looks S ts s e))
+      places_looks : (e : ℕ) → count e st.places ≤ looks_at e
+      unfolding looks_at
+      places_looks e = rw (a.places e) (total_le l (λ s. count e (turns_of S ts s)) (λ s. count e (looks_of S ts s)) (λ s h. turns_looks S ts s e))
 
-      places-once : (e : ℕ) → count e st.places ≤ 1
-      places-once e = le_trans (places-looks e) (looks-at-most e)
+      places_once : (e : ℕ) → count e st.places ≤ 1
+      places_once e = le_trans (places_looks e) (looks_at_most e)
 
-      looked-exactly : Exactly (Touched S ts) n st.looked
-      looked-exactly = subst (Exactly (Touched S ts) n) (sym looked-sum) (exactly (Touched S ts) n looksAt (λ e le. go e le (zero-or-more (looksAt e))))
+      looked_exactly : Exactly (Touched S ts) n st.looked
+      looked_exactly = subst (Exactly (Touched S ts) n) (sym looked_sum) (exactly (Touched S ts) n looks_at (λ e le. go e le (zero_or_more (looks_at e))))
         where
-          go : (e : ℕ) → e < n → (looksAt e ≡ 0) ⊎ (1 ≤ looksAt e) → ((looksAt e ≡ 1) × Touched S ts e) ⊎ ((looksAt e ≡ 0) × ¬ Touched S ts e)
-          go e le (inl z) = inr (z, λ h. let m = touched-looks e le h in omega arith)
-          go e le (inr p) = inl (looks-one e p, looks-touched e p)
+          go : (e : ℕ) → e < n → (looks_at e ≡ 0) ⊎ (1 ≤ looks_at e) → ((looks_at e ≡ 1) × Touched S ts e) ⊎ ((looks_at e ≡ 0) × ¬ Touched S ts e)
+          go e le (inl z) = inr (z, λ h. let m = touched_looks e le h in omega arith)
+          go e le (inr p) = inl (looks_one e p, looks_touched e p)
 
-      turned-exactly : Exactly (WasTurned S st) n st.turned
-      turned-exactly =
-          subst (Exactly (WasTurned S st) n) (sym turned-sum)
-          (exactly (WasTurned S st) n (λ e. count e st.places) (λ e le. go e (zero-or-more (count e st.places))))
+      turned_exactly : Exactly (WasTurned S st) n st.turned
+      turned_exactly =
+          subst (Exactly (WasTurned S st) n) (sym turned_sum)
+          (exactly (WasTurned S st) n (λ e. count e st.places) (λ e le. go e (zero_or_more (count e st.places))))
         where
           go : (e : ℕ) → (count e st.places ≡ 0) ⊎ (e ∈ st.places) → ((count e st.places ≡ 1) × WasTurned S st e) ⊎ ((count e st.places ≡ 0) × ¬ WasTurned S st e)
           go e (inl z) = inr (z, λ h. omega arith)
-          go e (inr p) = inl (le_antisymm (places-once e) p, p)
+          go e (inr p) = inl (le_antisymm (places_once e) p, p)
 
-      turned-looked : st.turned ≤ st.looked
-      turned-looked = omega (arith, looked-sum, turned-sum, sum-le n (λ e. count e st.places) looksAt (λ e b. places-looks e))
+      turned_looked : st.turned ≤ st.looked
+      turned_looked = omega (arith, looked_sum, turned_sum, sum_le n (λ e. count e st.places) looks_at (λ e b. places_looks e))
 
-      fixed-sole : (e : ℕ) → WasTurned S st e → fixed e ≡ true → Sole S ts e
-      fixed-sole e h f =
-          let w = total-some l (λ s. count e (turnsOf S ts s)) (rw (a.places e) at h) in
-          go w.0 w.1 w.2 (turns-fixed S ts w.0 e w.2 f)
+      fixed_sole : (e : ℕ) → WasTurned S st e → fixed e ≡ true → Sole S ts e
+      fixed_sole e h f =
+          let w = total_some l (λ s. count e (turns_of S ts s)) (rw (a.places e) at h) in
+          go w.0 w.1 w.2 (turns_fixed S ts w.0 e w.2 f)
         where
-          go : (s : ℕ) → s ∈ l → e ∈ turnsOf S ts s → e ≡ s → Sole S ts e
+          go : (s : ℕ) → s ∈ l → e ∈ turns_of S ts s → e ≡ s → Sole S ts e
           go s hs he q =
-              let m : e ∈ looksOf S ts e = rw (← q) at (le_trans he (turns-looks S ts s e)) in
-              let u = looks-unmarked S ts e e m in
+              let m : e ∈ looks_of S ts e = rw (← q) at (le_trans he (turns_looks S ts s e)) in
+              let u = looks_unmarked S ts e e m in
               let le : e < n = rw (← q) at (listed.below s hs) in
-              ((f, u), λ d r c. sole-stop permutes (isStop S ts) e le (rw u f) (rw (looks-of S ts e u) at m) d r (rw c.1 c.0))
+              ((f, u), λ d r c. sole_stop permutes (is_stop S ts) e le (rw u f) (rw (looks_of_lem S ts e u) at m) d r (rw c.1 c.0))
 
-      others-kept : (e : ℕ) → ¬ WasTurned S st e → read st.tangents e ≡ read ts e
-      others-kept e h = go (zero-or-more (count e st.places))
+      others_kept : (e : ℕ) → ¬ WasTurned S st e → read st.tangents e ≡ read ts e
+      others_kept e h = go (zero_or_more (count e st.places))
         where
           go : (count e st.places ≡ 0) ⊎ (e ∈ st.places) → read st.tangents e ≡ read ts e
           go (inl z) = a.kept e (sym (a.places e) ∙ z)
@@ -350,11 +350,11 @@ module _ {S : Steps} (L : Lawful S) (ts : S.Tangents) (whole : L.Whole ts) where
   -- ---- two such lists come to the same
 
   module _ (l m : List ℕ) (nl : NamesFixed S l) (nm : NamesFixed S m) (st sv : State S) (a : After l st) (b : After m sv) where
-    same-count : (s : ℕ) → s < n → count s l ≡ count s m
-    same-count s ls = go (fixed s) refl
+    same_count : (s : ℕ) → s < n → count s l ≡ count s m
+    same_count s ls = go (fixed s) refl
       where
         none : (x : List ℕ) → NamesFixed S x → fixed s ≡ false → count s x ≡ 0
-        none x nx e = by (zero-or-more (count s x))
+        none x nx e = by (zero_or_more (count s x))
           where
             by : (count s x ≡ 0) ⊎ (s ∈ x) → count s x ≡ 0
             by (inl z) = z
@@ -364,60 +364,60 @@ module _ {S : Steps} (L : Lawful S) (ts : S.Tangents) (whole : L.Whole ts) where
         go true e = nl.each s ls e ∙ sym (nm.each s ls e)
         go false e = none l nl e ∙ sym (none m nm e)
 
-    same-total : (f : ℕ → ℕ) → total l f ≡ total m f
-    same-total f =
-        total-count n l f (λ s h. (nl.only s h).0)
-        ∙ sum-ext n (λ s. count s l * f s) (λ s. count s m * f s) (λ s b. ap (λ (k : ℕ). k * f s) (same-count s b))
-        ∙ sym (total-count n m f (λ s h. (nm.only s h).0))
+    same_total : (f : ℕ → ℕ) → total l f ≡ total m f
+    same_total f =
+        total_count n l f (λ s h. (nl.only s h).0)
+        ∙ sum_ext n (λ s. count s l * f s) (λ s. count s m * f s) (λ s b. ap (λ (k : ℕ). k * f s) (same_count s b))
+        ∙ sym (total_count n m f (λ s h. (nm.only s h).0))
 
-    same-looked : st.looked ≡ sv.looked
-    same-looked = a.looked ∙ same-total (λ s. length (looksOf S ts s)) ∙ sym b.looked
+    same_looked : st.looked ≡ sv.looked
+    same_looked = a.looked ∙ same_total (λ s. length (looks_of S ts s)) ∙ sym b.looked
 
-    same-turned : st.turned ≡ sv.turned
-    same-turned = a.turned ∙ same-total (λ s. length (turnsOf S ts s)) ∙ sym b.turned
+    same_turned : st.turned ≡ sv.turned
+    same_turned = a.turned ∙ same_total (λ s. length (turns_of S ts s)) ∙ sym b.turned
 
-    same-places : (e : ℕ) → count e st.places ≡ count e sv.places
-    same-places e = a.places e ∙ same-total (λ s. count e (turnsOf S ts s)) ∙ sym (b.places e)
+    same_places : (e : ℕ) → count e st.places ≡ count e sv.places
+    same_places e = a.places e ∙ same_total (λ s. count e (turns_of S ts s)) ∙ sym (b.places e)
 
-    same-tangents : st.tangents ≡ sv.tangents
-    same-tangents = L.same-tangents st.tangents sv.tangents a.is-whole b.is-whole (λ e le. by e (zero-or-more (total l (λ s. count e (turnsOf S ts s)))))
+    same_tangents : st.tangents ≡ sv.tangents
+    same_tangents = L.same_tangents st.tangents sv.tangents a.is_whole b.is_whole (λ e le. by e (zero_or_more (total l (λ s. count e (turns_of S ts s)))))
       where
-        by : (e : ℕ) → (total l (λ s. count e (turnsOf S ts s)) ≡ 0) ⊎ (1 ≤ total l (λ s. count e (turnsOf S ts s))) → read st.tangents e ≡ read sv.tangents e
-        by e (inl z) = a.kept e z ∙ sym (b.kept e (sym (same-total (λ s. count e (turnsOf S ts s))) ∙ z))
+        by : (e : ℕ) → (total l (λ s. count e (turns_of S ts s)) ≡ 0) ⊎ (1 ≤ total l (λ s. count e (turns_of S ts s))) → read st.tangents e ≡ read sv.tangents e
+        by e (inl z) = a.kept e z ∙ sym (b.kept e (sym (same_total (λ s. count e (turns_of S ts s))) ∙ z))
         by e (inr p) =
-            let w = total-some l (λ s. count e (turnsOf S ts s)) p in
-            let s-in : w.0 ∈ m = rw (same-count w.0 (nl.only w.0 w.1).0) at w.1 in
-            a.value w.0 e w.1 w.2 ∙ sym (b.value w.0 e s-in w.2)
+            let w = total_some l (λ s. count e (turns_of S ts s)) p in
+            let s_in : w.0 ∈ m = rw (same_count w.0 (nl.only w.0 w.1).0) at w.1 in
+            a.value w.0 e w.1 w.2 ∙ sym (b.value w.0 e s_in w.2)
 
   -- ---- from the list of starts to the list taken, the last one first
 
   taken : (starts : List ℕ) → NamesFixed S starts → NamesFixed S (reverse_aux starts [])
   unfolding count
   taken starts nm = record {
-    each = λ s l f. omega (arith, nm.each s l f, count-reverse s starts []);
-    only = λ s h. nm.only s (omega (arith, count-reverse s starts []));
+    each = λ s l f. omega (arith, nm.each s l f, count_reverse s starts []);
+    only = λ s h. nm.only s (omega (arith, count_reverse s starts []));
   }
 
-  after-spread : (starts : List ℕ) → NamesFixed S starts → After (reverse_aux starts []) (spread S starts ts)
+  after_spread : (starts : List ℕ) → NamesFixed S starts → After (reverse_aux starts []) (spread S starts ts)
   unfolding spread
-  after-spread starts nm = after-all starts [] (handedIn S ts) (listed (reverse_aux starts []) (taken starts nm)) after-none
+  after_spread starts nm = after_all starts [] (handed_in S ts) (listed (reverse_aux starts []) (taken starts nm)) after_none
 
   -- ---- THE THEOREM
 
-  pub order-free : (starts : List ℕ) → NamesFixed S starts → OrderFree S starts ts (pass S ts).tangents (pass S ts).looked (pass S ts).turned
+  pub order_free : (starts : List ℕ) → NamesFixed S starts → OrderFree S starts ts (pass S ts).tangents (pass S ts).looked (pass S ts).turned
   unfolding pass
-  order-free starts nm = record {
-    tangents-same = same-tangents l l₀ f f₀ st st₀ a a₀;
-    looked-same = same-looked l l₀ f f₀ st st₀ a a₀;
-    turned-same = same-turned l l₀ f f₀ st st₀ a a₀;
-    places-same = same-places l l₀ f f₀ st st₀ a a₀;
-    looked-is = looked-exactly l₀ f₀ st₀ a₀;
-    turned-is = rw (← same-turned l l₀ f f₀ st st₀ a a₀) (turned-exactly l f st a);
-    turned-at-most = turned-looked l₀ f₀ st₀ a₀;
-    turned-once = places-once l f st a;
-    fixed-sole = fixed-sole l f st a;
-    weights-kept = a₀.weights;
-    others-kept = λ e h. ap (λ (u : S.Tangents). read u e) (sym (same-tangents l l₀ f f₀ st st₀ a a₀)) ∙ others-kept l f st a e h;
+  order_free starts nm = record {
+    tangents_same = same_tangents l l₀ f f₀ st st₀ a a₀;
+    looked_same = same_looked l l₀ f f₀ st st₀ a a₀;
+    turned_same = same_turned l l₀ f f₀ st st₀ a a₀;
+    places_same = same_places l l₀ f f₀ st st₀ a a₀;
+    looked_is = looked_exactly l₀ f₀ st₀ a₀;
+    turned_is = rw (← same_turned l l₀ f f₀ st st₀ a a₀) (turned_exactly l f st a);
+    turned_at_most = turned_looked l₀ f₀ st₀ a₀;
+    turned_once = places_once l f st a;
+    fixed_sole = fixed_sole l f st a;
+    weights_kept = a₀.weights;
+    others_kept = λ e h. ap (λ (u : S.Tangents). read u e) (sym (same_tangents l l₀ f f₀ st st₀ a a₀)) ∙ others_kept l f st a e h;
   }
     where
       l : List ℕ
@@ -430,16 +430,16 @@ module _ {S : Steps} (L : Lawful S) (ts : S.Tangents) (whole : L.Whole ts) where
       st = spread S starts ts
 
       a : After l st
-      a = after-spread starts nm
+      a = after_spread starts nm
 
       l₀ : List ℕ
-      l₀ = reverse_aux (fixedFrom S n 0) []
+      l₀ = reverse_aux (fixed_from S n 0) []
 
       f₀ : NamesFixed S l₀
-      f₀ = taken (fixedFrom S n 0) (own S)
+      f₀ = taken (fixed_from S n 0) (own S)
 
       st₀ : State S
       st₀ = pass S ts
 
       a₀ : After l₀ st₀
-      a₀ = after-spread (fixedFrom S n 0) (own S)
+      a₀ = after_spread (fixed_from S n 0) (own S)

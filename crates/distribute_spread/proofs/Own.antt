@@ -5,48 +5,48 @@ use Prim.Native.Nat.{ℕ, zero, suc, ◌+◌, ◌≤◌, ◌<◌}
 use native.Mathlib.Decide.{ℕ_discrete}
 use native.Mathlib.Omega.{arith}
 use Rattle.cycles.specs.Count.{count, ◌∈◌}
-use Rattle.cycles.proofs.Count.{delta-equal, delta-other}
+use Rattle.cycles.proofs.Count.{delta_equal, delta_other}
 use Rattle.distribute_spread.specs.Steps.{Steps}
-use Rattle.distribute_spread.specs.Spread.{fixedFrom}
+use Rattle.distribute_spread.specs.Spread.{fixed_from}
 use Rattle.distribute_spread.specs.Order.{NamesFixed}
-use Rattle.distribute_spread.proofs.Branches.{fixed-none, fixed-here, fixed-later}
+use Rattle.distribute_spread.proofs.Branches.{fixed_none, fixed_here, fixed_later}
 
 module _ (S : Steps) where
   open S use {n, fixed}
 
   -- a number below the first is not in the list
-  count-before : (k i e : ℕ) → e < i → count e (fixedFrom S k i) ≡ 0
+  count_before : (k i e : ℕ) → e < i → count e (fixed_from S k i) ≡ 0
   unfolding count
-  count-before zero i e l = rw (fixed-none S i)
-  count-before (suc k) i e l = go (fixed i) refl (count-before k (suc i) e (omega arith))
+  count_before zero i e l = rw (fixed_none S i)
+  count_before (suc k) i e l = go (fixed i) refl (count_before k (suc i) e (omega arith))
     where
-      go : (b : Bool) → fixed i ≡ b → count e (fixedFrom S k (suc i)) ≡ 0 → count e (fixedFrom S (suc k) i) ≡ 0
-      go true f ih = rw (fixed-here S k i f) (omega (arith, delta-other e i (λ q. omega arith)))
-      go false f ih = rw (fixed-later S k i f) ih
+      go : (b : Bool) → fixed i ≡ b → count e (fixed_from S k (suc i)) ≡ 0 → count e (fixed_from S (suc k) i) ≡ 0
+      go true f ih = rw (fixed_here S k i f) (omega (arith, delta_other e i (λ q. omega arith)))
+      go false f ih = rw (fixed_later S k i f) ih
 
-  count-fixed : (k i e : ℕ) → i ≤ e → e < i + k → fixed e ≡ true → count e (fixedFrom S k i) ≡ 1
+  count_fixed : (k i e : ℕ) → i ≤ e → e < i + k → fixed e ≡ true → count e (fixed_from S k i) ≡ 1
   unfolding count
-  count-fixed zero i e l u fe = absurd (omega arith)
-  count-fixed (suc k) i e l u fe = go (fixed i) refl (ℕ_discrete e i) (λ b. count-fixed k (suc i) e b (omega arith) fe)
+  count_fixed zero i e l u fe = absurd (omega arith)
+  count_fixed (suc k) i e l u fe = go (fixed i) refl (ℕ_discrete e i) (λ b. count_fixed k (suc i) e b (omega arith) fe)
     where
-      go : (b : Bool) → fixed i ≡ b → Dec (e ≡ i) → (suc i ≤ e → count e (fixedFrom S k (suc i)) ≡ 1) → count e (fixedFrom S (suc k) i) ≡ 1
-      go true f (yes q) ih = rw (fixed-here S k i f) (omega (arith, delta-equal e i q, count-before k (suc i) e (omega arith)))
-      go true f (no q) ih = rw (fixed-here S k i f) (omega (arith, delta-other e i q, ih (omega arith)))
+      go : (b : Bool) → fixed i ≡ b → Dec (e ≡ i) → (suc i ≤ e → count e (fixed_from S k (suc i)) ≡ 1) → count e (fixed_from S (suc k) i) ≡ 1
+      go true f (yes q) ih = rw (fixed_here S k i f) (omega (arith, delta_equal e i q, count_before k (suc i) e (omega arith)))
+      go true f (no q) ih = rw (fixed_here S k i f) (omega (arith, delta_other e i q, ih (omega arith)))
       go false f (yes q) ih = absurd (true≢false (sym fe ∙ ap fixed q ∙ f))
-      go false f (no q) ih = rw (fixed-later S k i f) (ih (omega arith))
+      go false f (no q) ih = rw (fixed_later S k i f) (ih (omega arith))
 
-  only-fixed : (k i e : ℕ) → e ∈ fixedFrom S k i → (e < i + k) × (fixed e ≡ true)
+  only_fixed : (k i e : ℕ) → e ∈ fixed_from S k i → (e < i + k) × (fixed e ≡ true)
   unfolding count
-  only-fixed zero i e m = absurd (let z : 1 ≤ 0 = rw (fixed-none S i) at m in omega arith)
-  only-fixed (suc k) i e m = go (fixed i) refl (ℕ_discrete e i) (only-fixed k (suc i) e)
+  only_fixed zero i e m = absurd (let z : 1 ≤ 0 = rw (fixed_none S i) at m in omega arith)
+  only_fixed (suc k) i e m = go (fixed i) refl (ℕ_discrete e i) (only_fixed k (suc i) e)
     where
-      go : (b : Bool) → fixed i ≡ b → Dec (e ≡ i) → (e ∈ fixedFrom S k (suc i) → (e < suc i + k) × (fixed e ≡ true)) → (e < i + suc k) × (fixed e ≡ true)
+      go : (b : Bool) → fixed i ≡ b → Dec (e ≡ i) → (e ∈ fixed_from S k (suc i) → (e < suc i + k) × (fixed e ≡ true)) → (e < i + suc k) × (fixed e ≡ true)
       go true f (yes q) ih = (omega arith, ap fixed q ∙ f)
-      go true f (no q) ih = let w = ih (omega (arith, rw (fixed-here S k i f) at m, delta-other e i q)) in (omega (arith, w.0), w.1)
-      go false f d ih = let w = ih (rw (fixed-later S k i f) at m) in (omega (arith, w.0), w.1)
+      go true f (no q) ih = let w = ih (omega (arith, rw (fixed_here S k i f) at m, delta_other e i q)) in (omega (arith, w.0), w.1)
+      go false f d ih = let w = ih (rw (fixed_later S k i f) at m) in (omega (arith, w.0), w.1)
 
-  pub own : NamesFixed S (fixedFrom S n 0)
+  pub own : NamesFixed S (fixed_from S n 0)
   own = record {
-    each = λ e l f. count-fixed n 0 e (omega arith) (omega arith) f;
-    only = λ e m. (omega (arith, (only-fixed n 0 e m).0), (only-fixed n 0 e m).1);
+    each = λ e l f. count_fixed n 0 e (omega arith) (omega arith) f;
+    only = λ e m. (omega (arith, (only_fixed n 0 e m).0), (only_fixed n 0 e m).1);
   }

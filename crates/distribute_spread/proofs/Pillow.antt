@@ -22,26 +22,26 @@ pillow flags = record {
   read = λ ts e. get_or ts e 0;
   write = set;
   weight = λ v. v % 10;
-  isMark = λ w. eqb w 9;
+  is_mark = λ w. eqb w 9;
   begin = λ e v. v;
   gather = λ start e v g. g + v;
-  turnsNone = λ g. eqb g 0;
+  turns_none = λ g. eqb g 0;
   plan = λ start last g. g;
   turn = λ p v. v + 10 * p;
   next = suc;
 }
 
 -- a sole fixed halfedge is turned with its round
-pub one-fixed : pass (pillow (true ∷ [])) (1 ∷ 2 ∷ 3 ∷ 4 ∷ 5 ∷ 6 ∷ [])
+pub one_fixed : pass (pillow (true ∷ [])) (1 ∷ 2 ∷ 3 ∷ 4 ∷ 5 ∷ 6 ∷ [])
     ≡ record { tangents = 71 ∷ 2 ∷ 3 ∷ 64 ∷ 5 ∷ 6 ∷ []; looked = 2; turned = 2; places = 0 ∷ 3 ∷ [] }
 unfolding pass
-one-fixed = refl
+one_fixed = refl
 
 -- with all fixed, nothing is turned
-all-fixed : pass (pillow (true ∷ true ∷ true ∷ true ∷ true ∷ true ∷ [])) (1 ∷ 2 ∷ 3 ∷ 4 ∷ 5 ∷ 6 ∷ [])
+all_fixed : pass (pillow (true ∷ true ∷ true ∷ true ∷ true ∷ true ∷ [])) (1 ∷ 2 ∷ 3 ∷ 4 ∷ 5 ∷ 6 ∷ [])
     ≡ record { tangents = 1 ∷ 2 ∷ 3 ∷ 4 ∷ 5 ∷ 6 ∷ []; looked = 6; turned = 0; places = [] }
 unfolding pass
-all-fixed = refl
+all_fixed = refl
 
 -- a marked start is passed over, and a marked halfedge is looked at but not turned
 pub marks : pass (pillow (true ∷ true ∷ [])) (1 ∷ 9 ∷ 3 ∷ 9 ∷ 5 ∷ 6 ∷ [])
@@ -49,7 +49,7 @@ pub marks : pass (pillow (true ∷ true ∷ [])) (1 ∷ 9 ∷ 3 ∷ 9 ∷ 5 ∷ 
 unfolding pass
 marks = refl
 
-two-orders : (spread (pillow (true ∷ true ∷ [])) (1 ∷ 0 ∷ []) (1 ∷ 2 ∷ 3 ∷ 4 ∷ 5 ∷ 6 ∷ [])).tangents
+two_orders : (spread (pillow (true ∷ true ∷ [])) (1 ∷ 0 ∷ []) (1 ∷ 2 ∷ 3 ∷ 4 ∷ 5 ∷ 6 ∷ [])).tangents
     ≡ (spread (pillow (true ∷ true ∷ [])) (0 ∷ 1 ∷ []) (1 ∷ 2 ∷ 3 ∷ 4 ∷ 5 ∷ 6 ∷ [])).tangents
 unfolding spread
-two-orders = refl
+two_orders = refl

@@ -6,9 +6,9 @@ use native.Mathlib.Decide.{ℕ_discrete}
 use native.Mathlib.Omega.{arith}
 use lib.ListN.{length}
 use Rattle.cycles.specs.Count.{count, ◌∈◌}
-use Rattle.cycles.proofs.Count.{delta-equal, Below}
+use Rattle.cycles.proofs.Count.{delta_equal, Below}
 use Rattle.distribute_spread.specs.Steps.{Steps, Lawful}
-use Rattle.distribute_spread.specs.Spread.{State, marked, turnAt}
+use Rattle.distribute_spread.specs.Spread.{State, marked, turn_at}
 
 -- the tangents u have the marks of ts
 abbrev pub SameMarks : (S : Steps) → S.Tangents → S.Tangents → Type 0
@@ -21,13 +21,13 @@ pub record SameCounts (S : Steps) (st sv : State S) : Type 0 where
   pub places : st.places ≡ sv.places
 
 -- the state with other tangents
-abbrev pub onTangents : (S : Steps) → S.Tangents → State S → State S
-onTangents S ts st = record { tangents = ts; looked = st.looked; turned = st.turned; places = st.places }
+abbrev pub on_tangents : (S : Steps) → S.Tangents → State S → State S
+on_tangents S ts st = record { tangents = ts; looked = st.looked; turned = st.turned; places = st.places }
 
 -- the halfedges of a list turned in order, each at the next angle
-unfoldable pub turnAll : (S : Steps) → List ℕ → S.Plan → State S → State S
-turnAll S [] p st = st
-turnAll S (c ∷ cs) p st = turnAll S cs (S.next p) (turnAt S c p st)
+unfoldable pub turn_all : (S : Steps) → List ℕ → S.Plan → State S → State S
+turn_all S [] p st = st
+turn_all S (c ∷ cs) p st = turn_all S cs (S.next p) (turn_at S c p st)
 
 -- what the halfedges `cs`, turned, make of the state st
 pub record Turning (S : Steps) (cs : List ℕ) (st after : State S) : Type 0 where
@@ -38,81 +38,81 @@ pub record Turning (S : Steps) (cs : List ℕ) (st after : State S) : Type 0 whe
   pub kept : (e : ℕ) → count e cs ≡ 0 → S.read after.tangents e ≡ S.read st.tangents e
 
 module _ {S : Steps} (L : Lawful S) where
-  open S use {Plan, n, read, weight, isMark, turn, next}
-  open L use {turn-weight, Whole, write-whole, read-same, read-other}
+  open S use {Plan, n, read, weight, is_mark, turn, next}
+  open L use {turn_weight, Whole, write_whole, read_same, read_other}
 
   -- ---- one
 
-  pub turn-whole : (c : ℕ) (p : Plan) (st : State S) → Whole st.tangents → Whole (turnAt S c p st).tangents
-  turn-whole c p st w = write-whole st.tangents c (turn p (read st.tangents c)) w
+  pub turn_whole : (c : ℕ) (p : Plan) (st : State S) → Whole st.tangents → Whole (turn_at S c p st).tangents
+  turn_whole c p st w = write_whole st.tangents c (turn p (read st.tangents c)) w
 
-  turn-weights : (c : ℕ) (p : Plan) (st : State S) → c < n → Whole st.tangents → (e : ℕ)
-      → weight (read (turnAt S c p st).tangents e) ≡ weight (read st.tangents e)
-  turn-weights c p st l w e = go (ℕ_discrete e c)
+  turn_weights : (c : ℕ) (p : Plan) (st : State S) → c < n → Whole st.tangents → (e : ℕ)
+      → weight (read (turn_at S c p st).tangents e) ≡ weight (read st.tangents e)
+  turn_weights c p st l w e = go (ℕ_discrete e c)
     where
-      go : Dec (e ≡ c) → weight (read (turnAt S c p st).tangents e) ≡ weight (read st.tangents e)
-      go (yes q) = rw q (rw (read-same st.tangents c (turn p (read st.tangents c)) w l) (turn-weight p (read st.tangents c)))
-      go (no q) = rw (read-other st.tangents c (turn p (read st.tangents c)) e q)
+      go : Dec (e ≡ c) → weight (read (turn_at S c p st).tangents e) ≡ weight (read st.tangents e)
+      go (yes q) = rw q (rw (read_same st.tangents c (turn p (read st.tangents c)) w l) (turn_weight p (read st.tangents c)))
+      go (no q) = rw (read_other st.tangents c (turn p (read st.tangents c)) e q)
 
-  pub turn-marks : (ts : S.Tangents) (c : ℕ) (p : Plan) (st : State S) → c < n → Whole st.tangents → SameMarks S ts st.tangents → SameMarks S ts (turnAt S c p st).tangents
-  turn-marks ts c p st l w m e = ap isMark (turn-weights c p st l w e) ∙ m e
+  pub turn_marks : (ts : S.Tangents) (c : ℕ) (p : Plan) (st : State S) → c < n → Whole st.tangents → SameMarks S ts st.tangents → SameMarks S ts (turn_at S c p st).tangents
+  turn_marks ts c p st l w m e = ap is_mark (turn_weights c p st l w e) ∙ m e
 
   -- two states that agree at c and at e still agree at e when c is turned
-  turn-same : (c : ℕ) (p : Plan) (st sv : State S) → c < n → Whole st.tangents → Whole sv.tangents
+  turn_same : (c : ℕ) (p : Plan) (st sv : State S) → c < n → Whole st.tangents → Whole sv.tangents
       → read st.tangents c ≡ read sv.tangents c → (e : ℕ) → read st.tangents e ≡ read sv.tangents e
-      → read (turnAt S c p st).tangents e ≡ read (turnAt S c p sv).tangents e
-  turn-same c p st sv l w v h e q = go (ℕ_discrete e c)
+      → read (turn_at S c p st).tangents e ≡ read (turn_at S c p sv).tangents e
+  turn_same c p st sv l w v h e q = go (ℕ_discrete e c)
     where
-      go : Dec (e ≡ c) → read (turnAt S c p st).tangents e ≡ read (turnAt S c p sv).tangents e
+      go : Dec (e ≡ c) → read (turn_at S c p st).tangents e ≡ read (turn_at S c p sv).tangents e
       go (yes r) =
-          rw r (rw (read-same st.tangents c (turn p (read st.tangents c)) w l, read-same sv.tangents c (turn p (read sv.tangents c)) v l) (ap (turn p) h))
+          rw r (rw (read_same st.tangents c (turn p (read st.tangents c)) w l, read_same sv.tangents c (turn p (read sv.tangents c)) v l) (ap (turn p) h))
       go (no r) =
-          rw (read-other st.tangents c (turn p (read st.tangents c)) e r, read-other sv.tangents c (turn p (read sv.tangents c)) e r) q
+          rw (read_other st.tangents c (turn p (read st.tangents c)) e r, read_other sv.tangents c (turn p (read sv.tangents c)) e r) q
 
   -- ---- all of a list
 
-  below-first : (c : ℕ) (cs : List ℕ) → Below n (c ∷ cs) → c < n
+  below_first : (c : ℕ) (cs : List ℕ) → Below n (c ∷ cs) → c < n
   unfolding count
-  below-first c cs b = b c (omega (arith, delta-equal c c refl))
+  below_first c cs b = b c (omega (arith, delta_equal c c refl))
 
-  below-rest : (c : ℕ) (cs : List ℕ) → Below n (c ∷ cs) → Below n cs
+  below_rest : (c : ℕ) (cs : List ℕ) → Below n (c ∷ cs) → Below n cs
   unfolding count
-  below-rest c cs b e m = b e (omega arith)
+  below_rest c cs b e m = b e (omega arith)
 
-  pub all-whole : (cs : List ℕ) (p : Plan) (st : State S) → Whole st.tangents → Whole (turnAll S cs p st).tangents
-  unfolding turnAll
-  all-whole [] p st w = w
-  all-whole (c ∷ cs) p st w = all-whole cs (next p) (turnAt S c p st) (turn-whole c p st w)
+  pub all_whole : (cs : List ℕ) (p : Plan) (st : State S) → Whole st.tangents → Whole (turn_all S cs p st).tangents
+  unfolding turn_all
+  all_whole [] p st w = w
+  all_whole (c ∷ cs) p st w = all_whole cs (next p) (turn_at S c p st) (turn_whole c p st w)
 
-  pub all-turning : (cs : List ℕ) (p : Plan) (st : State S) → Below n cs → Whole st.tangents → Turning S cs st (turnAll S cs p st)
-  unfolding turnAll count
-  all-turning [] p st b w = record { looked = refl; turned = omega arith; places = λ e. omega arith; weights = λ e. refl; kept = λ e h. refl }
-  all-turning (c ∷ cs) p st b w =
-      let t = all-turning cs (next p) (turnAt S c p st) (below-rest c cs b) (turn-whole c p st w) in
+  pub all_turning : (cs : List ℕ) (p : Plan) (st : State S) → Below n cs → Whole st.tangents → Turning S cs st (turn_all S cs p st)
+  unfolding turn_all count
+  all_turning [] p st b w = record { looked = refl; turned = omega arith; places = λ e. omega arith; weights = λ e. refl; kept = λ e h. refl }
+  all_turning (c ∷ cs) p st b w =
+      let t = all_turning cs (next p) (turn_at S c p st) (below_rest c cs b) (turn_whole c p st w) in
       record {
         looked = t.looked;
         turned = omega (arith, t.turned);
         places = λ e. omega (arith, t.places e);
-        weights = λ e. t.weights e ∙ turn-weights c p st (below-first c cs b) w e;
-        kept = λ e h. t.kept e (omega arith) ∙ read-other st.tangents c (turn p (read st.tangents c)) e (λ q. omega (arith, delta-equal e c q));
+        weights = λ e. t.weights e ∙ turn_weights c p st (below_first c cs b) w e;
+        kept = λ e h. t.kept e (omega arith) ∙ read_other st.tangents c (turn p (read st.tangents c)) e (λ q. omega (arith, delta_equal e c q));
       }
 
   -- it reads nothing but the tangents that it turns
-  pub all-same : (cs : List ℕ) (p : Plan) (st sv : State S) → Below n cs → Whole st.tangents → Whole sv.tangents
+  pub all_same : (cs : List ℕ) (p : Plan) (st sv : State S) → Below n cs → Whole st.tangents → Whole sv.tangents
       → ((e : ℕ) → e ∈ cs → read st.tangents e ≡ read sv.tangents e)
-      → (e : ℕ) → read st.tangents e ≡ read sv.tangents e → read (turnAll S cs p st).tangents e ≡ read (turnAll S cs p sv).tangents e
-  unfolding turnAll count
-  all-same [] p st sv b w v h e q = q
-  all-same (c ∷ cs) p st sv b w v h e q =
-      let at : (e : ℕ) → read st.tangents e ≡ read sv.tangents e → read (turnAt S c p st).tangents e ≡ read (turnAt S c p sv).tangents e =
-      turn-same c p st sv (below-first c cs b) w v (h c (omega (arith, delta-equal c c refl))) in
-      all-same cs (next p) (turnAt S c p st) (turnAt S c p sv) (below-rest c cs b) (turn-whole c p st w) (turn-whole c p sv v)
+      → (e : ℕ) → read st.tangents e ≡ read sv.tangents e → read (turn_all S cs p st).tangents e ≡ read (turn_all S cs p sv).tangents e
+  unfolding turn_all count
+  all_same [] p st sv b w v h e q = q
+  all_same (c ∷ cs) p st sv b w v h e q =
+      let at : (e : ℕ) → read st.tangents e ≡ read sv.tangents e → read (turn_at S c p st).tangents e ≡ read (turn_at S c p sv).tangents e =
+      turn_same c p st sv (below_first c cs b) w v (h c (omega (arith, delta_equal c c refl))) in
+      all_same cs (next p) (turn_at S c p st) (turn_at S c p sv) (below_rest c cs b) (turn_whole c p st w) (turn_whole c p sv v)
       (λ x m. at x (h x (omega arith))) e (at e q)
 
 -- the counts and places that come of turning a list do not depend on the tangents
-pub all-counts : (S : Steps) (cs : List ℕ) (p : S.Plan) (st sv : State S) → SameCounts S st sv → SameCounts S (turnAll S cs p st) (turnAll S cs p sv)
-unfolding turnAll
-all-counts S [] p st sv c = c
-all-counts S (e ∷ cs) p st sv c =
-    all-counts S cs (S.next p) (turnAt S e p st) (turnAt S e p sv)
+pub all_counts : (S : Steps) (cs : List ℕ) (p : S.Plan) (st sv : State S) → SameCounts S st sv → SameCounts S (turn_all S cs p st) (turn_all S cs p sv)
+unfolding turn_all
+all_counts S [] p st sv c = c
+all_counts S (e ∷ cs) p st sv c =
+    all_counts S cs (S.next p) (turn_at S e p st) (turn_at S e p sv)
     (record { looked = c.looked; turned = ap suc c.turned; places = ap (λ (l : List ℕ). e ∷ l) c.places })

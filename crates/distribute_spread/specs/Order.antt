@@ -4,7 +4,7 @@ use Rattle.std.specs.Prelude.{◌≡◌, true, false, List, ℕ, suc, ◌+◌, �
 use Rattle.cycles.specs.Count.{count, ◌∈◌, Exactly}
 use Rattle.cycles.specs.Walk.{Reaches}
 use Rattle.distribute_spread.specs.Steps.{Steps}
-use Rattle.distribute_spread.specs.Spread.{State, marked, firstWalk, secondWalk, spread, pass}
+use Rattle.distribute_spread.specs.Spread.{State, marked, first_walk, second_walk, spread, pass}
 
 module _ (S : Steps) where
   open S use {Tangents, Tangent, Gathered, Plan, n, step, fixed, read, weight, begin, gather}
@@ -36,34 +36,34 @@ module _ (S : Steps) where
 
   -- Spreading the tangents `ts` from `starts` gives the tangents `after` and the counts `looked` and `turned`, and these are what document 01 says.
   pub record OrderFree (starts : List ℕ) (ts after : Tangents) (looked turned : ℕ) : Type 0 where
-    pub tangents-same : (spread S starts ts).tangents ≡ after
-    pub looked-same : (spread S starts ts).looked ≡ looked
-    pub turned-same : (spread S starts ts).turned ≡ turned
+    pub tangents_same : (spread S starts ts).tangents ≡ after
+    pub looked_same : (spread S starts ts).looked ≡ looked
+    pub turned_same : (spread S starts ts).turned ≡ turned
     -- the halfedges turned are those of the unit's own pass
-    pub places-same : (e : ℕ) → count e (spread S starts ts).places ≡ count e (pass S ts).places
+    pub places_same : (e : ℕ) → count e (spread S starts ts).places ≡ count e (pass S ts).places
     -- looked is the number of halfedges in rounds that hold a fixed, unmarked halfedge
-    pub looked-is : Exactly (Touched ts) n looked
+    pub looked_is : Exactly (Touched ts) n looked
     -- turned is the number of halfedges turned, at most looked
-    pub turned-is : Exactly (WasTurned (spread S starts ts)) n turned
-    pub turned-at-most : turned ≤ looked
+    pub turned_is : Exactly (WasTurned (spread S starts ts)) n turned
+    pub turned_at_most : turned ≤ looked
     -- none is turned twice, and a fixed one only as the sole fixed, unmarked one of its round
-    pub turned-once : (e : ℕ) → count e (spread S starts ts).places ≤ 1
-    pub fixed-sole : (e : ℕ) → WasTurned (spread S starts ts) e → fixed e ≡ true → Sole ts e
+    pub turned_once : (e : ℕ) → count e (spread S starts ts).places ≤ 1
+    pub fixed_sole : (e : ℕ) → WasTurned (spread S starts ts) e → fixed e ≡ true → Sole ts e
     -- weights keep their bits, and so does every tangent that was not turned
-    pub weights-kept : (e : ℕ) → weight (read after e) ≡ weight (read ts e)
-    pub others-kept : (e : ℕ) → ¬ WasTurned (spread S starts ts) e → read after e ≡ read ts e
+    pub weights_kept : (e : ℕ) → weight (read after e) ≡ weight (read ts e)
+    pub others_kept : (e : ℕ) → ¬ WasTurned (spread S starts ts) e → read after e ≡ read ts e
 
   -- The Rust's guards let n + 1 steps pass. They end neither walk from a start: n steps are enough, and with any more both walks come to the same.
   pub record Unguarded (ts : Tangents) (start : ℕ) : Type 0 where
-    pub first-walk : (k looked : ℕ) (g : Gathered) → n ≤ k → firstWalk S k ts start start looked g ≡ firstWalk S n ts start start looked g
-    pub second-walk : (k : ℕ) (p : Plan) (st : State S) → n ≤ k → st.tangents ≡ ts → secondWalk S k start start p st ≡ secondWalk S n start start p st
+    pub first_walk : (k looked : ℕ) (g : Gathered) → n ≤ k → first_walk S k ts start start looked g ≡ first_walk S n ts start start looked g
+    pub second_walk : (k : ℕ) (p : Plan) (st : State S) → n ≤ k → st.tangents ≡ ts → second_walk S k start start p st ≡ second_walk S n start start p st
 
   -- a size of what is gathered that grows by one with each halfedge: the number of angles
   pub record AngleCount (size : Gathered → ℕ) : Type 0 where
-    pub at-start : (start : ℕ) (v : Tangent) → size (begin start v) ≡ 0
+    pub at_start : (start : ℕ) (v : Tangent) → size (begin start v) ≡ 0
     pub grows : (start e : ℕ) (v : Tangent) (g : Gathered) → size (gather start e v g) ≡ suc (size g)
 
   -- the second walk from a start turns at most as many tangents as the first one gathered angles, so it never reads past their end
   abbrev pub AnglesSuffice : Tangents → ℕ → Type 0
   AnglesSuffice ts start = (size : Gathered → ℕ) → AngleCount size → (k looked : ℕ) (p : Plan) (st : State S) → st.tangents ≡ ts
-      → (secondWalk S k start start p st).turned ≤ st.turned + size (firstWalk S k ts start start looked (begin start (read ts start))).gathered
+      → (second_walk S k start start p st).turned ≤ st.turned + size (first_walk S k ts start start looked (begin start (read ts start))).gathered

@@ -18,92 +18,92 @@ pub record State (S : Steps) : Type 0 where
   pub places : List ℕ
 
 module _ (S : Steps) where
-  open S use {Tangents, Gathered, Plan, n, step, fixed, read, write, weight, isMark, begin, gather, turnsNone, plan, turn, next}
+  open S use {Tangents, Gathered, Plan, n, step, fixed, read, write, weight, is_mark, begin, gather, turns_none, plan, turn, next}
 
   abbrev pub marked : Tangents → ℕ → Bool
-  marked ts e = isMark (weight (read ts e))
+  marked ts e = is_mark (weight (read ts e))
 
   -- the first walk from `start`, which has come to `here`: the mark is read before anything else
-  unfoldable pub firstWalk : ℕ → Tangents → ℕ → ℕ → ℕ → Gathered → Found S
-  firstWalk zero ts start here looked g = record { last = here; looked = looked; gathered = g }
-  firstWalk (suc k) ts start here looked g =
+  unfoldable pub first_walk : ℕ → Tangents → ℕ → ℕ → ℕ → Gathered → Found S
+  first_walk zero ts start here looked g = record { last = here; looked = looked; gathered = g }
+  first_walk (suc k) ts start here looked g =
       let current = step here in
       elim (marked ts current) [
         | true ↦
             elim (eqb current start) [
               | true ↦ record { last = current; looked = suc looked; gathered = g }
-              | false ↦ firstWalk k ts start current (suc looked) g
+              | false ↦ first_walk k ts start current (suc looked) g
             ]
         | false ↦
             let more = gather start current (read ts current) g in
             elim (fixed current) [
               | true ↦ record { last = current; looked = suc looked; gathered = more }
-              | false ↦ firstWalk k ts start current (suc looked) more
+              | false ↦ first_walk k ts start current (suc looked) more
             ]
       ]
 
   -- one tangent turned
-  abbrev pub turnAt : ℕ → Plan → State S → State S
-  turnAt e p st = record { tangents = write st.tangents e (turn p (read st.tangents e)); looked = st.looked; turned = suc st.turned; places = e ∷ st.places }
+  abbrev pub turn_at : ℕ → Plan → State S → State S
+  turn_at e p st = record { tangents = write st.tangents e (turn p (read st.tangents e)); looked = st.looked; turned = suc st.turned; places = e ∷ st.places }
 
   -- the second walk: a fixed halfedge other than the start ends it before its mark is read
-  unfoldable pub secondWalk : ℕ → ℕ → ℕ → Plan → State S → State S
-  secondWalk zero start here p st = st
-  secondWalk (suc k) start here p st =
+  unfoldable pub second_walk : ℕ → ℕ → ℕ → Plan → State S → State S
+  second_walk zero start here p st = st
+  second_walk (suc k) start here p st =
       let current = step here in
       elim (not (eqb current start) && fixed current) [
         | true ↦ st
         | false ↦
             elim (marked st.tangents current) [
-              | true ↦ elim (eqb current start) [ true ↦ st | false ↦ secondWalk k start current p st ]
+              | true ↦ elim (eqb current start) [ true ↦ st | false ↦ second_walk k start current p st ]
               | false ↦
                   elim (fixed current) [
-                    | true ↦ turnAt current p st
-                    | false ↦ secondWalk k start current (next p) (turnAt current p st)
+                    | true ↦ turn_at current p st
+                    | false ↦ second_walk k start current (next p) (turn_at current p st)
                   ]
             ]
       ]
 
   -- both walks of a start that is not marked
-  unfoldable pub walksFrom : ℕ → State S → State S
-  unfolding firstWalk secondWalk
-  walksFrom start st =
-      let f = firstWalk (suc n) st.tangents start start st.looked (begin start (read st.tangents start)) in
+  unfoldable pub walks_from : ℕ → State S → State S
+  unfolding first_walk second_walk
+  walks_from start st =
+      let f = first_walk (suc n) st.tangents start start st.looked (begin start (read st.tangents start)) in
       let seen : State S = record { tangents = st.tangents; looked = f.looked; turned = st.turned; places = st.places } in
-      elim (turnsNone f.gathered) [
+      elim (turns_none f.gathered) [
         | true ↦ seen
-        | false ↦ secondWalk (suc n) start start (plan start f.last f.gathered) seen
+        | false ↦ second_walk (suc n) start start (plan start f.last f.gathered) seen
       ]
 
   -- one start: a marked one is passed over
-  unfoldable pub spreadFrom : ℕ → State S → State S
-  unfolding walksFrom
-  spreadFrom start st = elim (marked st.tangents start) [ true ↦ st | false ↦ walksFrom start st ]
+  unfoldable pub spread_from : ℕ → State S → State S
+  unfolding walks_from
+  spread_from start st = elim (marked st.tangents start) [ true ↦ st | false ↦ walks_from start st ]
 
   -- one turn of the Rust's loop over the halfedges: one that is not fixed is no start
-  unfoldable pub spreadAt : ℕ → State S → State S
-  spreadAt e st = cond (fixed e) (spreadFrom e st) st
+  unfoldable pub spread_at : ℕ → State S → State S
+  spread_at e st = cond (fixed e) (spread_from e st) st
 
   -- a list of starts, each on what the last one left
-  unfoldable pub spreadOn : List ℕ → State S → State S
-  unfolding spreadFrom
-  spreadOn [] st = st
-  spreadOn (start ∷ starts) st = spreadOn starts (spreadFrom start st)
+  unfoldable pub spread_on : List ℕ → State S → State S
+  unfolding spread_from
+  spread_on [] st = st
+  spread_on (start ∷ starts) st = spread_on starts (spread_from start st)
 
   -- it begins with the tangents handed in and both counts 0
-  abbrev pub handedIn : Tangents → State S
-  handedIn ts = record { tangents = ts; looked = 0; turned = 0; places = [] }
+  abbrev pub handed_in : Tangents → State S
+  handed_in ts = record { tangents = ts; looked = 0; turned = 0; places = [] }
 
   unfoldable pub spread : List ℕ → Tangents → State S
-  unfolding spreadOn
-  spread starts ts = spreadOn starts (handedIn ts)
+  unfolding spread_on
+  spread starts ts = spread_on starts (handed_in ts)
 
   -- the fixed ones of the k halfedges from i on, in the Rust's order
-  unfoldable pub fixedFrom : ℕ → ℕ → List ℕ
-  fixedFrom zero i = []
-  fixedFrom (suc k) i = elim (fixed i) [ true ↦ i ∷ fixedFrom k (suc i) | false ↦ fixedFrom k (suc i) ]
+  unfoldable pub fixed_from : ℕ → ℕ → List ℕ
+  fixed_from zero i = []
+  fixed_from (suc k) i = elim (fixed i) [ true ↦ i ∷ fixed_from k (suc i) | false ↦ fixed_from k (suc i) ]
 
   -- the unit's own pass
   unfoldable pub pass : Tangents → State S
-  unfolding spread fixedFrom
-  pass ts = spread (fixedFrom n 0) ts
+  unfolding spread fixed_from
+  pass ts = spread (fixed_from n 0) ts

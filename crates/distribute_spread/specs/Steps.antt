@@ -14,10 +14,10 @@ pub record Steps : Type 1 where
   pub read : Tangents → ℕ → Tangent
   pub write : Tangents → ℕ → Tangent → Tangents
   pub weight : Tangent → Weight
-  pub isMark : Weight → Bool  -- `is_marked_inside_quad`
+  pub is_mark : Weight → Bool  -- `is_marked_inside_quad`
   pub begin : ℕ → Tangent → Gathered  -- at a start, with its tangent
   pub gather : ℕ → ℕ → Tangent → Gathered → Gathered  -- the first walk from a start comes to a halfedge with this tangent
-  pub turnsNone : Gathered → Bool  -- one angle, or a `normal` of length 0
+  pub turns_none : Gathered → Bool  -- one angle, or a `normal` of length 0
   pub plan : ℕ → ℕ → Gathered → Plan  -- from the start, the halfedge where the first walk ended, and what it gathered
   pub turn : Plan → Tangent → Tangent  -- the tangent rotated, its weight kept
   pub next : Plan → Plan  -- at the next angle
@@ -25,9 +25,9 @@ pub record Steps : Type 1 where
 -- what holds of them on an accepted mesh
 pub record Lawful (S : Steps) : Type 1 where
   pub permutes : Permutes S.step S.n
-  pub turn-weight : (p : S.Plan) (v : S.Tangent) → S.weight (S.turn p v) ≡ S.weight v
+  pub turn_weight : (p : S.Plan) (v : S.Tangent) → S.weight (S.turn p v) ≡ S.weight v
   pub Whole : S.Tangents → Type 0  -- the list has its length
-  pub write-whole : (ts : S.Tangents) (e : ℕ) (v : S.Tangent) → Whole ts → Whole (S.write ts e v)
-  pub read-same : (ts : S.Tangents) (e : ℕ) (v : S.Tangent) → Whole ts → e < S.n → S.read (S.write ts e v) e ≡ v
-  pub read-other : (ts : S.Tangents) (e : ℕ) (v : S.Tangent) (d : ℕ) → d ≢ e → S.read (S.write ts e v) d ≡ S.read ts d
-  pub same-tangents : (ts us : S.Tangents) → Whole ts → Whole us → ((e : ℕ) → e < S.n → S.read ts e ≡ S.read us e) → ts ≡ us
+  pub write_whole : (ts : S.Tangents) (e : ℕ) (v : S.Tangent) → Whole ts → Whole (S.write ts e v)
+  pub read_same : (ts : S.Tangents) (e : ℕ) (v : S.Tangent) → Whole ts → e < S.n → S.read (S.write ts e v) e ≡ v
+  pub read_other : (ts : S.Tangents) (e : ℕ) (v : S.Tangent) (d : ℕ) → d ≢ e → S.read (S.write ts e v) d ≡ S.read ts d
+  pub same_tangents : (ts us : S.Tangents) → Whole ts → Whole us → ((e : ℕ) → e < S.n → S.read ts e ≡ S.read us e) → ts ≡ us

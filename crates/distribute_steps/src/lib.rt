@@ -4,10 +4,10 @@
 
 ghost use Rattle.std.specs.Prelude.{◌≡◌, ◌+◌, ◌*◌, ◌≤◌, ◌<◌, ◌^◌, List, length, Float};
 ghost use Rattle.linalg.specs.declared.Vec4.{Vec4};
-ghost use Rattle.mesh.specs.Mesh.{asHalfedges};
-ghost use Rattle.smoothing.specs.Lists.{tangentAt, putTangent};
-ghost use Rattle.distribute_steps.specs.FloatSteps.{isMark, isFixed, isStart, edgeDirection, tangentDirection, lastOr, begin, angleAround, nextCurrent, nextDesired, nextNormal, gatherEdge, turnsNone, addOffset, offsetSum, scaleOf, offsetOf, plan, clampAngle, clampedAngle, turnedTangent, turn, next};
-ghost use Rattle.distribute_steps.specs.Scratch.{gatheredOf, planOf, EdgeFrom, GatherRoom, TurnRoom};
+ghost use Rattle.mesh.specs.Mesh.{as_halfedges};
+ghost use Rattle.smoothing.specs.Lists.{tangent_at, put_tangent};
+ghost use Rattle.distribute_steps.specs.FloatSteps.{is_mark, is_fixed, is_start, edge_direction, tangent_direction, last_or, begin, angle_around, next_current, next_desired, next_normal, gather_edge, turns_none, add_offset, offset_sum, scale_of, offset_of, plan, clamp_angle, clamped_angle, turned_tangent, turn, next};
+ghost use Rattle.distribute_steps.specs.Scratch.{gathered_of, plan_of, EdgeFrom, GatherRoom, TurnRoom};
 
 use linalg::{Vec3, Vec4};
 
@@ -44,7 +44,7 @@ pub struct Turning {
 // Is halfedge e marked?
 pub fn is_marked(t: &[f64], e: usize) -> bool
     requires { e * 4 + 4 ≤ length t.now }
-    ensures { result ≡ isMark (tangentAt t.now e).w }
+    ensures { result ≡ is_mark (tangent_at t.now e).w }
 {
     smoothing::is_marked_inside_quad(t, e)
 }
@@ -52,7 +52,7 @@ pub fn is_marked(t: &[f64], e: usize) -> bool
 // Is halfedge e fixed and unmarked? Such a one is a start, and ends the first walk.
 pub fn is_start(fixed: &[u8], t: &[f64], e: usize) -> bool
     requires { (e < length fixed.now) × (e * 4 + 4 ≤ length t.now) }
-    ensures { result ≡ isStart fixed.now t.now e }
+    ensures { result ≡ is_start fixed.now t.now e }
 {
     if fixed[e] != 1 {
         return false;
@@ -62,8 +62,8 @@ pub fn is_start(fixed: &[u8], t: &[f64], e: usize) -> bool
 
 // The direction from the start's point to the end of halfedge `current`.
 pub fn edge_direction(h: &[i32], pos: &[f64], start: usize, current: usize) -> Vec3
-    requires { EdgeFrom (asHalfedges h.now) pos.now start current }
-    ensures { result ≡ edgeDirection (asHalfedges h.now) pos.now start current }
+    requires { EdgeFrom (as_halfedges h.now) pos.now start current }
+    ensures { result ≡ edge_direction (as_halfedges h.now) pos.now start current }
 {
     let end = smoothing::point_at(pos, mesh::end_vert(h, current));
     let center = smoothing::point_at(pos, mesh::start_vert(h, start));
@@ -72,7 +72,7 @@ pub fn edge_direction(h: &[i32], pos: &[f64], start: usize, current: usize) -> V
 
 // The direction of a tangent.
 pub fn tangent_direction(v: Vec4) -> Vec3
-    ensures { result ≡ tangentDirection v }
+    ensures { result ≡ tangent_direction v }
 {
     smoothing::unit_vector(smoothing::vec3_from_vec4(v))
 }
@@ -80,7 +80,7 @@ pub fn tangent_direction(v: Vec4) -> Vec3
 // The last of the first k numbers, d where k is 0.
 fn last_or(list: &[f64], k: usize, d: f64) -> f64
     requires { k ≤ length list.now }
-    ensures { result ≡ lastOr list.now k d }
+    ensures { result ≡ last_or list.now k d }
 {
     if k == 0 {
         return d;
@@ -90,8 +90,8 @@ fn last_or(list: &[f64], k: usize, d: f64) -> f64
 
 // What is gathered at the start, before the first step.
 pub fn begin(h: &[i32], pos: &[f64], start: usize, v: Vec4) -> Carried
-    requires { EdgeFrom (asHalfedges h.now) pos.now start start }
-    ensures result_value { (C D : List Float) → gatheredOf C D result ≡ begin (asHalfedges h.now) pos.now start v }
+    requires { EdgeFrom (as_halfedges h.now) pos.now start start }
+    ensures result_value { (C D : List Float) → gathered_of C D result ≡ begin (as_halfedges h.now) pos.now start v }
     ensures count_value { result.count ≡ 0 }
 {
     let tangent = tangent_direction(v);
@@ -112,7 +112,7 @@ pub fn begin(h: &[i32], pos: &[f64], start: usize, v: Vec4) -> Carried
 
 // The angle from the first tangent, beyond half a turn where the approximate normal says so.
 fn angle_around(approx: Vec3, tangent: Vec3, first: Vec3) -> f64
-    ensures { result ≡ angleAround approx tangent first }
+    ensures { result ≡ angle_around approx tangent first }
 {
     let angle = smoothing::angle_of_cosine(linalg::dot(tangent, first));
     if linalg::dot(approx, linalg::cross(tangent, first)) < 0.0 {
@@ -123,7 +123,7 @@ fn angle_around(approx: Vec3, tangent: Vec3, first: Vec3) -> f64
 
 // The next current angle; `back` says that the walk has come back to its start.
 fn next_current(back: bool, approx: Vec3, tangent: Vec3, first: Vec3) -> f64
-    ensures { result ≡ nextCurrent back approx tangent first }
+    ensures { result ≡ next_current back approx tangent first }
 {
     if back {
         return K_TWO_PI;
@@ -134,14 +134,14 @@ fn next_current(back: bool, approx: Vec3, tangent: Vec3, first: Vec3) -> f64
 // The next desired angle, after k of them.
 fn next_desired(edge: Vec3, last_edge: Vec3, desired: &[f64], k: usize) -> f64
     requires { k ≤ length desired.now }
-    ensures { result ≡ nextDesired edge last_edge desired.now k }
+    ensures { result ≡ next_desired edge last_edge desired.now k }
 {
     smoothing::angle_of_cosine(linalg::dot(edge, last_edge)) + last_or(desired, k, 0.0)
 }
 
 // The sum of the cross products, with that of one tangent more.
 pub fn next_normal(normal: Vec3, tangent: Vec3, last: Vec3) -> Vec3
-    ensures { result ≡ nextNormal normal tangent last }
+    ensures { result ≡ next_normal normal tangent last }
 {
     linalg::add(normal, linalg::cross(tangent, last))
 }
@@ -156,7 +156,7 @@ pub fn gather_edge(
     g: Carried,
 ) -> Carried
     requires { GatherRoom current.old desired.old at g }
-    ensures result_after { (v : Vec4) → at.tangent ≡ tangentDirection v → gatheredOf current.new desired.new result ≡ gatherEdge approx at.edge back v (gatheredOf current.old desired.old g) }
+    ensures result_after { (v : Vec4) → at.tangent ≡ tangent_direction v → gathered_of current.new desired.new result ≡ gather_edge approx at.edge back v (gathered_of current.old desired.old g) }
     ensures count_value { result.count ≡ g.count + 1 }
 {
     let k = g.count;
@@ -176,7 +176,7 @@ pub fn gather_edge(
 
 // One angle, or a normal of length 0: nothing is turned.
 pub fn turns_none(count: usize, normal: Vec3) -> bool
-    ensures { result ≡ turnsNone count normal }
+    ensures { result ≡ turns_none count normal }
 {
     common::either(count == 1, linalg::dot(normal, normal) == 0.0)
 }
@@ -184,7 +184,7 @@ pub fn turns_none(count: usize, normal: Vec3) -> bool
 // One turn of the loop that sums the offset.
 fn add_offset(current: &[f64], desired: &[f64], scale: f64, sum: f64, i: usize) -> f64
     requires { (i < length current.now) × (i < length desired.now) }
-    ensures { result ≡ addOffset scale current.now desired.now sum i }
+    ensures { result ≡ add_offset scale current.now desired.now sum i }
 {
     sum + smoothing::wrap(current[i] - scale * desired[i])
 }
@@ -192,7 +192,7 @@ fn add_offset(current: &[f64], desired: &[f64], scale: f64, sum: f64, i: usize) 
 // The loop, over k angles.
 fn offset_sum(current: &[f64], desired: &[f64], scale: f64, k: usize) -> f64
     requires { (k ≤ length current.now) × (k ≤ length desired.now) }
-    ensures { result ≡ offsetSum scale current.now desired.now k }
+    ensures { result ≡ offset_sum scale current.now desired.now k }
 {
     let mut sum = 0.0;
     for i in 0..k {
@@ -204,7 +204,7 @@ fn offset_sum(current: &[f64], desired: &[f64], scale: f64, k: usize) -> f64
 // The scale, of k angles.
 fn scale_of(current: &[f64], desired: &[f64], k: usize) -> f64
     requires { (k ≤ length current.now) × (k ≤ length desired.now) }
-    ensures { result ≡ scaleOf current.now desired.now k }
+    ensures { result ≡ scale_of current.now desired.now k }
 {
     last_or(current, k, K_TWO_PI) / last_or(desired, k, K_TWO_PI)
 }
@@ -212,7 +212,7 @@ fn scale_of(current: &[f64], desired: &[f64], k: usize) -> f64
 // The offset, of k angles: 0 unless the first walk came back to its start.
 fn offset_of(back: bool, scale: f64, current: &[f64], desired: &[f64], k: usize) -> f64
     requires { (k ≤ length current.now) × (k ≤ length desired.now) × (k ≤ 2 ^ 53) }
-    ensures { result ≡ offsetOf back scale current.now desired.now k }
+    ensures { result ≡ offset_of back scale current.now desired.now k }
 {
     if !back {
         return 0.0;
@@ -223,7 +223,7 @@ fn offset_of(back: bool, scale: f64, current: &[f64], desired: &[f64], k: usize)
 // What the second walk from `start` goes by, where the first one ended at `last`.
 pub fn plan(current: &[f64], desired: &[f64], start: usize, last: usize, g: Carried) -> Turning
     requires { (g.count ≤ length current.now) × (g.count ≤ length desired.now) × (g.count ≤ 2 ^ 53) }
-    ensures result_value { planOf current.now desired.now result 0 ≡ plan start last (gatheredOf current.now desired.now g) }
+    ensures result_value { plan_of current.now desired.now result 0 ≡ plan start last (gathered_of current.now desired.now g) }
     ensures count_value { result.count ≡ g.count }
 {
     let k = g.count;
@@ -240,7 +240,7 @@ pub fn plan(current: &[f64], desired: &[f64], start: usize, last: usize, g: Carr
 
 // An angle clamped to half a turn from the one before it, or else from the one after it, if there are more.
 fn clamp_angle(angle: f64, last: f64, more: bool, following: f64) -> f64
-    ensures { result ≡ clampAngle angle last more following }
+    ensures { result ≡ clamp_angle angle last more following }
 {
     if angle - last > K_PI {
         return last + K_PI;
@@ -257,7 +257,7 @@ fn clamp_angle(angle: f64, last: f64, more: bool, following: f64) -> f64
 // The desired angle i of k, scaled and clamped.
 fn clamped_angle(scale: f64, desired: &[f64], k: usize, i: usize) -> f64
     requires { (i < k) × (k ≤ length desired.now) }
-    ensures { result ≡ clampedAngle scale desired.now k i }
+    ensures { result ≡ clamped_angle scale desired.now k i }
 {
     let angle = desired[i] * scale;
     let last = last_or(desired, i, 0.0);
@@ -269,7 +269,7 @@ fn clamped_angle(scale: f64, desired: &[f64], k: usize, i: usize) -> f64
 
 // A tangent turned about an axis, its weight kept.
 fn turned_tangent(axis: Vec3, angle: f64, v: Vec4) -> Vec4
-    ensures { result ≡ turnedTangent axis angle v }
+    ensures { result ≡ turned_tangent axis angle v }
 {
     let q = linalg::rotation_quat_axis_angle(axis, angle);
     let rotated = linalg::qrot(q, smoothing::vec3_from_vec4(v));
@@ -284,8 +284,8 @@ fn turned_tangent(axis: Vec3, angle: f64, v: Vec4) -> Vec4
 // Halfedge e is turned by the angle i; its desired angle stays behind clamped, for the next one reads it.
 pub fn turn_at(t: &mut [f64], current: &[f64], desired: &mut [f64], p: Turning, i: usize, e: usize)
     requires { TurnRoom t.old current.now desired.old p i e }
-    ensures t_after { t.new ≡ putTangent t.old e (turn (planOf current.now desired.old p i) (tangentAt t.old e)) }
-    ensures i_after { planOf current.now desired.new p (i + 1) ≡ next (planOf current.now desired.old p i) }
+    ensures t_after { t.new ≡ put_tangent t.old e (turn (plan_of current.now desired.old p i) (tangent_at t.old e)) }
+    ensures i_after { plan_of current.now desired.new p (i + 1) ≡ next (plan_of current.now desired.old p i) }
 {
     let wanted = clamped_angle(p.scale, desired, p.count, i);
     desired[i] = wanted;

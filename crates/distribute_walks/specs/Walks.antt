@@ -1,12 +1,12 @@
 -- What the walks of the code ask and ensure: the lists of an accepted call, the code's state, and one step of each walk. H are the halfedges, P the positions, N the point normals, X the flags, T the tangents, C and D the scratch lists, n and p the counts of halfedges and points.
 use Rattle.std.specs.Prelude.{ℕ, suc, ◌+◌, ◌*◌, ◌^◌, ◌≤◌, ◌<◌, ◌≡◌, List, true, false, length, Float}
-use Rattle.mesh.specs.Mesh.{halfedgeStride, Halfedges}
+use Rattle.mesh.specs.Mesh.{halfedge_stride, Halfedges}
 use Rattle.mesh.specs.Sound.{Sound}
-use Rattle.smoothing.specs.Lists.{tangentAt}
+use Rattle.smoothing.specs.Lists.{tangent_at}
 use Rattle.distribute_spread.specs.Steps.{Steps}
-use Rattle.distribute_spread.specs.Spread.{Found, State, firstWalk}
-use Rattle.distribute_steps.specs.FloatSteps.{isMark, isStart, begin, floatSteps}
-use Rattle.distribute_steps.specs.Scratch.{gatheredOf, directionsAt, EdgeFrom}
+use Rattle.distribute_spread.specs.Spread.{Found, State, first_walk}
+use Rattle.distribute_steps.specs.FloatSteps.{is_mark, is_start, begin, float_steps}
+use Rattle.distribute_steps.specs.Scratch.{gathered_of, directions_at, EdgeFrom}
 use Rattle.distribute_steps.specs.declared.Carried.{Carried}
 use Rattle.distribute_steps.specs.declared.Directions.{Directions}
 use Rattle.distribute_steps.specs.declared.Turning.{Turning}
@@ -17,7 +17,7 @@ use Rattle.distribute_walks.specs.declared.Ended.{Ended}
 
 pub record Lists (H : Halfedges) (P N : List Float) (X : List ℕ) (T C D : List Float) (n p : ℕ) : Type 0 where
   pub sound : Sound H n p
-  pub whole : H.numbers ≡ n * halfedgeStride
+  pub whole : H.numbers ≡ n * halfedge_stride
   pub positions : length P ≡ p * 3
   pub normals : length N ≡ p * 3
   pub flags : length X ≡ n
@@ -27,66 +27,66 @@ pub record Lists (H : Halfedges) (P N : List Float) (X : List ℕ) (T C D : List
 
 -- both counts may grow by one for each halfedge
 pub record Room (n : ℕ) (k : Counts) : Type 0 where
-  pub looked-fits : k.looked + n < 2 ^ 64
-  pub turned-fits : k.turned + n < 2 ^ 64
+  pub looked_fits : k.looked + n < 2 ^ 64
+  pub turned_fits : k.turned + n < 2 ^ 64
 
 -- ---- the code's state
 
 -- with the halfedges turned so far, which the code does not keep
-abbrev pub stateOf : (S : Steps) → S.Tangents → Counts → List ℕ → State S
-stateOf S ts k places = record { tangents = ts; looked = k.looked; turned = k.turned; places = places }
+abbrev pub state_of : (S : Steps) → S.Tangents → Counts → List ℕ → State S
+state_of S ts k places = record { tangents = ts; looked = k.looked; turned = k.turned; places = places }
 
 -- so many turned more
-abbrev pub moreTurned : Counts → ℕ → Counts
-moreTurned k i = record { looked = k.looked; turned = k.turned + i }
+abbrev pub more_turned : Counts → ℕ → Counts
+more_turned k i = record { looked = k.looked; turned = k.turned + i }
 
 -- a part of spreading takes the tangents ts and the counts k to these, whatever was turned before
 abbrev pub Gives : (S : Steps) → (State S → State S) → S.Tangents → Counts → S.Tangents → Counts → Type 0
-Gives S part ts k ts' k' = (places : List ℕ) → (after : List ℕ) × (part (stateOf S ts k places) ≡ stateOf S ts' k' after)
+Gives S part ts k ts' k' = (places : List ℕ) → (after : List ℕ) × (part (state_of S ts k places) ≡ state_of S ts' k' after)
 
 -- ---- the first walk
 
 -- what it found, with the angles in the scratch lists
-abbrev pub foundOf : (H : Halfedges) (P N : List Float) (X : List ℕ) (n : ℕ) → List Float → List Float → Ended → Found (floatSteps H P N X n)
-foundOf H P N X n C D r = record { last = r.last; looked = r.looked; gathered = gatheredOf C D r.carried }
+abbrev pub found_of : (H : Halfedges) (P N : List Float) (X : List ℕ) (n : ℕ) → List Float → List Float → Ended → Found (float_steps H P N X n)
+found_of H P N X n C D r = record { last = r.last; looked = r.looked; gathered = gathered_of C D r.carried }
 
 -- what it comes to, from a start and with so many steps looked at before
-abbrev pub firstFrom : (H : Halfedges) (P N : List Float) (X : List ℕ) (n : ℕ) → List Float → ℕ → ℕ → Found (floatSteps H P N X n)
-firstFrom H P N X n T start looked = firstWalk (floatSteps H P N X n) (suc n) T start start looked (begin H P start (tangentAt T start))
+abbrev pub first_from : (H : Halfedges) (P N : List Float) (X : List ℕ) (n : ℕ) → List Float → ℕ → ℕ → Found (float_steps H P N X n)
+first_from H P N X n T start looked = first_walk (float_steps H P N X n) (suc n) T start start looked (begin H P start (tangent_at T start))
 
 -- halfedge e has a tangent and an edge, and `first` are the directions at the start
 pub record CanLook (H : Halfedges) (P T : List Float) (start e : ℕ) (first : Directions) : Type 0 where
-  pub tangent-in : e * 4 + 4 ≤ length T
+  pub tangent_in : e * 4 + 4 ≤ length T
   pub edge : EdgeFrom H P start e
-  pub first-is : first ≡ directionsAt H P T start start
+  pub first_is : first ≡ directions_at H P T start start
 
 -- a step onto halfedge e: there is a place for its angles
 pub record CanGather (H : Halfedges) (P T C D : List Float) (start e : ℕ) (first : Directions) (g : Carried) : Type 0 where
   pub look : CanLook H P T start e first
-  pub current-in : g.count < length C
-  pub desired-in : g.count < length D
+  pub current_in : g.count < length C
+  pub desired_in : g.count < length D
 
 -- ---- the second walk
 
 -- a step onto halfedge e: it has a tangent, and where it is unmarked there is an angle i
 pub record CanTurn (T C D : List Float) (by : Turning) (i e : ℕ) : Type 0 where
-  pub tangent-in : e * 4 + 4 ≤ length T
-  pub current-in : by.count ≤ length C
-  pub desired-in : by.count ≤ length D
-  pub angle-in : i ≤ by.count
-  pub angle-below : isMark (tangentAt T e).w ≡ false → i < by.count
+  pub tangent_in : e * 4 + 4 ≤ length T
+  pub current_in : by.count ≤ length C
+  pub desired_in : by.count ≤ length D
+  pub angle_in : i ≤ by.count
+  pub angle_below : is_mark (tangent_at T e).w ≡ false → i < by.count
 
 -- what the walk from `start` is lent: as many angles as the first walk gathers
 pub record SecondInput (H : Halfedges) (X : List ℕ) (T C D : List Float) (n p start : ℕ) (by : Turning) : Type 0 where
   pub sound : Sound H n p
-  pub whole : H.numbers ≡ n * halfedgeStride
+  pub whole : H.numbers ≡ n * halfedge_stride
   pub flags : length X ≡ n
   pub tangents : length T ≡ n * 4
-  pub current-in : by.count ≤ length C
-  pub desired-in : by.count ≤ length D
-  pub start-below : start < n
-  pub start-is : isStart X T start ≡ true
+  pub current_in : by.count ≤ length C
+  pub desired_in : by.count ≤ length D
+  pub start_below : start < n
+  pub start_is : is_start X T start ≡ true
   pub positions : List Float
   pub normals : List Float
   pub looked : ℕ
-  pub angles : by.count ≡ length (firstFrom H positions normals X n T start looked).gathered.desiredAngle
+  pub angles : by.count ≡ length (first_from H positions normals X n T start looked).gathered.desired_angle

@@ -3,12 +3,12 @@
 #![tactic(auto)]
 
 ghost use Rattle.std.specs.Prelude.{◌≡◌, true, not, cond, ◌&&◌, List, suc, ◌+◌, ◌≤◌, ◌<◌, length, eqb, Float};
-ghost use Rattle.mesh.specs.Mesh.{asHalfedges};
-ghost use Rattle.smoothing.specs.Lists.{tangentAt, putTangent};
-ghost use Rattle.distribute_spread.specs.Spread.{secondWalk, spreadAt};
-ghost use Rattle.distribute_steps.specs.FloatSteps.{isMark, isFixed, isStart, edgeDirection, gatherEdge, turn, next, floatSteps};
-ghost use Rattle.distribute_steps.specs.Scratch.{gatheredOf, directionsAt, planOf};
-ghost use Rattle.distribute_walks.specs.Walks.{Lists, Room, Gives, moreTurned, foundOf, firstFrom, CanLook, CanGather, CanTurn, SecondInput};
+ghost use Rattle.mesh.specs.Mesh.{as_halfedges};
+ghost use Rattle.smoothing.specs.Lists.{tangent_at, put_tangent};
+ghost use Rattle.distribute_spread.specs.Spread.{second_walk, spread_at};
+ghost use Rattle.distribute_steps.specs.FloatSteps.{is_mark, is_fixed, is_start, edge_direction, gather_edge, turn, next, float_steps};
+ghost use Rattle.distribute_steps.specs.Scratch.{gathered_of, directions_at, plan_of};
+ghost use Rattle.distribute_walks.specs.Walks.{Lists, Room, Gives, more_turned, found_of, first_from, CanLook, CanGather, CanTurn, SecondInput};
 ghost use Rattle.distribute_walks.specs.declared.Counts.{Counts};
 
 use distribute_steps::{Carried, Directions, Turning};
@@ -38,8 +38,8 @@ fn directions_at(
     e: usize,
     first: Directions,
 ) -> Directions
-    requires { CanLook (asHalfedges h.now) pos.now t.now start e first }
-    ensures { result ≡ directionsAt (asHalfedges h.now) pos.now t.now start e }
+    requires { CanLook (as_halfedges h.now) pos.now t.now start e first }
+    ensures { result ≡ directions_at (as_halfedges h.now) pos.now t.now start e }
 {
     if e == start {
         return first;
@@ -62,9 +62,9 @@ fn gather_at(
     first: Directions,
     g: Carried,
 ) -> Carried
-    requires { CanGather (asHalfedges h.now) pos.now t.now current.old desired.old start e first g }
-    ensures result_after { gatheredOf current.new desired.new result ≡ cond (isMark (tangentAt t.now e).w) (gatheredOf current.old desired.old g) (gatherEdge approx (edgeDirection (asHalfedges h.now) pos.now start e) (eqb e start) (tangentAt t.now e) (gatheredOf current.old desired.old g)) }
-    ensures count_value { result.count ≡ cond (isMark (tangentAt t.now e).w) g.count (g.count + 1) }
+    requires { CanGather (as_halfedges h.now) pos.now t.now current.old desired.old start e first g }
+    ensures result_after { gathered_of current.new desired.new result ≡ cond (is_mark (tangent_at t.now e).w) (gathered_of current.old desired.old g) (gather_edge approx (edge_direction (as_halfedges h.now) pos.now start e) (eqb e start) (tangent_at t.now e) (gathered_of current.old desired.old g)) }
+    ensures count_value { result.count ≡ cond (is_mark (tangent_at t.now e).w) g.count (g.count + 1) }
 {
     if distribute_steps::is_marked(t, e) {
         return g;
@@ -88,9 +88,9 @@ fn first_walk(
     start: usize,
     counts: Counts,
 ) -> Ended
-    requires lists { Lists (asHalfedges h.now) pos.now normals.now fixed.now t.now current.old desired.old n p }
-    requires start_lt_n { (start < n) × (isStart fixed.now t.now start ≡ true) × Room n counts }
-    ensures result_after { foundOf (asHalfedges h.now) pos.now normals.now fixed.now n current.new desired.new result ≡ firstFrom (asHalfedges h.now) pos.now normals.now fixed.now n t.now start counts.looked }
+    requires lists { Lists (as_halfedges h.now) pos.now normals.now fixed.now t.now current.old desired.old n p }
+    requires start_lt_n { (start < n) × (is_start fixed.now t.now start ≡ true) × Room n counts }
+    ensures result_after { found_of (as_halfedges h.now) pos.now normals.now fixed.now n current.new desired.new result ≡ first_from (as_halfedges h.now) pos.now normals.now fixed.now n t.now start counts.looked }
     ensures looked_bound { (result.looked ≤ counts.looked + n) × (result.carried.count ≤ n) }
 {
     let approx = smoothing::point_at(normals, mesh::start_vert(h, start));
@@ -126,9 +126,9 @@ fn turn_unmarked(
     e: usize,
 ) -> usize
     requires { CanTurn t.old current.now desired.old by i e }
-    ensures t_after { t.new ≡ cond (isMark (tangentAt t.old e).w) t.old (putTangent t.old e (turn (planOf current.now desired.old by i) (tangentAt t.old e))) }
-    ensures result_after { planOf current.now desired.new by result ≡ cond (isMark (tangentAt t.old e).w) (planOf current.now desired.old by i) (next (planOf current.now desired.old by i)) }
-    ensures value { result ≡ cond (isMark (tangentAt t.old e).w) i (i + 1) }
+    ensures t_after { t.new ≡ cond (is_mark (tangent_at t.old e).w) t.old (put_tangent t.old e (turn (plan_of current.now desired.old by i) (tangent_at t.old e))) }
+    ensures result_after { plan_of current.now desired.new by result ≡ cond (is_mark (tangent_at t.old e).w) (plan_of current.now desired.old by i) (next (plan_of current.now desired.old by i)) }
+    ensures value { result ≡ cond (is_mark (tangent_at t.old e).w) i (i + 1) }
 {
     if distribute_steps::is_marked(t, e) {
         return i;
@@ -140,7 +140,7 @@ fn turn_unmarked(
 // Does the second walk from `start` leave at e, a fixed halfedge other than the start?
 pub fn leaves(fixed: &[u8], start: usize, e: usize) -> bool
     requires { e < length fixed.now }
-    ensures { result ≡ (not (eqb e start) && isFixed fixed.now e) }
+    ensures { result ≡ (not (eqb e start) && is_fixed fixed.now e) }
 {
     common::both(e != start, fixed[e] == 1)
 }
@@ -157,8 +157,8 @@ fn second_walk(
     start: usize,
     by: Turning,
 ) -> usize
-    requires { SecondInput (asHalfedges h.now) fixed.now t.old current.now desired.old n p start by }
-    ensures { ((P N : List Float) (k : Counts) → Gives (floatSteps (asHalfedges h.now) P N fixed.now n) (secondWalk (floatSteps (asHalfedges h.now) P N fixed.now n) (suc n) start start (planOf current.now desired.old by 0)) t.old k t.new (moreTurned k result)) × (result ≤ by.count) }
+    requires { SecondInput (as_halfedges h.now) fixed.now t.old current.now desired.old n p start by }
+    ensures { ((P N : List Float) (k : Counts) → Gives (float_steps (as_halfedges h.now) P N fixed.now n) (second_walk (float_steps (as_halfedges h.now) P N fixed.now n) (suc n) start start (plan_of current.now desired.old by 0)) t.old k t.new (more_turned k result)) × (result ≤ by.count) }
 {
     let mut here = start;
     let mut i: usize = 0;
@@ -190,9 +190,9 @@ pub fn spread_at(
     start: usize,
     counts: Counts,
 ) -> Counts
-    requires lists { Lists (asHalfedges h.now) pos.now normals.now fixed.now t.old current.old desired.old n p }
+    requires lists { Lists (as_halfedges h.now) pos.now normals.now fixed.now t.old current.old desired.old n p }
     requires start_lt_n { (start < n) × Room n counts }
-    ensures gives { Gives (floatSteps (asHalfedges h.now) pos.now normals.now fixed.now n) (spreadAt (floatSteps (asHalfedges h.now) pos.now normals.now fixed.now n) start) t.old counts t.new result }
+    ensures gives { Gives (float_steps (as_halfedges h.now) pos.now normals.now fixed.now n) (spread_at (float_steps (as_halfedges h.now) pos.now normals.now fixed.now n) start) t.old counts t.new result }
     ensures looked_bound { (result.looked ≤ counts.looked + n) × (result.turned ≤ counts.turned + n) }
 {
     if !distribute_steps::is_start(fixed, t, start) {

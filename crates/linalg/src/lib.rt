@@ -3,7 +3,7 @@
 #![tactic(auto)]
 
 ghost use Rattle.std.specs.Prelude.{◌≡◌};
-ghost use Rattle.linalg.specs.Vec.{add3, sub3, neg3, scale3, div3, dotOf, crossOf, qxdirOf, qydirOf, qzdirOf, qrotOf, length2Of, lengthOf, normalizeOf, rotationQuatAxisAngle};
+ghost use Rattle.linalg.specs.Vec.{add3, sub3, neg3, scale3, div3, dot_of, cross_of, qxdir_of, qydir_of, qzdir_of, qrot_of, length2_of, length_of, normalize_of, rotation_quat_axis_angle};
 
 #[derive(Clone, Copy)]
 pub struct Vec3 {
@@ -80,13 +80,13 @@ pub fn divide(a: Vec3, s: f64) -> Vec3
 }
 
 pub fn dot(a: Vec3, b: Vec3) -> f64
-    ensures { result ≡ dotOf a b }
+    ensures { result ≡ dot_of a b }
 {
     a.x * b.x + a.y * b.y + a.z * b.z
 }
 
 pub fn cross(a: Vec3, b: Vec3) -> Vec3
-    ensures { result ≡ crossOf a b }
+    ensures { result ≡ cross_of a b }
 {
     Vec3 {
         x: a.y * b.z - a.z * b.y,
@@ -96,7 +96,7 @@ pub fn cross(a: Vec3, b: Vec3) -> Vec3
 }
 
 pub fn qxdir(q: Quat) -> Vec3
-    ensures { result ≡ qxdirOf q }
+    ensures { result ≡ qxdir_of q }
 {
     Vec3 {
         x: q.w * q.w + q.x * q.x - q.y * q.y - q.z * q.z,
@@ -106,7 +106,7 @@ pub fn qxdir(q: Quat) -> Vec3
 }
 
 pub fn qydir(q: Quat) -> Vec3
-    ensures { result ≡ qydirOf q }
+    ensures { result ≡ qydir_of q }
 {
     Vec3 {
         x: (q.x * q.y - q.z * q.w) * 2.0,
@@ -116,7 +116,7 @@ pub fn qydir(q: Quat) -> Vec3
 }
 
 pub fn qzdir(q: Quat) -> Vec3
-    ensures { result ≡ qzdirOf q }
+    ensures { result ≡ qzdir_of q }
 {
     Vec3 {
         x: (q.z * q.x + q.y * q.w) * 2.0,
@@ -126,7 +126,7 @@ pub fn qzdir(q: Quat) -> Vec3
 }
 
 pub fn qrot(q: Quat, v: Vec3) -> Vec3
-    ensures { result ≡ qrotOf q v }
+    ensures { result ≡ qrot_of q v }
 {
     add(
         add(scale(qxdir(q), v.x), scale(qydir(q), v.y)),
@@ -135,26 +135,26 @@ pub fn qrot(q: Quat, v: Vec3) -> Vec3
 }
 
 pub fn length2(a: Vec3) -> f64
-    ensures { result ≡ length2Of a }
+    ensures { result ≡ length2_of a }
 {
     dot(a, a)
 }
 
 pub fn length(a: Vec3) -> f64
-    ensures { result ≡ lengthOf a }
+    ensures { result ≡ length_of a }
 {
     sqrt::sqrt(length2(a))
 }
 
 pub fn normalize(a: Vec3) -> Vec3
-    ensures { result ≡ normalizeOf a }
+    ensures { result ≡ normalize_of a }
 {
     divide(a, length(a))
 }
 
 // A rotation by an angle about an axis.
 pub fn rotation_quat_axis_angle(axis: Vec3, angle: f64) -> Quat
-    ensures { result ≡ rotationQuatAxisAngle axis angle }
+    ensures { result ≡ rotation_quat_axis_angle axis angle }
 {
     let s = math::sin(angle / 2.0);
     let c = math::cos(angle / 2.0);

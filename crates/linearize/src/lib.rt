@@ -3,21 +3,21 @@
 #![tactic(auto)]
 
 ghost use Rattle.std.specs.Prelude.{◌≡◌, ◌+◌, ◌*◌, ◌≤◌, length};
-ghost use Rattle.mesh.specs.Mesh.{asHalfedges};
+ghost use Rattle.mesh.specs.Mesh.{as_halfedges};
 ghost use Rattle.mesh.specs.Check.{Values};
-ghost use Rattle.linearize.specs.Linearize.{isFlat, withUnitWeight, linearized, linearizeEnd, linearizeEdge, linearizeAt, linearizeFlatTangents, lengthsFit, linearizeAnswer, tangentsAfter, HalfedgeIn, Lists};
+ghost use Rattle.linearize.specs.Linearize.{is_flat, with_unit_weight, linearized, linearize_end, linearize_edge, linearize_at, linearize_flat_tangents, lengths_fit, linearize_answer, tangents_after, HalfedgeIn, Lists};
 
 use linalg::{Vec3, Vec4};
 use mesh::Checked;
 
 fn is_flat(tangent: Vec4) -> bool
-    ensures { result ≡ isFlat tangent }
+    ensures { result ≡ is_flat tangent }
 {
     tangent.w == 0.0
 }
 
 fn with_unit_weight(v: Vec3) -> Vec4
-    ensures { result ≡ withUnitWeight v }
+    ensures { result ≡ with_unit_weight v }
 {
     Vec4 {
         x: v.x,
@@ -41,7 +41,7 @@ fn linearized(edge: Vec3, other: Vec4) -> Vec4
 // The end at halfedge e, whose tangent is `tangent`.
 fn linearize_end(t: &mut [f64], e: usize, edge: Vec3, tangent: Vec4, other: Vec4)
     requires { e * 4 + 4 ≤ length t.old }
-    ensures { t.new ≡ linearizeEnd t.old e edge tangent other }
+    ensures { t.new ≡ linearize_end t.old e edge tangent other }
 {
     if !is_flat(tangent) {
         return;
@@ -52,7 +52,7 @@ fn linearize_end(t: &mut [f64], e: usize, edge: Vec3, tangent: Vec4, other: Vec4
 // Both ends of an edge, from the tangents as they were read before. Where both are flat, the third of the edge is worked out once.
 fn linearize_edge(t: &mut [f64], e: usize, pair: usize, edge: Vec3, tangent: Vec4, other: Vec4)
     requires { (e * 4 + 4 ≤ length t.old) × (pair * 4 + 4 ≤ length t.old) }
-    ensures { t.new ≡ linearizeEdge t.old e pair edge tangent other }
+    ensures { t.new ≡ linearize_edge t.old e pair edge tangent other }
 {
     if common::both(is_flat(tangent), is_flat(other)) {
         let third = linalg::divide(edge, 3.0);
@@ -66,8 +66,8 @@ fn linearize_edge(t: &mut [f64], e: usize, pair: usize, edge: Vec3, tangent: Vec
 
 // The body of the loop at halfedge e. The edge is worked out only where an end is flat.
 fn linearize_at(h: &[i32], pos: &[f64], t: &mut [f64], e: usize)
-    requires { HalfedgeIn (asHalfedges h.now) pos.now t.old e }
-    ensures { t.new ≡ linearizeAt (asHalfedges h.now) pos.now t.old e }
+    requires { HalfedgeIn (as_halfedges h.now) pos.now t.old e }
+    ensures { t.new ≡ linearize_at (as_halfedges h.now) pos.now t.old e }
 {
     if !mesh::is_forward(h, e) {
         return;
@@ -89,8 +89,8 @@ fn linearize_at(h: &[i32], pos: &[f64], t: &mut [f64], e: usize)
 
 // Every halfedge of lists that are known to be right.
 pub fn linearize_all(n: usize, p: usize, h: &[i32], pos: &[f64], t: &mut [f64])
-    requires { Lists (asHalfedges h.now) pos.now t.old n p }
-    ensures { t.new ≡ linearizeFlatTangents (asHalfedges h.now) pos.now t.old n }
+    requires { Lists (as_halfedges h.now) pos.now t.old n p }
+    ensures { t.new ≡ linearize_flat_tangents (as_halfedges h.now) pos.now t.old n }
 {
     for e in 0..n {
         linearize_at(h, pos, t, e);
@@ -98,7 +98,7 @@ pub fn linearize_all(n: usize, p: usize, h: &[i32], pos: &[f64], t: &mut [f64])
 }
 
 fn lengths_fit(n: usize, p: usize, h: &[i32], pos: &[f64], t: &[f64]) -> bool
-    ensures { result ≡ lengthsFit (asHalfedges h.now) pos.now t.now n p }
+    ensures { result ≡ lengths_fit (as_halfedges h.now) pos.now t.now n p }
 {
     common::both(
         common::both(
@@ -111,9 +111,9 @@ fn lengths_fit(n: usize, p: usize, h: &[i32], pos: &[f64], t: &[f64]) -> bool
 
 // The public call, for lists of any length and content.
 pub fn linearize_flat_tangents(n: usize, p: usize, h: &[i32], pos: &[f64], t: &mut [f64]) -> Checked
-    ensures answer { result ≡ linearizeAnswer (asHalfedges h.now) pos.now t.old n p }
-    ensures tangents { t.new ≡ tangentsAfter (asHalfedges h.now) pos.now t.old n p }
-    ensures values { Values (linearizeAnswer (asHalfedges h.now) pos.now t.old n p) result }
+    ensures answer { result ≡ linearize_answer (as_halfedges h.now) pos.now t.old n p }
+    ensures tangents { t.new ≡ tangents_after (as_halfedges h.now) pos.now t.old n p }
+    ensures values { Values (linearize_answer (as_halfedges h.now) pos.now t.old n p) result }
 {
     let checked = mesh::check_mesh(h, n, p, lengths_fit(n, p, h, pos, t));
     let Checked::Accepted = checked else {

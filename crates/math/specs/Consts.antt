@@ -51,16 +51,16 @@ abbrev pub c6 : Float
 c6 = lit 0xbda8_fae9_be88_38d4
 
 -- 1.57079632673412561417e+00
-abbrev pub pio2-1 : Float
-pio2-1 = lit 0x3ff9_21fb_5440_0000
+abbrev pub pio2_1 : Float
+pio2_1 = lit 0x3ff9_21fb_5440_0000
 
 -- 6.07710050650619224932e-11
-abbrev pub pio2-1t : Float
-pio2-1t = lit 0x3dd0_b461_1a62_6331
+abbrev pub pio2_1t : Float
+pio2_1t = lit 0x3dd0_b461_1a62_6331
 
 -- 1.57079632679489661923132169163975144
-abbrev pub half-pi : Float
-half-pi = lit 0x3ff9_21fb_5444_2d18
+abbrev pub half_pi : Float
+half_pi = lit 0x3ff9_21fb_5444_2d18
 
 -- 1.5 / f64::EPSILON
 abbrev pub toint : Float
@@ -75,28 +75,28 @@ abbrev pub invpio2 : Float
 invpio2 = lit 0x3fe4_5f30_6dc9_c883
 
 -- 6.07710050630396597660e-11
-abbrev pub pio2-2 : Float
-pio2-2 = lit 0x3dd0_b461_1a60_0000
+abbrev pub pio2_2 : Float
+pio2_2 = lit 0x3dd0_b461_1a60_0000
 
 -- 2.02226624879595063154e-21
-abbrev pub pio2-2t : Float
-pio2-2t = lit 0x3ba3_198a_2e03_7073
+abbrev pub pio2_2t : Float
+pio2_2t = lit 0x3ba3_198a_2e03_7073
 
 -- 2.02226624871116645580e-21
-abbrev pub pio2-3 : Float
-pio2-3 = lit 0x3ba3_198a_2e00_0000
+abbrev pub pio2_3 : Float
+pio2_3 = lit 0x3ba3_198a_2e00_0000
 
 -- 8.47842766036889956997e-32
-abbrev pub pio2-3t : Float
-pio2-3t = lit 0x397b_839a_2520_49c1
+abbrev pub pio2_3t : Float
+pio2_3t = lit 0x397b_839a_2520_49c1
 
 -- 1.57079632679489655800e+00
-abbrev pub pio2-hi : Float
-pio2-hi = lit 0x3ff9_21fb_5444_2d18
+abbrev pub pio2_hi : Float
+pio2_hi = lit 0x3ff9_21fb_5444_2d18
 
 -- 6.12323399573676603587e-17
-abbrev pub pio2-lo : Float
-pio2-lo = lit 0x3c91_a626_3314_5c07
+abbrev pub pio2_lo : Float
+pio2_lo = lit 0x3c91_a626_3314_5c07
 
 -- 1.66666666666666657415e-01
 abbrev pub ps0 : Float

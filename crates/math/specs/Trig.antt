@@ -3,42 +3,42 @@ use Rattle.std.specs.Prelude.{ℕ, ◌-◌, ◌%◌, cond, leb, ltb, eqb, ℤ, p
 use Rattle.std.specs.Float.Ieee.{neg}
 use Rattle.float.specs.Ops.{◌⊖◌, zero, one}
 use Rattle.math.specs.declared.RemPio2.{RemPio2}
-use Rattle.math.specs.Kernels.{absHighWord, sinKernel, cosKernel}
-use Rattle.math.specs.Rem.{remPio2}
+use Rattle.math.specs.Kernels.{abs_high_word, sin_kernel, cos_kernel}
+use Rattle.math.specs.Rem.{rem_pio2}
 
 -- `n & 3`: n modulo 4, from 0 to 3
-unfoldable pub quadrantOf : ℤ → ℕ
-quadrantOf (pos k) = k % 4
-quadrantOf (negsuc k) = 3 - k % 4
+unfoldable pub quadrant_of : ℤ → ℕ
+quadrant_of (pos k) = k % 4
+quadrant_of (negsuc k) = 3 - k % 4
 
 -- the `match n & 3` of `sin`
-unfoldable pub sinReduced : RemPio2 → Float
-sinReduced t =
-    let q = quadrantOf t.n in
-    cond (eqb q 0) (sinKernel t.y0 t.y1 1)
-    (cond (eqb q 1) (cosKernel t.y0 t.y1)
-    (cond (eqb q 2) (neg (sinKernel t.y0 t.y1 1))
-    (neg (cosKernel t.y0 t.y1))))
+unfoldable pub sin_reduced : RemPio2 → Float
+sin_reduced t =
+    let q = quadrant_of t.n in
+    cond (eqb q 0) (sin_kernel t.y0 t.y1 1)
+    (cond (eqb q 1) (cos_kernel t.y0 t.y1)
+    (cond (eqb q 2) (neg (sin_kernel t.y0 t.y1 1))
+    (neg (cos_kernel t.y0 t.y1))))
 
 -- the `match n & 3` of `cos`
-unfoldable pub cosReduced : RemPio2 → Float
-cosReduced t =
-    let q = quadrantOf t.n in
-    cond (eqb q 0) (cosKernel t.y0 t.y1)
-    (cond (eqb q 1) (neg (sinKernel t.y0 t.y1 1))
-    (cond (eqb q 2) (neg (cosKernel t.y0 t.y1))
-    (sinKernel t.y0 t.y1 1)))
+unfoldable pub cos_reduced : RemPio2 → Float
+cos_reduced t =
+    let q = quadrant_of t.n in
+    cond (eqb q 0) (cos_kernel t.y0 t.y1)
+    (cond (eqb q 1) (neg (sin_kernel t.y0 t.y1 1))
+    (cond (eqb q 2) (neg (cos_kernel t.y0 t.y1))
+    (sin_kernel t.y0 t.y1 1)))
 
 -- `sin`
-unfoldable pub sinOf : Float → Float
-sinOf x =
-    let ix = absHighWord x in
-    cond (leb ix 0x3fe9_21fb) (cond (ltb ix 0x3e50_0000) x (sinKernel x zero 0))
-    (cond (leb 0x7ff0_0000 ix) (x ⊖ x) (sinReduced (remPio2 x)))
+unfoldable pub sin_of : Float → Float
+sin_of x =
+    let ix = abs_high_word x in
+    cond (leb ix 0x3fe9_21fb) (cond (ltb ix 0x3e50_0000) x (sin_kernel x zero 0))
+    (cond (leb 0x7ff0_0000 ix) (x ⊖ x) (sin_reduced (rem_pio2 x)))
 
 -- `cos`
-unfoldable pub cosOf : Float → Float
-cosOf x =
-    let ix = absHighWord x in
-    cond (leb ix 0x3fe9_21fb) (cond (ltb ix 0x3e46_a09e) one (cosKernel x zero))
-    (cond (leb 0x7ff0_0000 ix) (x ⊖ x) (cosReduced (remPio2 x)))
+unfoldable pub cos_of : Float → Float
+cos_of x =
+    let ix = abs_high_word x in
+    cond (leb ix 0x3fe9_21fb) (cond (ltb ix 0x3e46_a09e) one (cos_kernel x zero))
+    (cond (leb 0x7ff0_0000 ix) (x ⊖ x) (cos_reduced (rem_pio2 x)))

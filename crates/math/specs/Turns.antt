@@ -2,32 +2,32 @@
 use Rattle.std.specs.Prelude.{ℕ, ◌+◌, ◌%◌, cond, leb, ltb, eqb, ℤ, pos, neg_ℤ, Float}
 use Rattle.std.specs.Float.Ieee.{neg}
 use Rattle.math.specs.declared.RemPio2.{RemPio2}
-use Rattle.math.specs.Kernels.{signBit, sinKernel, cosKernel}
-use Rattle.math.specs.Trig.{quadrantOf}
+use Rattle.math.specs.Kernels.{sign_bit, sin_kernel, cos_kernel}
+use Rattle.math.specs.Trig.{quadrant_of}
 
 -- The number of quarter turns, 0 where the medium range's way is taken: `ix` at most 0x400f_6a7a
-unfoldable pub nearTurns : ℕ → ℕ
-nearTurns ix = cond (eqb (ix % 0x10_0000) 0x9_21fb) 0 (cond (leb ix 0x4002_d97c) 1 2)
+unfoldable pub near_turns : ℕ → ℕ
+near_turns ix = cond (eqb (ix % 0x10_0000) 0x9_21fb) 0 (cond (leb ix 0x4002_d97c) 1 2)
 
 -- `ix` at most 0x401c_463b
-unfoldable pub farTurns : ℕ → ℕ
-farTurns ix = cond (leb ix 0x4015_fdbc) (cond (eqb ix 0x4012_d97c) 0 3) (cond (eqb ix 0x4019_21fb) 0 4)
+unfoldable pub far_turns : ℕ → ℕ
+far_turns ix = cond (leb ix 0x4015_fdbc) (cond (eqb ix 0x4012_d97c) 0 3) (cond (eqb ix 0x4019_21fb) 0 4)
 
 -- any `ix`
-unfoldable pub quarterTurns : ℕ → ℕ
-quarterTurns ix = cond (leb ix 0x400f_6a7a) (nearTurns ix) (cond (leb ix 0x401c_463b) (farTurns ix) 0)
+unfoldable pub quarter_turns : ℕ → ℕ
+quarter_turns ix = cond (leb ix 0x400f_6a7a) (near_turns ix) (cond (leb ix 0x401c_463b) (far_turns ix) 0)
 
 -- k, or -k where x is negative
-unfoldable pub signedTurns : ℕ → Float → ℤ
-signedTurns k x = cond (signBit x) (neg_ℤ (pos k)) (pos k)
+unfoldable pub signed_turns : ℕ → Float → ℤ
+signed_turns k x = cond (sign_bit x) (neg_ℤ (pos k)) (pos k)
 
 -- the kernel at the quadrant q
-unfoldable pub quadrantKernel : ℕ → Float → Float → Float
-quadrantKernel q y0 y1 = cond (eqb (q % 2) 0) (sinKernel y0 y1 1) (cosKernel y0 y1)
+unfoldable pub quadrant_kernel : ℕ → Float → Float → Float
+quadrant_kernel q y0 y1 = cond (eqb (q % 2) 0) (sin_kernel y0 y1 1) (cos_kernel y0 y1)
 
 -- the `match` of `sin` some quadrants further on: 0 for `sin`, 1 for `cos`
-unfoldable pub sinTurned : ℕ → RemPio2 → Float
-sinTurned more t =
-    let q = quadrantOf t.n + more in
-    let value = quadrantKernel q t.y0 t.y1 in
+unfoldable pub sin_turned : ℕ → RemPio2 → Float
+sin_turned more t =
+    let q = quadrant_of t.n + more in
+    let value = quadrant_kernel q t.y0 t.y1 in
     cond (ltb (q % 4) 2) value (neg value)

@@ -6,12 +6,12 @@
 ghost use Rattle.std.specs.Prelude.{◌≡◌, not, ◌<◌, ◌≤◌, T};
 ghost use Rattle.std.specs.Float.{binary64};
 ghost use Rattle.std.specs.Float.Ieee.{is_nan, of_int};
-ghost use Rattle.float.specs.F64.{bitsOf};
-ghost use Rattle.math.specs.Kernels.{absHighWord, signBit, sinKernel, cosKernel};
-ghost use Rattle.math.specs.Rem.{predI32, succI32, firstRemainder, nextRemainder, remainderValue, exponentField, nearestMultiple, lastRemainder, reducedOf, remPio2Medium, remPio2Large, remPio2};
-ghost use Rattle.math.specs.Turns.{nearTurns, farTurns, quarterTurns, signedTurns, quadrantKernel, sinTurned};
-ghost use Rattle.math.specs.Trig.{quadrantOf, sinOf, cosOf};
-ghost use Rattle.math.specs.Acos.{acosR, clearLowWord, acosBeyond, acosSmall, acosNegative, acosPositive, acosOf};
+ghost use Rattle.float.specs.F64.{bits_of};
+ghost use Rattle.math.specs.Kernels.{abs_high_word, sign_bit, sin_kernel, cos_kernel};
+ghost use Rattle.math.specs.Rem.{pred_i32, succ_i32, first_remainder, next_remainder, remainder_value, exponent_field, nearest_multiple, last_remainder, reduced_of, rem_pio2_medium, rem_pio2_large, rem_pio2};
+ghost use Rattle.math.specs.Turns.{near_turns, far_turns, quarter_turns, signed_turns, quadrant_kernel, sin_turned};
+ghost use Rattle.math.specs.Trig.{quadrant_of, sin_of, cos_of};
+ghost use Rattle.math.specs.Acos.{acos_r, clear_low_word, acos_beyond, acos_small, acos_negative, acos_positive, acos_of};
 
 const S1: f64 = -1.66666666666666324348e-01;
 
@@ -106,19 +106,19 @@ pub struct Remainder {
 
 // The upper 32 bits without the sign.
 fn abs_high_word(x: f64) -> u64
-    ensures { result ≡ absHighWord x }
+    ensures { result ≡ abs_high_word x }
 {
     (float::bits(x) >> 32) % 0x8000_0000
 }
 
 fn sign_bit(x: f64) -> bool
-    ensures { result ≡ signBit x }
+    ensures { result ≡ sign_bit x }
 {
     float::bits(x) >= 0x8000_0000_0000_0000
 }
 
 pub fn sin_kernel(x: f64, y: f64, iy: u32) -> f64
-    ensures { result ≡ sinKernel x y iy }
+    ensures { result ≡ sin_kernel x y iy }
 {
     let z = x * x;
     let w = z * z;
@@ -132,7 +132,7 @@ pub fn sin_kernel(x: f64, y: f64, iy: u32) -> f64
 }
 
 pub fn cos_kernel(x: f64, y: f64) -> f64
-    ensures { result ≡ cosKernel x y }
+    ensures { result ≡ cos_kernel x y }
 {
     let z = x * x;
     let w = z * z;
@@ -144,20 +144,20 @@ pub fn cos_kernel(x: f64, y: f64) -> f64
 
 // The Rust's `n - 1`, with the wrap-around of a release build.
 fn pred_i32(n: i32) -> i32
-    ensures { result ≡ predI32 n }
+    ensures { result ≡ pred_i32 n }
 {
     if n == -2147483648 { 2147483647 } else { n - 1 }
 }
 
 // The Rust's `n + 1`, likewise.
 fn succ_i32(n: i32) -> i32
-    ensures { result ≡ succI32 n }
+    ensures { result ≡ succ_i32 n }
 {
     if n == 2147483647 { -2147483648 } else { n + 1 }
 }
 
 fn first_remainder(x: f64, f: f64) -> Remainder
-    ensures { result ≡ firstRemainder x f }
+    ensures { result ≡ first_remainder x f }
 {
     Remainder {
         r: x - f * PIO2_1,
@@ -166,7 +166,7 @@ fn first_remainder(x: f64, f: f64) -> Remainder
 }
 
 fn next_remainder(t: f64, f: f64, p: f64, rest: f64) -> Remainder
-    ensures { result ≡ nextRemainder t f p rest }
+    ensures { result ≡ next_remainder t f p rest }
 {
     let w = f * p;
     let r = t - w;
@@ -177,20 +177,20 @@ fn next_remainder(t: f64, f: f64, p: f64, rest: f64) -> Remainder
 }
 
 fn remainder_value(s: Remainder) -> f64
-    ensures { result ≡ remainderValue s }
+    ensures { result ≡ remainder_value s }
 {
     s.r - s.w
 }
 
 fn exponent_field(x: f64) -> u64
-    ensures { result ≡ exponentField x }
+    ensures { result ≡ exponent_field x }
 {
     (float::bits(x) >> 52) % 0x800
 }
 
 // The multiple of half pi that the medium range takes off.
 fn nearest_multiple(x: f64) -> Multiple
-    ensures { result ≡ nearestMultiple x }
+    ensures { result ≡ nearest_multiple x }
 {
     let f = x * INVPIO2 + TOINT - TOINT;
     let n = float::to_i32(f);
@@ -212,7 +212,7 @@ fn nearest_multiple(x: f64) -> Multiple
 
 // The remainder by as many digits of half pi as its exponent calls for.
 fn last_remainder(x: f64, ix: u64, f: f64) -> Remainder
-    ensures { result ≡ lastRemainder x ix f }
+    ensures { result ≡ last_remainder x ix f }
 {
     let ex = ix >> 20;
     let a = first_remainder(x, f);
@@ -227,7 +227,7 @@ fn last_remainder(x: f64, ix: u64, f: f64) -> Remainder
 }
 
 fn reduced(n: i32, s: Remainder) -> RemPio2
-    ensures { result ≡ reducedOf n s }
+    ensures { result ≡ reduced_of n s }
 {
     let y0 = remainder_value(s);
     RemPio2 {
@@ -238,7 +238,7 @@ fn reduced(n: i32, s: Remainder) -> RemPio2
 }
 
 pub fn rem_pio2_medium(x: f64, ix: u64) -> RemPio2
-    ensures { result ≡ remPio2Medium x ix }
+    ensures { result ≡ rem_pio2_medium x ix }
 {
     let m = nearest_multiple(x);
     reduced(m.n, last_remainder(x, ix, m.f))
@@ -246,14 +246,14 @@ pub fn rem_pio2_medium(x: f64, ix: u64) -> RemPio2
 
 // x less k quarter turns: the eight branches of `rem_pio2` near one to four quarter turns, either sign.
 fn subtract_quarter_turns(x: f64, k: i32) -> RemPio2
-    ensures { result ≡ reducedOf k (firstRemainder x (of_int binary64 k)) }
+    ensures { result ≡ reduced_of k (first_remainder x (of_int binary64 k)) }
 {
     reduced(k, first_remainder(x, k as f64))
 }
 
 // How many quarter turns `rem_pio2` takes off, by the tests of its branches; 0 where these take the medium range's way.
 fn near_turns(ix: u64) -> u32
-    ensures { result ≡ nearTurns ix }
+    ensures { result ≡ near_turns ix }
 {
     if ix % 0x10_0000 == 0x9_21fb {
         return 0;
@@ -265,7 +265,7 @@ fn near_turns(ix: u64) -> u32
 }
 
 fn far_turns(ix: u64) -> u32
-    ensures { result ≡ farTurns ix }
+    ensures { result ≡ far_turns ix }
 {
     if ix <= 0x4015_fdbc {
         if ix == 0x4012_d97c {
@@ -281,7 +281,7 @@ fn far_turns(ix: u64) -> u32
 
 // The same for any `ix`; 0 also beyond the branches.
 fn quarter_turns(ix: u64) -> u32
-    ensures { result ≡ quarterTurns ix }
+    ensures { result ≡ quarter_turns ix }
 {
     if ix <= 0x400f_6a7a {
         return near_turns(ix);
@@ -295,7 +295,7 @@ fn quarter_turns(ix: u64) -> u32
 // k, or -k where x is negative.
 fn signed_turns(k: u32, x: f64) -> i32
     requires { k ≤ 4 }
-    ensures { result ≡ signedTurns k x }
+    ensures { result ≡ signed_turns k x }
 {
     if sign_bit(x) {
         return 0 - (k as i32);
@@ -304,7 +304,7 @@ fn signed_turns(k: u32, x: f64) -> i32
 }
 
 fn rem_pio2_large(x: f64) -> RemPio2
-    ensures { result ≡ remPio2Large x }
+    ensures { result ≡ rem_pio2_large x }
 {
     let quotient = float::round(x / HALF_PI);
     RemPio2 {
@@ -316,7 +316,7 @@ fn rem_pio2_large(x: f64) -> RemPio2
 
 // x less a multiple of half pi.
 pub fn rem_pio2(x: f64) -> RemPio2
-    ensures { result ≡ remPio2 x }
+    ensures { result ≡ rem_pio2 x }
 {
     let ix = abs_high_word(x);
     let k = quarter_turns(ix);
@@ -335,14 +335,14 @@ pub fn rem_pio2(x: f64) -> RemPio2
 
 // The Rust's `n & 3`.
 fn quadrant(n: i32) -> u32
-    ensures { result ≡ quadrantOf n }
+    ensures { result ≡ quadrant_of n }
 {
     (n & 3) as u32
 }
 
 // The kernel that `sin` calls at the quadrant q.
 fn quadrant_kernel(q: u32, y0: f64, y1: f64) -> f64
-    ensures { result ≡ quadrantKernel q y0 y1 }
+    ensures { result ≡ quadrant_kernel q y0 y1 }
 {
     if q % 2 == 0 {
         return sin_kernel(y0, y1, 1);
@@ -355,7 +355,7 @@ fn quadrant_kernel(q: u32, y0: f64, y1: f64) -> f64
 #[inline(never)]
 fn sin_turned(x: f64, more: u32) -> f64
     requires { more ≤ 1 }
-    ensures { result ≡ sinTurned more (remPio2 x) }
+    ensures { result ≡ sin_turned more (rem_pio2 x) }
 {
     let t = rem_pio2(x);
     let q = quadrant(t.n) + more;
@@ -367,7 +367,7 @@ fn sin_turned(x: f64, more: u32) -> f64
 }
 
 pub fn sin(x: f64) -> f64
-    ensures { result ≡ sinOf x }
+    ensures { result ≡ sin_of x }
 {
     let ix = abs_high_word(x);
     if ix <= 0x3fe9_21fb {
@@ -383,7 +383,7 @@ pub fn sin(x: f64) -> f64
 }
 
 pub fn cos(x: f64) -> f64
-    ensures { result ≡ cosOf x }
+    ensures { result ≡ cos_of x }
 {
     let ix = abs_high_word(x);
     if ix <= 0x3fe9_21fb {
@@ -399,7 +399,7 @@ pub fn cos(x: f64) -> f64
 }
 
 fn acos_r(z: f64) -> f64
-    ensures { result ≡ acosR z }
+    ensures { result ≡ acos_r z }
 {
     let p = z * (PS0 + z * (PS1 + z * (PS2 + z * (PS3 + z * (PS4 + z * PS5)))));
     let q = 1.0 + z * (QS1 + z * (QS2 + z * (QS3 + z * QS4)));
@@ -408,15 +408,15 @@ fn acos_r(z: f64) -> f64
 
 fn clear_low_word(x: f64) -> f64
     requires { T (not (is_nan x)) }
-    ensures { result ≡ clearLowWord x }
+    ensures { result ≡ clear_low_word x }
 {
     f64::from_bits(f64::to_bits(x) / 0x1_0000_0000 * 0x1_0000_0000)
 }
 
 // `acos` from |x| = 1 on; b has the bits of x.
 fn acos_beyond(x: f64, b: u64, ix: u64) -> f64
-    requires { b ≡ bitsOf x }
-    ensures { result ≡ acosBeyond x ix }
+    requires { b ≡ bits_of x }
+    ensures { result ≡ acos_beyond x ix }
 {
     if ix != 0x3ff0_0000 {
         return 0.0 / (x - x);
@@ -431,7 +431,7 @@ fn acos_beyond(x: f64, b: u64, ix: u64) -> f64
 }
 
 fn acos_small(x: f64, ix: u64) -> f64
-    ensures { result ≡ acosSmall x ix }
+    ensures { result ≡ acos_small x ix }
 {
     if ix <= 0x3c60_0000 {
         return PIO2_HI + f64::from_bits(0x3987_0000_0000_0000);
@@ -440,7 +440,7 @@ fn acos_small(x: f64, ix: u64) -> f64
 }
 
 fn acos_negative(x: f64) -> f64
-    ensures { result ≡ acosNegative x }
+    ensures { result ≡ acos_negative x }
 {
     let z = (1.0 + x) * 0.5;
     let s = sqrt::sqrt(z);
@@ -450,8 +450,8 @@ fn acos_negative(x: f64) -> f64
 
 // x is at least 0 and below 1, so that the root is a number.
 fn acos_positive(x: f64) -> f64
-    requires { bitsOf x < 0x3ff0_0000_0000_0000 }
-    ensures { result ≡ acosPositive x }
+    requires { bits_of x < 0x3ff0_0000_0000_0000 }
+    ensures { result ≡ acos_positive x }
 {
     let z = (1.0 - x) * 0.5;
     let s = sqrt::sqrt(z);
@@ -462,7 +462,7 @@ fn acos_positive(x: f64) -> f64
 }
 
 pub fn acos(x: f64) -> f64
-    ensures { result ≡ acosOf x }
+    ensures { result ≡ acos_of x }
 {
     if x != x {
         return x;

@@ -7,12 +7,12 @@ mod questions;
 mod triangles;
 
 ghost use Rattle.std.specs.Prelude.{◌≡◌, [], ◌&&◌, ◌+◌, ◌*◌, ◌%◌, ◌<◌, ◌≤◌, ◌^◌, length};
-ghost use Rattle.mesh.specs.Mesh.{maxHalfedges, maxPoints, halfedgeStride, numberAt, field, startVert, endVert, pairedHalfedge, propVert, isForward, nextHalfedge, prevHalfedge, eqZ, refAt, sameFace, asHalfedges, noIndex};
+ghost use Rattle.mesh.specs.Mesh.{max_halfedges, max_points, halfedge_stride, number_at, field, start_vert, end_vert, paired_halfedge, prop_vert, is_forward, next_halfedge, prev_halfedge, eq_z, ref_at, same_face, as_halfedges, no_index};
 ghost use Rattle.mesh.specs.Inside.{Inside};
-ghost use Rattle.mesh.specs.Scalar.{radiansOf};
-ghost use Rattle.mesh.specs.Questions.{hasLength, signClear, testAt};
-ghost use Rattle.mesh.specs.All.{trianglesHold, askEach};
-ghost use Rattle.mesh.specs.Check.{numberOf, placeOf, each, ◌then◌, checkMesh, checkRefs, checkEntries, checkFlags, checkRows};
+ghost use Rattle.mesh.specs.Scalar.{radians_of};
+ghost use Rattle.mesh.specs.Questions.{has_length, sign_clear, test_at};
+ghost use Rattle.mesh.specs.All.{triangles_hold, ask_each};
+ghost use Rattle.mesh.specs.Check.{number_of, place_of, each, ◌then◌, check_mesh, check_refs, check_entries, check_flags, check_rows};
 
 use questions::{counts_fit, test_at};
 use triangles::{index_of, triangle_holds};
@@ -55,7 +55,7 @@ pub enum Question {
 // Number k of item e, in a list of `stride` numbers to an item.
 fn number_at(s: &[i32], e: usize, stride: usize, k: usize) -> i32
     requires { (0 < stride) × (stride ≤ 4) × (k ≤ 4) }
-    ensures { result ≡ numberAt s.now e stride k }
+    ensures { result ≡ number_at s.now e stride k }
 {
     if s.len() <= e {
         return 0;
@@ -75,44 +75,44 @@ fn field(h: &[i32], e: usize, k: usize) -> usize
 
 // Number k of a halfedge e that is known to lie in the list, as on an accepted mesh: read without a test.
 fn known_field(h: &[i32], e: usize, k: usize) -> usize
-    requires { (e * halfedgeStride + k < length h.now) × (field h.now e k < noIndex) }
+    requires { (e * halfedge_stride + k < length h.now) × (field h.now e k < no_index) }
     ensures { result ≡ field h.now e k }
 {
     index_of(h[e * HALFEDGE_STRIDE + k])
 }
 
 pub fn start_vert(h: &[i32], e: usize) -> usize
-    requires { Inside (asHalfedges h.now) e }
-    ensures { result ≡ startVert (asHalfedges h.now) e }
+    requires { Inside (as_halfedges h.now) e }
+    ensures { result ≡ start_vert (as_halfedges h.now) e }
 {
     known_field(h, e, 0)
 }
 
 pub fn end_vert(h: &[i32], e: usize) -> usize
-    requires { Inside (asHalfedges h.now) e }
-    ensures { result ≡ endVert (asHalfedges h.now) e }
+    requires { Inside (as_halfedges h.now) e }
+    ensures { result ≡ end_vert (as_halfedges h.now) e }
 {
     known_field(h, e, 1)
 }
 
 pub fn paired_halfedge(h: &[i32], e: usize) -> usize
-    requires { Inside (asHalfedges h.now) e }
-    ensures { result ≡ pairedHalfedge (asHalfedges h.now) e }
+    requires { Inside (as_halfedges h.now) e }
+    ensures { result ≡ paired_halfedge (as_halfedges h.now) e }
 {
     known_field(h, e, 2)
 }
 
 // The row of the normal of halfedge e, which making from normals alone reads.
 pub fn prop_vert(h: &[i32], e: usize) -> usize
-    requires { (e * halfedgeStride + halfedgeStride ≤ length h.now) × (propVert h.now e < noIndex) }
-    ensures { result ≡ propVert h.now e }
+    requires { (e * halfedge_stride + halfedge_stride ≤ length h.now) × (prop_vert h.now e < no_index) }
+    ensures { result ≡ prop_vert h.now e }
 {
     known_field(h, e, 3)
 }
 
 pub fn is_forward(h: &[i32], e: usize) -> bool
-    requires { Inside (asHalfedges h.now) e }
-    ensures { result ≡ isForward (asHalfedges h.now) e }
+    requires { Inside (as_halfedges h.now) e }
+    ensures { result ≡ is_forward (as_halfedges h.now) e }
 {
     let at = e * HALFEDGE_STRIDE;
     h[at] < h[at + 1]
@@ -120,7 +120,7 @@ pub fn is_forward(h: &[i32], e: usize) -> bool
 
 pub fn next_halfedge(e: usize) -> usize
     requires { e + 1 < 2 ^ 64 }
-    ensures { result ≡ nextHalfedge e }
+    ensures { result ≡ next_halfedge e }
 {
     let n = e + 1;
     if n % 3 == 0 { n - 3 } else { n }
@@ -128,7 +128,7 @@ pub fn next_halfedge(e: usize) -> usize
 
 pub fn prev_halfedge(e: usize) -> usize
     requires { e + 1 < 2 ^ 64 }
-    ensures { result ≡ prevHalfedge e }
+    ensures { result ≡ prev_halfedge e }
 {
     let base = e - e % 3;
     let pos = (e % 3 + 2) % 3;
@@ -138,13 +138,13 @@ pub fn prev_halfedge(e: usize) -> usize
 // Do the references of the triangles a and b have the same number k?
 fn same_ref(refs: &[i32], a: usize, b: usize, k: usize) -> bool
     requires { k ≤ 4 }
-    ensures { result ≡ eqZ (refAt refs.now a k) (refAt refs.now b k) }
+    ensures { result ≡ eq_z (ref_at refs.now a k) (ref_at refs.now b k) }
 {
     number_at(refs, a, REF_STRIDE, k) == number_at(refs, b, REF_STRIDE, k)
 }
 
 pub fn same_face(refs: &[i32], a: usize, b: usize) -> bool
-    ensures { result ≡ sameFace refs.now a b }
+    ensures { result ≡ same_face refs.now a b }
 {
     common::both(
         common::both(same_ref(refs, a, b, 0), same_ref(refs, a, b, 1)),
@@ -154,7 +154,7 @@ pub fn same_face(refs: &[i32], a: usize, b: usize) -> bool
 
 // Question 10 of one smoothness: a number with a clear sign bit.
 pub fn sign_clear(x: f64) -> bool
-    ensures { result ≡ signClear x }
+    ensures { result ≡ sign_clear x }
 {
     if x != x {
         return false;
@@ -163,14 +163,14 @@ pub fn sign_clear(x: f64) -> bool
 }
 
 pub fn radians(degrees: f64) -> f64
-    ensures { result ≡ radiansOf degrees }
+    ensures { result ≡ radians_of degrees }
 {
     degrees * 3.14159265358979323846264338327950288 / 180.0
 }
 
 // Has a list of `len` numbers `per` for each of `count`? Nothing here can wrap.
 pub fn has_length(len: usize, count: usize, per: usize) -> bool
-    ensures { result ≡ hasLength len count per }
+    ensures { result ≡ has_length len count per }
 {
     if per == 0 {
         return len == 0;
@@ -182,7 +182,7 @@ pub fn has_length(len: usize, count: usize, per: usize) -> bool
 }
 
 pub fn number_of(checked: Checked) -> usize
-    ensures { result ≡ numberOf checked }
+    ensures { result ≡ number_of checked }
 {
     match checked {
         Checked::Accepted => 0,
@@ -191,7 +191,7 @@ pub fn number_of(checked: Checked) -> usize
 }
 
 pub fn place_of(checked: Checked) -> usize
-    ensures { result ≡ placeOf checked }
+    ensures { result ≡ place_of checked }
 {
     match checked {
         Checked::Accepted => 0,
@@ -212,7 +212,7 @@ fn ask(
     p: usize,
     places: usize,
 ) -> Checked
-    ensures { result ≡ (sofar then each number (testAt q numbers.now halfedges.now smoothness.now flags.now n p) places) }
+    ensures { result ≡ (sofar then each number (test_at q numbers.now halfedges.now smoothness.now flags.now n p) places) }
 {
     let Checked::Accepted = sofar else {
         return sofar;
@@ -237,15 +237,15 @@ fn ask_numbers(
     p: usize,
     places: usize,
 ) -> Checked
-    ensures { result ≡ (sofar then each number (testAt q numbers.now [] [] [] n p) places) }
+    ensures { result ≡ (sofar then each number (test_at q numbers.now [] [] [] n p) places) }
 {
     ask(sofar, number, q, numbers, &[], &[], &[], n, p, places)
 }
 
 // Are the questions 3 to 7 answered yes at every halfedge? One pass, a triangle at a time, which an accepted mesh does not leave early.
 fn all_hold(h: &[i32], n: usize, p: usize) -> bool
-    requires { (n % 3 ≡ 0) × (n ≤ maxHalfedges) × (p ≤ maxPoints) }
-    ensures { result ≡ hasLength (length h.now) n halfedgeStride && trianglesHold (asHalfedges h.now) n p }
+    requires { (n % 3 ≡ 0) × (n ≤ max_halfedges) × (p ≤ max_points) }
+    ensures { result ≡ has_length (length h.now) n halfedge_stride && triangles_hold (as_halfedges h.now) n p }
 {
     if !has_length(h.len(), n, HALFEDGE_STRIDE) {
         return false;
@@ -262,7 +262,7 @@ fn all_hold(h: &[i32], n: usize, p: usize) -> bool
 
 // The questions 3 to 7, one after the other.
 fn ask_each(h: &[i32], n: usize, p: usize) -> Checked
-    ensures { result ≡ askEach (asHalfedges h.now) n p }
+    ensures { result ≡ ask_each (as_halfedges h.now) n p }
 {
     let points = ask_numbers(Checked::Accepted, 3, Question::Points, h, n, p, n);
     let pair = ask_numbers(points, 4, Question::Pair, h, n, p, n);
@@ -273,7 +273,7 @@ fn ask_each(h: &[i32], n: usize, p: usize) -> Checked
 
 // The questions 1 to 7. `lengths` is the answer to question 2, which the caller finds of its own lists by `has_length`.
 pub fn check_mesh(h: &[i32], n: usize, p: usize, lengths: bool) -> Checked
-    ensures { result ≡ checkMesh (asHalfedges h.now) n p lengths }
+    ensures { result ≡ check_mesh (as_halfedges h.now) n p lengths }
 {
     if !counts_fit(n, p) {
         return Checked::Refused {
@@ -295,14 +295,14 @@ pub fn check_mesh(h: &[i32], n: usize, p: usize, lengths: bool) -> Checked
 
 // Question 8, after earlier answers: the face references of the triangles.
 pub fn check_refs(sofar: Checked, refs: &[i32], n: usize) -> Checked
-    ensures { result ≡ checkRefs sofar refs.now n }
+    ensures { result ≡ check_refs sofar refs.now n }
 {
     ask_numbers(sofar, 8, Question::Mesh, refs, n, 0, n / 3)
 }
 
 // The questions 9 and 10, after earlier answers: the sharp entries' halfedges and smoothness.
 pub fn check_entries(sofar: Checked, halfedges: &[usize], smoothness: &[f64], n: usize) -> Checked
-    ensures { result ≡ checkEntries sofar halfedges.now smoothness.now n }
+    ensures { result ≡ check_entries sofar halfedges.now smoothness.now n }
 {
     let entries = halfedges.len();
     let numbers: &[i32] = &[];
@@ -335,14 +335,14 @@ pub fn check_entries(sofar: Checked, halfedges: &[usize], smoothness: &[f64], n:
 
 // Question 11, after earlier answers: the flags of the halfedges.
 pub fn check_flags(sofar: Checked, flags: &[u8], n: usize) -> Checked
-    ensures { result ≡ checkFlags sofar flags.now n }
+    ensures { result ≡ check_flags sofar flags.now n }
 {
     ask(sofar, 11, Question::Flag, &[], &[], &[], flags, n, 0, n)
 }
 
 // Question 12, after earlier answers: the rows of the halfedges, of which there are so many.
 pub fn check_rows(sofar: Checked, h: &[i32], rows: usize, n: usize) -> Checked
-    ensures { result ≡ checkRows sofar h.now rows n }
+    ensures { result ≡ check_rows sofar h.now rows n }
 {
     ask_numbers(sofar, 12, Question::Row, h, n, rows, n)
 }

@@ -1,8 +1,8 @@
 // The questions 3 to 7 put to the three halfedges of a triangle at once, by comparisons of the list's own numbers, with an exit at
 // the first no.
 ghost use Rattle.std.specs.Prelude.{◌≡◌, ◌+◌, ◌*◌, ◌<◌, ◌≤◌, ◌^◌, ◌&&◌, ltb, length};
-ghost use Rattle.mesh.specs.Mesh.{maxHalfedges, maxPoints, halfedgeStride, numberAt, indexOf, asHalfedges, noIndex};
-ghost use Rattle.mesh.specs.All.{halfedgeHolds, triangleHolds};
+ghost use Rattle.mesh.specs.Mesh.{max_halfedges, max_points, halfedge_stride, number_at, index_of, as_halfedges, no_index};
+ghost use Rattle.mesh.specs.All.{halfedge_holds, triangle_holds};
 
 use super::HALFEDGE_STRIDE;
 use common::both;
@@ -11,23 +11,23 @@ use common::both;
 // negative, so that it makes the two comparisons one.
 fn is_below(x: i32, count: usize) -> bool
     requires { count < 2 ^ 31 }
-    ensures { result ≡ ltb (indexOf x) count }
+    ensures { result ≡ ltb (index_of x) count }
 {
     both(x >= 0, x < (count % 0x8000_0000) as i32)
 }
 
 // The index that x is known to be.
 pub fn index_of(x: i32) -> usize
-    requires { indexOf x < noIndex }
-    ensures { result ≡ indexOf x }
+    requires { index_of x < no_index }
+    ensures { result ≡ index_of x }
 {
     x as usize
 }
 
 // Number k of halfedge e, within the list.
 fn number_in(h: &[i32], e: usize, k: usize) -> i32
-    requires { e * halfedgeStride + k < length h.now }
-    ensures { result ≡ numberAt h.now e halfedgeStride k }
+    requires { e * halfedge_stride + k < length h.now }
+    ensures { result ≡ number_at h.now e halfedge_stride k }
 {
     h[e * HALFEDGE_STRIDE + k]
 }
@@ -35,7 +35,7 @@ fn number_in(h: &[i32], e: usize, k: usize) -> i32
 // Are all three the numbers of points?
 fn are_points(a: i32, b: i32, c: i32, p: usize) -> bool
     requires { p < 2 ^ 31 }
-    ensures { result ≡ ltb (indexOf a) p && (ltb (indexOf b) p && ltb (indexOf c) p) }
+    ensures { result ≡ ltb (index_of a) p && (ltb (index_of b) p && ltb (index_of c) p) }
 {
     both(is_below(a, p), both(is_below(b, p), is_below(c, p)))
 }
@@ -43,8 +43,8 @@ fn are_points(a: i32, b: i32, c: i32, p: usize) -> bool
 // The questions 4 to 7 at a halfedge e that starts at a, where the next one starts at b. That the pair ends at a is asked of it in
 // its own turn: there e is the pair, and starts where it ends.
 fn halfedge_holds(h: &[i32], n: usize, e: usize, a: i32, b: i32) -> bool
-    requires { (length h.now ≡ n * halfedgeStride) × (n ≤ maxHalfedges) × (e < n) × (indexOf b < noIndex) }
-    ensures { result ≡ halfedgeHolds (asHalfedges h.now) n e (indexOf a) (indexOf b) }
+    requires { (length h.now ≡ n * halfedge_stride) × (n ≤ max_halfedges) × (e < n) × (index_of b < no_index) }
+    ensures { result ≡ halfedge_holds (as_halfedges h.now) n e (index_of a) (index_of b) }
 {
     if number_in(h, e, 1) != b {
         return false;
@@ -65,8 +65,8 @@ fn halfedge_holds(h: &[i32], n: usize, e: usize, a: i32, b: i32) -> bool
 
 // The questions 3 to 7 at the halfedges e, e + 1 and e + 2 of a triangle. That an end is a point follows from the next one's start.
 pub fn triangle_holds(h: &[i32], n: usize, p: usize, e: usize) -> bool
-    requires { (length h.now ≡ n * halfedgeStride) × (n ≤ maxHalfedges) × (p ≤ maxPoints) × (e + 2 < n) }
-    ensures { result ≡ triangleHolds (asHalfedges h.now) n p e }
+    requires { (length h.now ≡ n * halfedge_stride) × (n ≤ max_halfedges) × (p ≤ max_points) × (e + 2 < n) }
+    ensures { result ≡ triangle_holds (as_halfedges h.now) n p e }
 {
     let a = number_in(h, e, 0);
     let b = number_in(h, e + 1, 0);

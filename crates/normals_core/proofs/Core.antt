@@ -10,44 +10,44 @@ use Rattle.float.specs.Ops.{zero}
 use Rattle.linalg.specs.declared.Vec3.{Vec3}
 use Rattle.mesh.specs.Mesh.{Halfedges}
 use Rattle.mesh.specs.Sound.{Sound}
-use Rattle.smoothing.specs.Edges.{isInsideQuad}
-use Rattle.create_shared.specs.Makings.{Tangents, tangentsOf}
-use Rattle.normals_steps.specs.Carried.{isInside}
-use Rattle.normals_walks.specs.Walks.{normalsVerts, normalsVertsDirectionless}
-use Rattle.normals_walks.proofs.Same.{verts-same, verts-count-same}
-use Rattle.normals_walks.proofs.Bound.{verts-within}
-use Rattle.distribute.specs.Distribute.{spreadTangents}
-use Rattle.normals_core.specs.Core.{noTangents, normalTangents, createTangentsFromNormals, fromNormalsDirectionless}
-use Rattle.normals_core.specs.Flags.{insideQuads}
-use Rattle.normals_core.proofs.Flags.{inside-is}
+use Rattle.smoothing.specs.Edges.{is_inside_quad}
+use Rattle.create_shared.specs.Makings.{Tangents, tangents_of}
+use Rattle.normals_steps.specs.Carried.{is_inside}
+use Rattle.normals_walks.specs.Walks.{normals_verts, normals_verts_directionless}
+use Rattle.normals_walks.proofs.Same.{verts_same, verts_count_same}
+use Rattle.normals_walks.proofs.Bound.{verts_within}
+use Rattle.distribute.specs.Distribute.{spread_tangents}
+use Rattle.normals_core.specs.Core.{no_tangents, normal_tangents, create_tangents_from_normals, from_normals_directionless}
+use Rattle.normals_core.specs.Flags.{inside_quads}
+use Rattle.normals_core.proofs.Flags.{inside_is}
 
 module _ {H : Halfedges} {n j : ℕ} (s : Sound H n j) (R : List ℤ) (P N A : List Float) (normal : ℕ → Vec3) (O : List Float) (old : Bool) where
   -- the loop over the points is of k points, and finds the flags Q, the tangents T₀ and the fixed flags X₀
-  module _ {k p : ℕ} {Q X₀ : List ℕ} {T₀ : List Float} (q : Q ≡ insideQuads H R O old n) (t : T₀ ≡ replicate (n * 4) zero) (x : X₀ ≡ replicate n 0) (d : k ≡ p) where
-    inside-same : (e : ℕ) → e < n → isInside Q e ≡ isInsideQuad H R O old e
-    inside-same e h = rw q (inside-is H R O old n e h)
+  module _ {k p : ℕ} {Q X₀ : List ℕ} {T₀ : List Float} (q : Q ≡ inside_quads H R O old n) (t : T₀ ≡ replicate (n * 4) zero) (x : X₀ ≡ replicate n 0) (d : k ≡ p) where
+    inside_same : (e : ℕ) → e < n → is_inside Q e ≡ is_inside_quad H R O old e
+    inside_same e h = rw q (inside_is H R O old n e h)
 
     -- the tangents T and the fixed flags X that it leaves
-    pub made : (T : List Float) (X : List ℕ) → tangentsOf T X ≡ normalsVerts H P N A normal (isInside Q) n k (tangentsOf T₀ X₀) → tangentsOf T X ≡ normalTangents H P N A R normal O old n p
-    unfolding normalTangents
+    pub made : (T : List Float) (X : List ℕ) → tangents_of T X ≡ normals_verts H P N A normal (is_inside Q) n k (tangents_of T₀ X₀) → tangents_of T X ≡ normal_tangents H P N A R normal O old n p
+    unfolding normal_tangents
     made T X e =
-        e ∙ verts-same s P N A (isInside Q) (isInsideQuad H R O old) inside-same normal normal (λ i h. refl) k (tangentsOf T₀ X₀) ∙ rw (t, x, d)
+        e ∙ verts_same s P N A (is_inside Q) (is_inside_quad H R O old) inside_same normal normal (λ i h. refl) k (tangents_of T₀ X₀) ∙ rw (t, x, d)
 
     -- what it counts
-    pub made-count : {c : ℕ} → c ≡ normalsVertsDirectionless H P N A normal (isInside Q) n k (tangentsOf T₀ X₀) → c ≡ fromNormalsDirectionless H P N A R normal O old n p
-    unfolding fromNormalsDirectionless
-    made-count e =
-        e ∙ verts-count-same s P N A (isInside Q) (isInsideQuad H R O old) inside-same normal normal (λ i h. refl) k (tangentsOf T₀ X₀) ∙ rw (t, x, d)
+    pub made_count : {c : ℕ} → c ≡ normals_verts_directionless H P N A normal (is_inside Q) n k (tangents_of T₀ X₀) → c ≡ from_normals_directionless H P N A R normal O old n p
+    unfolding from_normals_directionless
+    made_count e =
+        e ∙ verts_count_same s P N A (is_inside Q) (is_inside_quad H R O old) inside_same normal normal (λ i h. refl) k (tangents_of T₀ X₀) ∙ rw (t, x, d)
 
   -- the count is at most three for each halfedge
-  pub from-normals-within : (p : ℕ) → fromNormalsDirectionless H P N A R normal O old n p ≤ 3 * n
-  unfolding fromNormalsDirectionless
-  from-normals-within p = verts-within s P N A normal (isInsideQuad H R O old) p (noTangents n)
+  pub from_normals_within : (p : ℕ) → from_normals_directionless H P N A R normal O old n p ≤ 3 * n
+  unfolding from_normals_directionless
+  from_normals_within p = verts_within s P N A normal (is_inside_quad H R O old) p (no_tangents n)
 
 -- the tangents U, where T and X are the tangents and the fixed flags before spreading
 pub created : (H : Halfedges) (R : List ℤ) (P N A : List Float) (normal : ℕ → Vec3) (O : List Float) (old : Bool) (n p : ℕ) (T : List Float) (X : List ℕ) (U : List Float) (k : ℕ)
-    → tangentsOf T X ≡ normalTangents H P N A R normal O old n k → k ≡ p → U ≡ (spreadTangents H P N X T n).tangents
-    → U ≡ createTangentsFromNormals H P N A R normal O old n p
-unfolding createTangentsFromNormals
+    → tangents_of T X ≡ normal_tangents H P N A R normal O old n k → k ≡ p → U ≡ (spread_tangents H P N X T n).tangents
+    → U ≡ create_tangents_from_normals H P N A R normal O old n p
+unfolding create_tangents_from_normals
 created H R P N A normal O old n p T X U k e q u =
-    u ∙ ap (λ (m : Tangents). (spreadTangents H P N m.fixed m.tangents n).tangents) (e ∙ ap (λ (j : ℕ). normalTangents H P N A R normal O old n j) q)
+    u ∙ ap (λ (m : Tangents). (spread_tangents H P N m.fixed m.tangents n).tangents) (e ∙ ap (λ (j : ℕ). normal_tangents H P N A R normal O old n j) q)

@@ -10,43 +10,43 @@ use lib.Seq.{get_or-set_same, get_or-set_other, ext_get_or}
 use lib.Dec.{eqb}
 use lib.IntN.{ℤ}
 use lib.Ieee.{Float}
-use Rattle.common.specs.Fold.{foldTo}
-use Rattle.mesh.specs.Mesh.{pairedHalfedge, Halfedges}
+use Rattle.common.specs.Fold.{fold_to}
+use Rattle.mesh.specs.Mesh.{paired_halfedge, Halfedges}
 use Rattle.mesh.specs.Sound.{Sound}
-use Rattle.smoothing.specs.Edges.{isInsideQuad}
-use Rattle.smoothing.proofs.Pairs.{inside-pair}
-use Rattle.smoothing.proofs.Places.{Places, each-at, each-same, edges-same}
-use Rattle.normals_steps.specs.Carried.{isInside}
-use Rattle.normals_core.specs.Flags.{quadFlag, insideQuadAt, insideQuads, insideQuadStep}
+use Rattle.smoothing.specs.Edges.{is_inside_quad}
+use Rattle.smoothing.proofs.Pairs.{inside_pair}
+use Rattle.smoothing.proofs.Places.{Places, each_at, each_same, edges_same}
+use Rattle.normals_steps.specs.Carried.{is_inside}
+use Rattle.normals_core.specs.Flags.{quad_flag, inside_quad_at, inside_quads, inside_quad_step}
 
-flag-places : (n : ℕ) → Places set (λ (Q : List ℕ) (e : ℕ). get_or Q e 0) (λ (Q : List ℕ). length Q ≡ n) n
-flag-places n = record {
-  whole-put = λ Q e v w. length-set Q e v ∙ w;
-  put-same = λ Q e v w h. get_or-set_same Q e v 0 (omega arith);
-  put-other = λ Q e v d h. get_or-set_other Q e d v 0 h;
-  same-all = λ Q S a b f. ext_get_or 0 Q S (a ∙ sym b) (λ e l. f e (omega arith));
+flag_places : (n : ℕ) → Places set (λ (Q : List ℕ) (e : ℕ). get_or Q e 0) (λ (Q : List ℕ). length Q ≡ n) n
+flag_places n = record {
+  whole_put = λ Q e v w. length-set Q e v ∙ w;
+  put_same = λ Q e v w h. get_or-set_same Q e v 0 (omega arith);
+  put_other = λ Q e v d h. get_or-set_other Q e d v 0 h;
+  same_all = λ Q S a b f. ext_get_or 0 Q S (a ∙ sym b) (λ e l. f e (omega arith));
 }
 
-is-flag : (b : Bool) → eqb (cond b 1 0) 1 ≡ b
-is-flag true = refl
-is-flag false = refl
+is_flag : (b : Bool) → eqb (cond b 1 0) 1 ≡ b
+is_flag true = refl
+is_flag false = refl
 
-pub inside-is : (H : Halfedges) (R : List ℤ) (O : List Float) (old : Bool) (n e : ℕ) → e < n → isInside (insideQuads H R O old n) e ≡ isInsideQuad H R O old e
-unfolding insideQuads insideQuadAt quadFlag
-inside-is H R O old n e h =
-    rw (each-at (flag-places n) (quadFlag H R O old) (replicate n 0) (length-replicate n 0) n (le_refl n) e h) (is-flag (isInsideQuad H R O old e))
+pub inside_is : (H : Halfedges) (R : List ℤ) (O : List Float) (old : Bool) (n e : ℕ) → e < n → is_inside (inside_quads H R O old n) e ≡ is_inside_quad H R O old e
+unfolding inside_quads inside_quad_at quad_flag
+inside_is H R O old n e h =
+    rw (each_at (flag_places n) (quad_flag H R O old) (replicate n 0) (length-replicate n 0) n (le_refl n) e h) (is_flag (is_inside_quad H R O old e))
 
 module _ {H : Halfedges} {n p : ℕ} (s : Sound H n p) (R : List ℤ) (O : List Float) where
   -- both halfedges of an edge have the same flag
-  pub flag-pair : (e : ℕ) → e < n → quadFlag H R O false (pairedHalfedge H e) ≡ quadFlag H R O false e
-  unfolding quadFlag
-  flag-pair e h = rw (inside-pair H R n p O s e h)
+  pub flag_pair : (e : ℕ) → e < n → quad_flag H R O false (paired_halfedge H e) ≡ quad_flag H R O false e
+  unfolding quad_flag
+  flag_pair e h = rw (inside_pair H R n p O s e h)
 
-  steps-same : (old : Bool) (Q : List ℕ) → length Q ≡ n → foldTo (insideQuadStep H R O old) Q n ≡ insideQuads H R O old n
-  unfolding insideQuadStep insideQuads insideQuadAt
-  steps-same true Q w = each-same (flag-places n) (quadFlag H R O true) Q (replicate n 0) w (length-replicate n 0)
-  steps-same false Q w = edges-same (flag-places n) (quadFlag H R O false) s Q (replicate n 0) w (length-replicate n 0)
+  steps_same : (old : Bool) (Q : List ℕ) → length Q ≡ n → fold_to (inside_quad_step H R O old) Q n ≡ inside_quads H R O old n
+  unfolding inside_quad_step inside_quads inside_quad_at
+  steps_same true Q w = each_same (flag_places n) (quad_flag H R O true) Q (replicate n 0) w (length-replicate n 0)
+  steps_same false Q w = edges_same (flag_places n) (quad_flag H R O false) s Q (replicate n 0) w (length-replicate n 0)
 
   -- the loop over e halfedges, all of them
-  pub inside-ended : (old : Bool) (Q Q₀ : List ℕ) (e : ℕ) → length Q₀ ≡ n → e ≡ n → Q ≡ foldTo (insideQuadStep H R O old) Q₀ e → Q ≡ insideQuads H R O old n
-  inside-ended old Q Q₀ e w q f = f ∙ rw q (steps-same old Q₀ w)
+  pub inside_ended : (old : Bool) (Q Q₀ : List ℕ) (e : ℕ) → length Q₀ ≡ n → e ≡ n → Q ≡ fold_to (inside_quad_step H R O old) Q₀ e → Q ≡ inside_quads H R O old n
+  inside_ended old Q Q₀ e w q f = f ∙ rw q (steps_same old Q₀ w)

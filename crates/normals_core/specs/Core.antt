@@ -2,24 +2,24 @@
 use Rattle.std.specs.Prelude.{ℕ, ◌*◌, ◌<◌, ◌≡◌, List, Bool, length, replicate, ℤ, Float}
 use Rattle.float.specs.Ops.{zero}
 use Rattle.linalg.specs.declared.Vec3.{Vec3}
-use Rattle.mesh.specs.Mesh.{halfedgeStride, Halfedges, asHalfedges}
+use Rattle.mesh.specs.Mesh.{halfedge_stride, Halfedges, as_halfedges}
 use Rattle.mesh.specs.Sound.{Sound}
-use Rattle.smoothing.specs.Edges.{isInsideQuad}
-use Rattle.create_shared.specs.Makings.{Tangents, tangentsOf}
+use Rattle.smoothing.specs.Edges.{is_inside_quad}
+use Rattle.create_shared.specs.Makings.{Tangents, tangents_of}
 use Rattle.normals_state.specs.State.{RowIn}
-use Rattle.normals_walks.specs.Walks.{normalsVerts, normalsVertsDirectionless}
-use Rattle.distribute.specs.Distribute.{spreadTangents}
+use Rattle.normals_walks.specs.Walks.{normals_verts, normals_verts_directionless}
+use Rattle.distribute.specs.Distribute.{spread_tangents}
 
 -- ---- what the lists must be for a call: T are the tangents, X, B, C, D and W the scratch lists `fixed`, `inside`, `current`, `desired` and `first`
 
 -- W has a place for each point
 pub record TangentLists (list : List ℤ) (P N A G T : List Float) (X B W : List ℕ) (n : ℕ) : Type 0 where
-  pub sound : Sound (asHalfedges list) n (length W)
-  pub whole : (asHalfedges list).numbers ≡ n * halfedgeStride
+  pub sound : Sound (as_halfedges list) n (length W)
+  pub whole : (as_halfedges list).numbers ≡ n * halfedge_stride
   pub positions : length P ≡ length W * 3
   pub normals : length N ≡ length W * 3
-  pub face-normals : length A ≡ n
-  pub halfedge-normals : (e : ℕ) → e < n → RowIn list G e
+  pub face_normals : length A ≡ n
+  pub halfedge_normals : (e : ℕ) → e < n → RowIn list G e
   pub tangents : length T ≡ n * 4
   pub fixed : length X ≡ n
   pub inside : length B ≡ n
@@ -34,23 +34,23 @@ pub record Lists (list : List ℤ) (P N A G T : List Float) (X B : List ℕ) (C 
 -- ---- the tangents
 
 -- each tangent is 0 and no halfedge fixed to begin with
-abbrev pub noTangents : ℕ → Tangents
-noTangents n = tangentsOf (replicate (n * 4) zero) (replicate n 0)
+abbrev pub no_tangents : ℕ → Tangents
+no_tangents n = tangents_of (replicate (n * 4) zero) (replicate n 0)
 
 -- Before spreading, of n halfedges and p points. The tangents of a further vertex cycle of a point stay 0.
-unfoldable pub normalTangents : Halfedges → List Float → List Float → List Float → List ℤ → (ℕ → Vec3) → List Float → Bool → ℕ → ℕ → Tangents
-normalTangents H P N A R normal T old n p =
-    normalsVerts H P N A normal (isInsideQuad H R T old) n p (noTangents n)
+unfoldable pub normal_tangents : Halfedges → List Float → List Float → List Float → List ℤ → (ℕ → Vec3) → List Float → Bool → ℕ → ℕ → Tangents
+normal_tangents H P N A R normal T old n p =
+    normals_verts H P N A normal (is_inside_quad H R T old) n p (no_tangents n)
 
 -- `create_tangents_from_normals`
-unfoldable pub createTangentsFromNormals : Halfedges → List Float → List Float → List Float → List ℤ → (ℕ → Vec3) → List Float → Bool → ℕ → ℕ → List Float
-createTangentsFromNormals H P N A R normal T old n p =
-    let m = normalTangents H P N A R normal T old n p in
-    (spreadTangents H P N m.fixed m.tangents n).tangents
+unfoldable pub create_tangents_from_normals : Halfedges → List Float → List Float → List Float → List ℤ → (ℕ → Vec3) → List Float → Bool → ℕ → ℕ → List Float
+create_tangents_from_normals H P N A R normal T old n p =
+    let m = normal_tangents H P N A R normal T old n p in
+    (spread_tangents H P N m.fixed m.tangents n).tangents
 
 -- ---- request 3's count: the circular tangents that the making computes on an edge without direction, with those that are written over
 
 -- of the loop over the points. Spreading computes no circular tangent.
-unfoldable pub fromNormalsDirectionless : Halfedges → List Float → List Float → List Float → List ℤ → (ℕ → Vec3) → List Float → Bool → ℕ → ℕ → ℕ
-fromNormalsDirectionless H P N A R normal T old n p =
-    normalsVertsDirectionless H P N A normal (isInsideQuad H R T old) n p (noTangents n)
+unfoldable pub from_normals_directionless : Halfedges → List Float → List Float → List Float → List ℤ → (ℕ → Vec3) → List Float → Bool → ℕ → ℕ → ℕ
+from_normals_directionless H P N A R normal T old n p =
+    normals_verts_directionless H P N A normal (is_inside_quad H R T old) n p (no_tangents n)

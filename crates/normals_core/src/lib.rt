@@ -3,21 +3,21 @@
 
 ghost use Rattle.std.specs.Prelude.{◌≡◌, false, length, set, replicate};
 ghost use Rattle.float.specs.Ops.{zero};
-ghost use Rattle.mesh.specs.Mesh.{asHalfedges};
+ghost use Rattle.mesh.specs.Mesh.{as_halfedges};
 ghost use Rattle.smoothing.specs.Edges.{InsideQuadIn};
-ghost use Rattle.smoothing.specs.Inner.{putEdge};
-ghost use Rattle.create_shared.specs.Makings.{tangentsOf};
-ghost use Rattle.normals_state.specs.State.{getNormal};
+ghost use Rattle.smoothing.specs.Inner.{put_edge};
+ghost use Rattle.create_shared.specs.Makings.{tangents_of};
+ghost use Rattle.normals_state.specs.State.{get_normal};
 ghost use Rattle.normals_state.specs.Units.{UnitsIn};
 ghost use Rattle.distribute_walks.specs.Walks.{Lists as SpreadLists};
-ghost use Rattle.distribute.specs.Distribute.{spreadTangents};
-ghost use Rattle.normals_core.specs.Core.{TangentLists, Lists, normalTangents, createTangentsFromNormals, fromNormalsDirectionless};
-ghost use Rattle.normals_core.specs.Flags.{InsideIn, FlagIn, quadFlag, insideQuads, insideQuadStep};
+ghost use Rattle.distribute.specs.Distribute.{spread_tangents};
+ghost use Rattle.normals_core.specs.Core.{TangentLists, Lists, normal_tangents, create_tangents_from_normals, from_normals_directionless};
+ghost use Rattle.normals_core.specs.Flags.{InsideIn, FlagIn, quad_flag, inside_quads, inside_quad_step};
 
 // The flag of halfedge e: 1 if it is inside a quad.
 fn quad_flag(h: &[i32], refs: &[i32], t: &[f64], old: bool, e: usize) -> u8
-    requires { InsideQuadIn (asHalfedges h.now) t.now e }
-    ensures { result ≡ quadFlag (asHalfedges h.now) refs.now t.now old e }
+    requires { InsideQuadIn (as_halfedges h.now) t.now e }
+    ensures { result ≡ quad_flag (as_halfedges h.now) refs.now t.now old e }
 {
     if smoothing::is_inside_quad(h, refs, t, old, e) {
         return 1;
@@ -28,8 +28,8 @@ fn quad_flag(h: &[i32], refs: &[i32], t: &[f64], old: bool, e: usize) -> u8
 // Writes the flags of both halfedges of an edge at its forward one, e, where there are no old tangents: both are inside a quad
 // or neither is.
 fn put_edge_flags(h: &[i32], refs: &[i32], t: &[f64], inside: &mut [u8], e: usize)
-    requires { FlagIn (asHalfedges h.now) t.now inside.old e }
-    ensures { inside.new ≡ putEdge set (asHalfedges h.now) (quadFlag (asHalfedges h.now) refs.now t.now false) inside.old e }
+    requires { FlagIn (as_halfedges h.now) t.now inside.old e }
+    ensures { inside.new ≡ put_edge set (as_halfedges h.now) (quad_flag (as_halfedges h.now) refs.now t.now false) inside.old e }
 {
     if !mesh::is_forward(h, e) {
         return;
@@ -42,8 +42,8 @@ fn put_edge_flags(h: &[i32], refs: &[i32], t: &[f64], inside: &mut [u8], e: usiz
 
 // The body of the loop over the halfedges.
 fn inside_quad_step(h: &[i32], refs: &[i32], t: &[f64], old: bool, inside: &mut [u8], e: usize)
-    requires { FlagIn (asHalfedges h.now) t.now inside.old e }
-    ensures { inside.new ≡ insideQuadStep (asHalfedges h.now) refs.now t.now old inside.old e }
+    requires { FlagIn (as_halfedges h.now) t.now inside.old e }
+    ensures { inside.new ≡ inside_quad_step (as_halfedges h.now) refs.now t.now old inside.old e }
 {
     if old {
         inside[e] = quad_flag(h, refs, t, true, e);
@@ -54,8 +54,8 @@ fn inside_quad_step(h: &[i32], refs: &[i32], t: &[f64], old: bool, inside: &mut 
 
 // A 1 for each halfedge inside a quad and a 0 for each other one, whatever the list held.
 fn inside_quads(n: usize, h: &[i32], refs: &[i32], t: &[f64], old: bool, inside: &mut [u8])
-    requires { InsideIn (asHalfedges h.now) t.now inside.old n }
-    ensures { inside.new ≡ insideQuads (asHalfedges h.now) refs.now t.now old n }
+    requires { InsideIn (as_halfedges h.now) t.now inside.old n }
+    ensures { inside.new ≡ inside_quads (as_halfedges h.now) refs.now t.now old n }
 {
     let mut e = 0;
     while e < n {
@@ -81,8 +81,8 @@ fn normal_tangents(
     first: &mut [usize],
 ) -> usize
     requires { TangentLists h.now pos.now normals.now face_normals.now rows.now t.old fixed.old inside.old first.old n × UnitsIn face_normals.now face_units.now n }
-    ensures tangents { tangentsOf t.new fixed.new ≡ normalTangents (asHalfedges h.now) pos.now normals.now face_normals.now refs.now (getNormal h.now rows.now) t.old old n (length first.old) }
-    ensures directionless { result ≡ fromNormalsDirectionless (asHalfedges h.now) pos.now normals.now face_normals.now refs.now (getNormal h.now rows.now) t.old old n (length first.old) }
+    ensures tangents { tangents_of t.new fixed.new ≡ normal_tangents (as_halfedges h.now) pos.now normals.now face_normals.now refs.now (get_normal h.now rows.now) t.old old n (length first.old) }
+    ensures directionless { result ≡ from_normals_directionless (as_halfedges h.now) pos.now normals.now face_normals.now refs.now (get_normal h.now rows.now) t.old old n (length first.old) }
 {
     inside_quads(n, h, refs, t, old, inside);
     common::fill_floats(t, 0.0);
@@ -134,13 +134,13 @@ pub fn make_tangents(
     first: &mut [usize],
 ) -> usize
     requires { Lists h.now pos.now normals.now face_normals.now rows.now t.old fixed.old inside.old current.old desired.old first.old n p }
-    ensures tangents { t.new ≡ createTangentsFromNormals (asHalfedges h.now) pos.now normals.now face_normals.now refs.now (getNormal h.now rows.now) t.old old n p }
+    ensures tangents { t.new ≡ create_tangents_from_normals (as_halfedges h.now) pos.now normals.now face_normals.now refs.now (get_normal h.now rows.now) t.old old n p }
     ensures fixed { fixed.new ≡ replicate n 0 }
     ensures inside { inside.new ≡ replicate n 0 }
     ensures current { current.new ≡ replicate n zero }
     ensures desired { desired.new ≡ replicate n zero }
     ensures first { first.new ≡ replicate p 0 }
-    ensures directionless { result ≡ fromNormalsDirectionless (asHalfedges h.now) pos.now normals.now face_normals.now refs.now (getNormal h.now rows.now) t.old old n p }
+    ensures directionless { result ≡ from_normals_directionless (as_halfedges h.now) pos.now normals.now face_normals.now refs.now (get_normal h.now rows.now) t.old old n p }
 {
     normals_state::put_units(n, face_normals, current);
     let directionless = normal_tangents(

@@ -7,16 +7,16 @@ use lib.Dec.{T}
 use lib.Ieee.{Float, binary64, fits, of_bits}
 use lib.Ieee.Bits.{of_bits-to_bits}
 use borrow.Author.Tests.{eq-eqb, eqb-true}
-use Rattle.float.specs.F64.{bitsOf}
+use Rattle.float.specs.F64.{bits_of}
 use Rattle.linalg.specs.declared.Vec3.{Vec3}
-use Rattle.common.proofs.Tests.{and-true}
+use Rattle.common.proofs.Tests.{and_true}
 use Rattle.mesh.specs.Mesh.{Halfedges}
-use Rattle.cycles.specs.Cycles.{nextAround}
+use Rattle.cycles.specs.Cycles.{next_around}
 use Rattle.normals_state.specs.declared.CycleState.{CycleState}
-use Rattle.normals_state.specs.State.{nextState}
-use Rattle.normals_state.specs.Carried.{halfedgeNormal, sameBits, sameNormal, nextStateOf}
+use Rattle.normals_state.specs.State.{next_state}
+use Rattle.normals_state.specs.Carried.{halfedge_normal, same_bits, same_normal, next_state_of}
 use Rattle.normals_state.specs.Units.{UnitsIn}
-use Rattle.normals_state.proofs.Units.{flat-is}
+use Rattle.normals_state.proofs.Units.{flat_is}
 
 -- ---- the same bit for bit
 
@@ -24,16 +24,16 @@ use Rattle.normals_state.proofs.Units.{flat-is}
 abbrev pub Fits : Float → Type 0
 Fits a = fits binary64 a ≡ true
 
-read-back : (a : Float) → Fits a → of_bits binary64 (bitsOf a) ≡ a
-read-back a f = of_bits-to_bits binary64 a (subst T (sym f) tt)
+read_back : (a : Float) → Fits a → of_bits binary64 (bits_of a) ≡ a
+read_back a f = of_bits-to_bits binary64 a (subst T (sym f) tt)
 
-pub same-bits : (a b : Float) → Fits a → Fits b → sameBits a b ≡ true → a ≡ b
-unfolding sameBits
-same-bits a b f g h = sym (read-back a f) ∙ ap (of_bits binary64) (eqb-true (bitsOf a) (bitsOf b) h) ∙ read-back b g
+pub same_bits_lem : (a b : Float) → Fits a → Fits b → same_bits a b ≡ true → a ≡ b
+unfolding same_bits
+same_bits_lem a b f g h = sym (read_back a f) ∙ ap (of_bits binary64) (eqb-true (bits_of a) (bits_of b) h) ∙ read_back b g
 
-pub bits-same : (a b : Float) → a ≡ b → sameBits a b ≡ true
-unfolding sameBits
-bits-same a b q = eq-eqb (bitsOf a) (bitsOf b) (ap bitsOf q)
+pub bits_same : (a b : Float) → a ≡ b → same_bits a b ≡ true
+unfolding same_bits
+bits_same a b q = eq-eqb (bits_of a) (bits_of b) (ap bits_of q)
 
 pub record FitsAll (v : Vec3) : Type 0 where
   pub x : Fits v.x
@@ -43,24 +43,24 @@ pub record FitsAll (v : Vec3) : Type 0 where
 abbrev vec : Float → Float → Float → Vec3
 vec x y z = record { x = x; y = y; z = z }
 
-pub same-normal : (a b : Vec3) → FitsAll a → FitsAll b → sameNormal a b ≡ true → a ≡ b
-unfolding sameNormal
-same-normal a b f g h =
-    let k = and-true _ (sameBits a.z b.z) h in
-    let j = and-true (sameBits a.x b.x) (sameBits a.y b.y) k.0 in
-    let p = same-bits a.x b.x f.x g.x j.0 in
-    let q = same-bits a.y b.y f.y g.y j.1 in
-    let r = same-bits a.z b.z f.z g.z k.1 in
+pub same_normal_lem : (a b : Vec3) → FitsAll a → FitsAll b → same_normal a b ≡ true → a ≡ b
+unfolding same_normal
+same_normal_lem a b f g h =
+    let k = and_true _ (same_bits a.z b.z) h in
+    let j = and_true (same_bits a.x b.x) (same_bits a.y b.y) k.0 in
+    let p = same_bits_lem a.x b.x f.x g.x j.0 in
+    let q = same_bits_lem a.y b.y f.y g.y j.1 in
+    let r = same_bits_lem a.z b.z f.z g.z k.1 in
     λ i. vec (p i) (q i) (r i)
 
-pub normal-same : (a b : Vec3) → a ≡ b → sameNormal a b ≡ true
-unfolding sameNormal
-normal-same a b q = rw (bits-same a.x b.x (ap (λ (v : Vec3). v.x) q), bits-same a.y b.y (ap (λ (v : Vec3). v.y) q), bits-same a.z b.z (ap (λ (v : Vec3). v.z) q)) refl
+pub normal_same : (a b : Vec3) → a ≡ b → same_normal a b ≡ true
+unfolding same_normal
+normal_same a b q = rw (bits_same a.x b.x (ap (λ (v : Vec3). v.x) q), bits_same a.y b.y (ap (λ (v : Vec3). v.y) q), bits_same a.z b.z (ap (λ (v : Vec3). v.z) q)) refl
 
 -- ---- the state after a halfedge
 
 -- U holds the unit vectors of the triangles' normals A
-pub next-state-by : {A U : List Float} {n : ℕ} → UnitsIn A U n → (H : Halfedges) (normal : ℕ → Vec3) (s : CycleState) (e : ℕ) → e / 3 * 3 + 3 ≤ n → nextAround H e / 3 * 3 + 3 ≤ n
-    → nextState H A normal s e ≡ nextStateOf s (halfedgeNormal U normal e) (halfedgeNormal U normal (nextAround H e)) e
-unfolding nextState nextStateOf halfedgeNormal
-next-state-by w H normal s e h k = rw (flat-is w normal e h, flat-is w normal (nextAround H e) k) refl
+pub next_state_by : {A U : List Float} {n : ℕ} → UnitsIn A U n → (H : Halfedges) (normal : ℕ → Vec3) (s : CycleState) (e : ℕ) → e / 3 * 3 + 3 ≤ n → next_around H e / 3 * 3 + 3 ≤ n
+    → next_state H A normal s e ≡ next_state_of s (halfedge_normal U normal e) (halfedge_normal U normal (next_around H e)) e
+unfolding next_state next_state_of halfedge_normal
+next_state_by w H normal s e h k = rw (flat_is w normal e h, flat_is w normal (next_around H e) k) refl

@@ -8,13 +8,13 @@ use lib.ListN.{length, set, length-set}
 use lib.Seq.{get_or-set_same, get_or-set_other, lt-length-set}
 use lib.Ieee.{Float}
 use Rattle.linalg.specs.declared.Vec3.{Vec3}
-use Rattle.common.specs.Fold.{foldTo}
-use Rattle.smoothing.specs.Directions.{safeNormalize, equalUnits}
-use Rattle.smoothing.specs.Lists.{pointAt}
-use Rattle.smoothing.proofs.Directions.{equal-by-units}
-use Rattle.normals_state.specs.State.{hasFaceNormal}
-use Rattle.normals_state.specs.Carried.{halfedgeNormal}
-use Rattle.normals_state.specs.Units.{UnitsIn, putUnit, putUnits}
+use Rattle.common.specs.Fold.{fold_to}
+use Rattle.smoothing.specs.Directions.{safe_normalize, equal_units}
+use Rattle.smoothing.specs.Lists.{point_at}
+use Rattle.smoothing.proofs.Directions.{equal_by_units}
+use Rattle.normals_state.specs.State.{has_face_normal}
+use Rattle.normals_state.specs.Carried.{halfedge_normal}
+use Rattle.normals_state.specs.Units.{UnitsIn, put_unit, put_units}
 
 -- ---- three numbers
 
@@ -22,9 +22,9 @@ module _ (U : List Float) (t : ℕ) (v : Vec3) where
   abbrev stored : List Float
   stored = set (set (set U (t * 3) v.x) (t * 3 + 1) v.y) (t * 3 + 2) v.z
 
-  stored-same : t * 3 + 3 ≤ length U → pointAt stored t ≡ v
-  unfolding pointAt
-  stored-same h =
+  stored_same : t * 3 + 3 ≤ length U → point_at stored t ≡ v
+  unfolding point_at
+  stored_same h =
       let a : t * 3 < length U = omega arith in
       let b : t * 3 + 1 < length U = omega arith in
       let c : t * 3 + 2 < length U = omega arith in
@@ -33,9 +33,9 @@ module _ (U : List Float) (t : ℕ) (v : Vec3) where
       let bc : t * 3 + 1 ≡ t * 3 + 2 → ⊥ = λ q. omega arith in
       simp (get_or-set_same, get_or-set_other, lt-length-set)
 
-  stored-other : (s : ℕ) → (s ≡ t → ⊥) → pointAt stored s ≡ pointAt U s
-  unfolding pointAt
-  stored-other s h =
+  stored_other : (s : ℕ) → (s ≡ t → ⊥) → point_at stored s ≡ point_at U s
+  unfolding point_at
+  stored_other s h =
       let aa : s * 3 ≡ t * 3 → ⊥ = λ q. h (omega arith) in
       let ab : s * 3 ≡ t * 3 + 1 → ⊥ = λ q. h (omega arith) in
       let ac : s * 3 ≡ t * 3 + 2 → ⊥ = λ q. h (omega arith) in
@@ -52,34 +52,34 @@ module _ (U : List Float) (t : ℕ) (v : Vec3) where
 module _ (A U : List Float) (n : ℕ) (whole : length U ≡ n) where
   record Units (W : List Float) (k : ℕ) : Type 0 where
     numbers : length W ≡ n
-    passed : (t : ℕ) → t < k → pointAt W t ≡ safeNormalize (pointAt A t)
+    passed : (t : ℕ) → t < k → point_at W t ≡ safe_normalize (point_at A t)
 
-  one-more : (W : List Float) (k : ℕ) → k * 3 + 3 ≤ n → Units W k → Units (putUnit A W k) (suc k)
-  unfolding putUnit
-  one-more W k h w =
+  one_more : (W : List Float) (k : ℕ) → k * 3 + 3 ≤ n → Units W k → Units (put_unit A W k) (suc k)
+  unfolding put_unit
+  one_more W k h w =
       record {
         numbers = simp length-set w.numbers;
         passed = λ t l. go t l (ℕ_discrete t k);
       }
     where
-      go : (t : ℕ) → t < suc k → Dec (t ≡ k) → pointAt (stored W k (safeNormalize (pointAt A k))) t ≡ safeNormalize (pointAt A t)
-      go t l (yes q) = rw q (stored-same W k (safeNormalize (pointAt A k)) (omega (arith, w.numbers)))
-      go t l (no q) = stored-other W k (safeNormalize (pointAt A k)) t q ∙ w.passed t (omega arith)
+      go : (t : ℕ) → t < suc k → Dec (t ≡ k) → point_at (stored W k (safe_normalize (point_at A k))) t ≡ safe_normalize (point_at A t)
+      go t l (yes q) = rw q (stored_same W k (safe_normalize (point_at A k)) (omega (arith, w.numbers)))
+      go t l (no q) = stored_other W k (safe_normalize (point_at A k)) t q ∙ w.passed t (omega arith)
 
-  filled : (k : ℕ) → k * 3 ≤ n → Units (foldTo (putUnit A) U k) k
-  unfolding foldTo
+  filled : (k : ℕ) → k * 3 ≤ n → Units (fold_to (put_unit A) U k) k
+  unfolding fold_to
   filled zero h = record { numbers = whole; passed = λ t l. absurd (omega arith) }
-  filled (suc k) h = one-more (foldTo (putUnit A) U k) k (omega arith) (filled k (omega arith))
+  filled (suc k) h = one_more (fold_to (put_unit A) U k) k (omega arith) (filled k (omega arith))
 
   -- whatever it held before
-  pub units-in : {W : List Float} → W ≡ putUnits A U n → UnitsIn A W n
-  unfolding putUnits
-  units-in q =
+  pub units_in : {W : List Float} → W ≡ put_units A U n → UnitsIn A W n
+  unfolding put_units
+  units_in q =
       let w = filled (n / 3) (omega arith) in
       rw q (record { numbers = w.numbers; units = λ t h. w.passed t (omega arith) })
 
 -- ---- the normal of a halfedge of triangle e / 3
 
-pub flat-is : {A U : List Float} {n : ℕ} → UnitsIn A U n → (normal : ℕ → Vec3) (e : ℕ) → e / 3 * 3 + 3 ≤ n → hasFaceNormal A normal e ≡ (halfedgeNormal U normal e).flat
-unfolding hasFaceNormal halfedgeNormal
-flat-is {A} w normal e h = equal-by-units (normal e) (pointAt A (e / 3)) ∙ ap (equalUnits (safeNormalize (normal e))) (sym (w.units (e / 3) h))
+pub flat_is : {A U : List Float} {n : ℕ} → UnitsIn A U n → (normal : ℕ → Vec3) (e : ℕ) → e / 3 * 3 + 3 ≤ n → has_face_normal A normal e ≡ (halfedge_normal U normal e).flat
+unfolding has_face_normal halfedge_normal
+flat_is {A} w normal e h = equal_by_units (normal e) (point_at A (e / 3)) ∙ ap (equal_units (safe_normalize (normal e))) (sym (w.units (e / 3) h))

@@ -9,17 +9,17 @@ use Rattle.normals_state.specs.declared.PackedEdges.{PackedEdges}
 use Rattle.normals_state.specs.declared.PackedStart.{PackedStart}
 use Rattle.normals_state.specs.declared.PackedState.{PackedState}
 
-unfoldable pub faceEdgesOf : PackedEdges → FaceEdges
-faceEdgesOf p =
+unfoldable pub face_edges_of : PackedEdges → FaceEdges
+face_edges_of p =
     cond (eqb p.count 0) NoEdge
     (cond (eqb p.count 1) (OneEdge p.first) (cond (eqb p.count 2) (TwoEdges p.first p.second) Spoiled))
 
-unfoldable pub startOf : PackedStart → StartHalfedge
-startOf p = cond (eqb p.tag 0) NoneMissing (cond (eqb p.tag 1) SomeMissing (StartAt p.at))
+unfoldable pub start_of : PackedStart → StartHalfedge
+start_of p = cond (eqb p.tag 0) NoneMissing (cond (eqb p.tag 1) SomeMissing (StartAt p.at))
 
-unfoldable pub stateOf : PackedState → CycleState
-stateOf p = record {
-  face_edges = faceEdgesOf p.edges;
-  start_halfedge = startOf p.start;
+unfoldable pub state_of : PackedState → CycleState
+state_of p = record {
+  face_edges = face_edges_of p.edges;
+  start_halfedge = start_of p.start;
   last_normal = p.last_normal;
 }

@@ -3,11 +3,11 @@
 
 ghost use Rattle.std.specs.Prelude.{◌≡◌, ◌+◌, ◌*◌, ◌/◌, ◌≤◌, length};
 ghost use Rattle.std.specs.Bool.{xor};
-ghost use Rattle.smoothing.specs.Directions.{safeNormalize};
-ghost use Rattle.normals_state.specs.State.{RowIn, getNormal, isZero, normalOr, addFaceEdge, nextFaceEdges, setStart, missingStart, nextStart, someMissing, nextLast, startState, spoilFaceEdges};
-ghost use Rattle.normals_state.specs.Carried.{halfedgeNormal, sameBits, sameNormal, nextStateOf};
-ghost use Rattle.normals_state.specs.Packed.{faceEdgesOf, startOf, stateOf};
-ghost use Rattle.normals_state.specs.Units.{putUnit, putUnits};
+ghost use Rattle.smoothing.specs.Directions.{safe_normalize};
+ghost use Rattle.normals_state.specs.State.{RowIn, get_normal, is_zero, normal_or, add_face_edge, next_face_edges, set_start, missing_start, next_start, some_missing, next_last, start_state, spoil_face_edges};
+ghost use Rattle.normals_state.specs.Carried.{halfedge_normal, same_bits, same_normal, next_state_of};
+ghost use Rattle.normals_state.specs.Packed.{face_edges_of, start_of, state_of};
+ghost use Rattle.normals_state.specs.Units.{put_unit, put_units};
 
 use linalg::Vec3;
 
@@ -77,21 +77,21 @@ pub struct PackedState {
 // The normal of halfedge e, which stands at its row. The one place where a row is read.
 pub fn get_normal(h: &[i32], rows: &[f64], e: usize) -> Vec3
     requires { RowIn h.now rows.now e }
-    ensures { result ≡ getNormal h.now rows.now e }
+    ensures { result ≡ get_normal h.now rows.now e }
 {
     smoothing::point_at(rows, mesh::prop_vert(h, e))
 }
 
 // Is each number 0? That of a missing normal is.
 pub fn is_zero(v: Vec3) -> bool
-    ensures { result ≡ isZero v }
+    ensures { result ≡ is_zero v }
 {
     common::both(common::both(v.x == 0.0, v.y == 0.0), v.z == 0.0)
 }
 
 // A normal, or another where it is missing.
 pub fn normal_or(v: Vec3, other: Vec3) -> Vec3
-    ensures { result ≡ normalOr v other }
+    ensures { result ≡ normal_or v other }
 {
     if is_zero(v) {
         return other;
@@ -101,13 +101,13 @@ pub fn normal_or(v: Vec3, other: Vec3) -> Vec3
 
 // Are the two the same bit for bit? Zeros of different sign are not.
 fn same_number(a: f64, b: f64) -> bool
-    ensures { result ≡ sameBits a b }
+    ensures { result ≡ same_bits a b }
 {
     float::bits(a) == float::bits(b)
 }
 
 fn same_normal(a: Vec3, b: Vec3) -> bool
-    ensures { result ≡ sameNormal a b }
+    ensures { result ≡ same_normal a b }
 {
     let same_x = same_number(a.x, b.x);
     let same_y = same_number(a.y, b.y);
@@ -117,8 +117,8 @@ fn same_normal(a: Vec3, b: Vec3) -> bool
 
 // The unit vector of a normal, where that of the normal before it is known: on a smooth surface the two are mostly the same.
 fn unit_after(normal: Vec3, before: Vec3, unit: Vec3) -> Vec3
-    requires { unit ≡ safeNormalize before }
-    ensures { result ≡ safeNormalize normal }
+    requires { unit ≡ safe_normalize before }
+    ensures { result ≡ safe_normalize normal }
 {
     if same_normal(normal, before) {
         return unit;
@@ -129,7 +129,7 @@ fn unit_after(normal: Vec3, before: Vec3, unit: Vec3) -> Vec3
 // The unit vector of the normal of triangle t, in its place.
 fn put_unit(face_normals: &[f64], units: &mut [f64], t: usize)
     requires { (t * 3 + 3 ≤ length face_normals.now) × (t * 3 + 3 ≤ length units.old) }
-    ensures { units.new ≡ putUnit face_normals.now units.old t }
+    ensures { units.new ≡ put_unit face_normals.now units.old t }
 {
     let unit = smoothing::unit_vector(smoothing::point_at(face_normals, t));
     let at = t * 3;
@@ -141,7 +141,7 @@ fn put_unit(face_normals: &[f64], units: &mut [f64], t: usize)
 // The unit vectors of all triangles' normals, three numbers each, whatever the list held.
 pub fn put_units(n: usize, face_normals: &[f64], units: &mut [f64])
     requires { (length face_normals.now ≡ n) × (length units.old ≡ n) }
-    ensures { units.new ≡ putUnits face_normals.now units.old n }
+    ensures { units.new ≡ put_units face_normals.now units.old n }
 {
     let mut t = 0;
     while t < n / 3 {
@@ -160,8 +160,8 @@ pub fn normal_after(
     unit: Vec3,
     e: usize,
 ) -> HalfedgeNormal
-    requires { (e / 3 * 3 + 3 ≤ length face_units.now) × RowIn h.now rows.now e × (unit ≡ safeNormalize before) }
-    ensures { result ≡ halfedgeNormal face_units.now (getNormal h.now rows.now) e }
+    requires { (e / 3 * 3 + 3 ≤ length face_units.now) × RowIn h.now rows.now e × (unit ≡ safe_normalize before) }
+    ensures { result ≡ halfedge_normal face_units.now (get_normal h.now rows.now) e }
 {
     let normal = get_normal(h, rows, e);
     let unit = unit_after(normal, before, unit);
@@ -177,7 +177,7 @@ pub fn normal_after(
 // The same where no normal is before it.
 pub fn halfedge_normal(h: &[i32], face_units: &[f64], rows: &[f64], e: usize) -> HalfedgeNormal
     requires { (e / 3 * 3 + 3 ≤ length face_units.now) × RowIn h.now rows.now e }
-    ensures { result ≡ halfedgeNormal face_units.now (getNormal h.now rows.now) e }
+    ensures { result ≡ halfedge_normal face_units.now (get_normal h.now rows.now) e }
 {
     let normal = get_normal(h, rows, e);
     let unit = smoothing::unit_vector(normal);
@@ -187,7 +187,7 @@ pub fn halfedge_normal(h: &[i32], face_units: &[f64], rows: &[f64], e: usize) ->
 // ---- what the loop carries
 
 fn add_face_edge(edges: PackedEdges, e: usize) -> PackedEdges
-    ensures { faceEdgesOf result ≡ addFaceEdge (faceEdgesOf edges) e }
+    ensures { face_edges_of result ≡ add_face_edge (face_edges_of edges) e }
 {
     if edges.count == 0 {
         return PackedEdges {
@@ -218,7 +218,7 @@ fn differ(a: bool, b: bool) -> bool
 }
 
 fn next_face_edges(here: bool, next: bool, edges: PackedEdges, e: usize) -> PackedEdges
-    ensures { faceEdgesOf result ≡ nextFaceEdges here next (faceEdgesOf edges) e }
+    ensures { face_edges_of result ≡ next_face_edges here next (face_edges_of edges) e }
 {
     if differ(here, next) {
         return add_face_edge(edges, e);
@@ -228,7 +228,7 @@ fn next_face_edges(here: bool, next: bool, edges: PackedEdges, e: usize) -> Pack
 
 // Another start, where there is none yet.
 fn set_start(start: PackedStart, to: PackedStart) -> PackedStart
-    ensures { startOf result ≡ setStart (startOf start) (startOf to) }
+    ensures { start_of result ≡ set_start (start_of start) (start_of to) }
 {
     if start.tag == 0 {
         return to;
@@ -241,7 +241,7 @@ fn set_start(start: PackedStart, to: PackedStart) -> PackedStart
 
 // What a missing normal at halfedge e sets, by whether the next one is missing too.
 fn missing_start(next: bool, e: usize) -> PackedStart
-    ensures { startOf result ≡ missingStart next e }
+    ensures { start_of result ≡ missing_start next e }
 {
     if next {
         return PackedStart { tag: 1, at: 0 };
@@ -250,7 +250,7 @@ fn missing_start(next: bool, e: usize) -> PackedStart
 }
 
 fn next_start(here: bool, next: bool, start: PackedStart, e: usize) -> PackedStart
-    ensures { startOf result ≡ nextStart here next (startOf start) e }
+    ensures { start_of result ≡ next_start here next (start_of start) e }
 {
     if here {
         return set_start(start, missing_start(next, e));
@@ -259,7 +259,7 @@ fn next_start(here: bool, next: bool, start: PackedStart, e: usize) -> PackedSta
 }
 
 fn next_last(here: bool, next: bool, normal: Vec3, last: Vec3) -> Vec3
-    ensures { result ≡ nextLast here next normal last }
+    ensures { result ≡ next_last here next normal last }
 {
     if common::both(!here, next) {
         normal
@@ -270,7 +270,7 @@ fn next_last(here: bool, next: bool, normal: Vec3, last: Vec3) -> Vec3
 
 // What is carried before the first halfedge.
 pub fn start_state() -> PackedState
-    ensures { stateOf result ≡ startState }
+    ensures { state_of result ≡ start_state }
 {
     PackedState {
         edges: PackedEdges {
@@ -294,7 +294,7 @@ pub fn next_state(
     next: HalfedgeNormal,
     e: usize,
 ) -> PackedState
-    ensures { stateOf result ≡ nextStateOf (stateOf state) here next e }
+    ensures { state_of result ≡ next_state_of (state_of state) here next e }
 {
     let edges = state.edges;
     let start = state.start;
@@ -308,7 +308,7 @@ pub fn next_state(
 
 // There is no single flat face.
 pub fn spoil_face_edges(state: PackedState) -> PackedState
-    ensures { stateOf result ≡ spoilFaceEdges (stateOf state) }
+    ensures { state_of result ≡ spoil_face_edges (state_of state) }
 {
     let start = state.start;
     let last_normal = state.last_normal;
@@ -326,7 +326,7 @@ pub fn spoil_face_edges(state: PackedState) -> PackedState
 // ---- what the loop carried, as the enums
 
 fn unpack_edges(edges: PackedEdges) -> FaceEdges
-    ensures { result ≡ faceEdgesOf edges }
+    ensures { result ≡ face_edges_of edges }
 {
     if edges.count == 0 {
         return FaceEdges::NoEdge;
@@ -344,7 +344,7 @@ fn unpack_edges(edges: PackedEdges) -> FaceEdges
 }
 
 fn unpack_start(start: PackedStart) -> StartHalfedge
-    ensures { result ≡ startOf start }
+    ensures { result ≡ start_of start }
 {
     if start.tag == 0 {
         return StartHalfedge::NoneMissing;
@@ -356,7 +356,7 @@ fn unpack_start(start: PackedStart) -> StartHalfedge
 }
 
 pub fn unpack(state: PackedState) -> CycleState
-    ensures { result ≡ stateOf state }
+    ensures { result ≡ state_of state }
 {
     let edges = state.edges;
     let start = state.start;
@@ -370,7 +370,7 @@ pub fn unpack(state: PackedState) -> CycleState
 
 // Is any normal of the vertex cycle missing?
 pub fn some_missing(start: StartHalfedge) -> bool
-    ensures { result ≡ someMissing start }
+    ensures { result ≡ some_missing start }
 {
     match start {
         StartHalfedge::NoneMissing => false,

@@ -9,97 +9,97 @@ use Rattle.float.specs.Ops.{zero, one}
 use Rattle.linalg.specs.declared.Vec3.{Vec3}
 use Rattle.linalg.specs.declared.Vec4.{Vec4}
 use Rattle.mesh.specs.Mesh.{Halfedges}
-use Rattle.smoothing.specs.Directions.{vec3FromVec4, circularTangent}
-use Rattle.smoothing.specs.Edges.{edgeVec}
-use Rattle.smoothing.proofs.Inner.{tangent-by-direction}
-use Rattle.smoothing.specs.Lists.{tangentAt, putTangent}
-use Rattle.smoothing.proofs.Directions.{equal-by-units}
-use Rattle.smoothing.proofs.Tangents.{weight-put-same, put-put}
-use Rattle.cycles.specs.Cycles.{nextAround}
-use Rattle.create_shared.specs.Makings.{directionlessAt}
+use Rattle.smoothing.specs.Directions.{vec3_from_vec4, circular_tangent}
+use Rattle.smoothing.specs.Edges.{edge_vec}
+use Rattle.smoothing.proofs.Inner.{tangent_by_direction}
+use Rattle.smoothing.specs.Lists.{tangent_at, put_tangent}
+use Rattle.smoothing.proofs.Directions.{equal_by_units}
+use Rattle.smoothing.proofs.Tangents.{weight_put_same, put_put}
+use Rattle.cycles.specs.Cycles.{next_around}
+use Rattle.create_shared.specs.Makings.{directionless_at}
 use Rattle.normals_state.specs.declared.CycleState.{CycleState}
-use Rattle.normals_state.specs.State.{isMissing, nextState}
-use Rattle.normals_state.specs.Carried.{halfedgeNormal}
+use Rattle.normals_state.specs.State.{is_missing, next_state}
+use Rattle.normals_state.specs.Carried.{halfedge_normal}
 use Rattle.normals_state.specs.Units.{UnitsIn}
-use Rattle.normals_state.proofs.Carried.{next-state-by}
-use Rattle.normals_steps.specs.Steps.{tangentBetween, withWeight, insideQuadWeight, missingNormalWeight, flagTangent, Walk, walkOf, tangentStep, normalStep, normalStepDirectionless}
-use Rattle.normals_steps.specs.Carried.{directionBetween, tangentStepOf, normalStepOf, normalStepDirectionlessOf}
+use Rattle.normals_state.proofs.Carried.{next_state_by}
+use Rattle.normals_steps.specs.Steps.{tangent_between, with_weight, inside_quad_weight, missing_normal_weight, flag_tangent, Walk, walk_of, tangent_step, normal_step, normal_step_directionless}
+use Rattle.normals_steps.specs.Carried.{direction_between, tangent_step_of, normal_step_of, normal_step_directionless_of}
 
 -- ---- the weight says whether there is a flag
 
-inside-below : lt insideQuadWeight zero ≡ true
+inside_below : lt inside_quad_weight zero ≡ true
 unfolding lt neg of_bits
-inside-below = refl
+inside_below = refl
 
-missing-below : lt missingNormalWeight zero ≡ true
+missing_below : lt missing_normal_weight zero ≡ true
 unfolding lt neg of_bits
-missing-below = refl
+missing_below = refl
 
-pub one-above : lt one zero ≡ false
+pub one_above : lt one zero ≡ false
 unfolding lt of_bits
-one-above = refl
+one_above = refl
 
-flag-below : (inside : Bool) → lt (cond inside insideQuadWeight missingNormalWeight) zero ≡ true
-flag-below true = inside-below
-flag-below false = missing-below
+flag_below : (inside : Bool) → lt (cond inside inside_quad_weight missing_normal_weight) zero ≡ true
+flag_below true = inside_below
+flag_below false = missing_below
 
-flag-is : (missing inside : Bool) (last : Vec3) (t : Vec4) → inside || missing ≡ true → flagTangent missing inside last t ≡ withWeight last (cond inside insideQuadWeight missingNormalWeight)
-unfolding flagTangent
-flag-is missing true last t h = refl
-flag-is true false last t h = refl
-flag-is false false last t h = absurd (true≢false (sym h))
+flag_is : (missing inside : Bool) (last : Vec3) (t : Vec4) → inside || missing ≡ true → flag_tangent missing inside last t ≡ with_weight last (cond inside inside_quad_weight missing_normal_weight)
+unfolding flag_tangent
+flag_is missing true last t h = refl
+flag_is true false last t h = refl
+flag_is false false last t h = absurd (true≢false (sym h))
 
-no-flag-is : (missing inside : Bool) (last : Vec3) (t : Vec4) → inside || missing ≡ false → flagTangent missing inside last t ≡ withWeight (vec3FromVec4 t) one
-unfolding flagTangent
-no-flag-is missing true last t h = absurd (true≢false h)
-no-flag-is true false last t h = absurd (true≢false h)
-no-flag-is false false last t h = refl
+no_flag_is : (missing inside : Bool) (last : Vec3) (t : Vec4) → inside || missing ≡ false → flag_tangent missing inside last t ≡ with_weight (vec3_from_vec4 t) one
+unfolding flag_tangent
+no_flag_is missing true last t h = absurd (true≢false h)
+no_flag_is true false last t h = absurd (true≢false h)
+no_flag_is false false last t h = refl
 
 -- ---- a halfedge e without a flag
 
-pub tangent-between-by : (H : Halfedges) (P A : List Float) (a b : Vec3) (equal : Bool) (e : ℕ) → tangentBetween H P A a b equal e ≡ circularTangent (directionBetween H A a b equal (edgeVec H P e) e) (edgeVec H P e)
-unfolding tangentBetween directionBetween
-tangent-between-by H P A a b true e = tangent-by-direction H P A a e
-tangent-between-by H P A a b false e = refl
+pub tangent_between_by : (H : Halfedges) (P A : List Float) (a b : Vec3) (equal : Bool) (e : ℕ) → tangent_between H P A a b equal e ≡ circular_tangent (direction_between H A a b equal (edge_vec H P e) e) (edge_vec H P e)
+unfolding tangent_between direction_between
+tangent_between_by H P A a b true e = tangent_by_direction H P A a e
+tangent_between_by H P A a b false e = refl
 
-pub tangent-step-by : (H : Halfedges) (P A U : List Float) (normal : ℕ → Vec3) (m : Walk) (e : ℕ) → tangentStep H P A normal m e ≡ tangentStepOf H P A (halfedgeNormal U normal e) (halfedgeNormal U normal (nextAround H e)) m e
-unfolding tangentStep tangentStepOf halfedgeNormal
-tangent-step-by H P A U normal m e = rw (equal-by-units (normal (nextAround H e)) (normal e)) refl
+pub tangent_step_by : (H : Halfedges) (P A U : List Float) (normal : ℕ → Vec3) (m : Walk) (e : ℕ) → tangent_step H P A normal m e ≡ tangent_step_of H P A (halfedge_normal U normal e) (halfedge_normal U normal (next_around H e)) m e
+unfolding tangent_step tangent_step_of halfedge_normal
+tangent_step_by H P A U normal m e = rw (equal_by_units (normal (next_around H e)) (normal e)) refl
 
 -- ---- the body of the loop, at halfedge e
 
 module _ (H : Halfedges) (P A : List Float) (normal : ℕ → Vec3) (inside : ℕ → Bool) (m : Walk) (e : ℕ) (h : e * 4 + 4 ≤ length m.tangents) where
   abbrev after : CycleState
-  after = nextState H A normal m.state e
+  after = next_state H A normal m.state e
 
   abbrev flag : Vec4
-  flag = withWeight after.last_normal (cond (inside e) insideQuadWeight missingNormalWeight)
+  flag = with_weight after.last_normal (cond (inside e) inside_quad_weight missing_normal_weight)
 
   -- by whether it has a flag
-  step-cases : (b : Bool) → inside e || isMissing H normal e ≡ b
-      → normalStep H P A normal inside m e ≡ cond b (walkOf (putTangent m.tangents e flag) m.fixed after) (tangentStep H P A normal (walkOf m.tangents m.fixed after) e)
-  unfolding normalStep tangentStep
-  step-cases true k =
-      simp (flag-is (isMissing H normal e) (inside e) after.last_normal (tangentAt m.tangents e) k, weight-put-same m.tangents e flag h, flag-below (inside e))
-  step-cases false k =
-      simp (no-flag-is (isMissing H normal e) (inside e) after.last_normal (tangentAt m.tangents e) k, weight-put-same m.tangents e (withWeight (vec3FromVec4 (tangentAt m.tangents e)) one) h, one-above, put-put)
+  step_cases : (b : Bool) → inside e || is_missing H normal e ≡ b
+      → normal_step H P A normal inside m e ≡ cond b (walk_of (put_tangent m.tangents e flag) m.fixed after) (tangent_step H P A normal (walk_of m.tangents m.fixed after) e)
+  unfolding normal_step tangent_step
+  step_cases true k =
+      simp (flag_is (is_missing H normal e) (inside e) after.last_normal (tangent_at m.tangents e) k, weight_put_same m.tangents e flag h, flag_below (inside e))
+  step_cases false k =
+      simp (no_flag_is (is_missing H normal e) (inside e) after.last_normal (tangent_at m.tangents e) k, weight_put_same m.tangents e (with_weight (vec3_from_vec4 (tangent_at m.tangents e)) one) h, one_above, put_put)
 
   -- U holds the unit vectors of the triangles' normals
-  pub normal-step-by : {U : List Float} {n : ℕ} → UnitsIn A U n → e / 3 * 3 + 3 ≤ n → nextAround H e / 3 * 3 + 3 ≤ n
-      → normalStep H P A normal inside m e ≡ normalStepOf H P A inside (halfedgeNormal U normal e) (halfedgeNormal U normal (nextAround H e)) m e
-  unfolding normalStepOf isMissing halfedgeNormal
-  normal-step-by {U} w j k =
-      step-cases (inside e || isMissing H normal e) refl
-      ∙ rw (next-state-by w H normal m.state e j k, tangent-step-by H P A U normal) refl
+  pub normal_step_by : {U : List Float} {n : ℕ} → UnitsIn A U n → e / 3 * 3 + 3 ≤ n → next_around H e / 3 * 3 + 3 ≤ n
+      → normal_step H P A normal inside m e ≡ normal_step_of H P A inside (halfedge_normal U normal e) (halfedge_normal U normal (next_around H e)) m e
+  unfolding normal_step_of is_missing halfedge_normal
+  normal_step_by {U} w j k =
+      step_cases (inside e || is_missing H normal e) refl
+      ∙ rw (next_state_by w H normal m.state e j k, tangent_step_by H P A U normal) refl
 
   -- and what it counts
-  count-cases : (b : Bool) → inside e || isMissing H normal e ≡ b → normalStepDirectionless H P A normal inside m e ≡ cond b 0 (directionlessAt H P e)
-  unfolding normalStepDirectionless
-  count-cases true k =
-      simp (flag-is (isMissing H normal e) (inside e) after.last_normal (tangentAt m.tangents e) k, weight-put-same m.tangents e flag h, flag-below (inside e))
-  count-cases false k =
-      simp (no-flag-is (isMissing H normal e) (inside e) after.last_normal (tangentAt m.tangents e) k, weight-put-same m.tangents e (withWeight (vec3FromVec4 (tangentAt m.tangents e)) one) h, one-above)
+  count_cases : (b : Bool) → inside e || is_missing H normal e ≡ b → normal_step_directionless H P A normal inside m e ≡ cond b 0 (directionless_at H P e)
+  unfolding normal_step_directionless
+  count_cases true k =
+      simp (flag_is (is_missing H normal e) (inside e) after.last_normal (tangent_at m.tangents e) k, weight_put_same m.tangents e flag h, flag_below (inside e))
+  count_cases false k =
+      simp (no_flag_is (is_missing H normal e) (inside e) after.last_normal (tangent_at m.tangents e) k, weight_put_same m.tangents e (with_weight (vec3_from_vec4 (tangent_at m.tangents e)) one) h, one_above)
 
-  pub normal-count-by : (U : List Float) → normalStepDirectionless H P A normal inside m e ≡ normalStepDirectionlessOf H P inside (halfedgeNormal U normal e) (halfedgeNormal U normal (nextAround H e)) e
-  unfolding normalStepDirectionlessOf isMissing halfedgeNormal
-  normal-count-by U = count-cases (inside e || isMissing H normal e) refl
+  pub normal_count_by : (U : List Float) → normal_step_directionless H P A normal inside m e ≡ normal_step_directionless_of H P inside (halfedge_normal U normal e) (halfedge_normal U normal (next_around H e)) e
+  unfolding normal_step_directionless_of is_missing halfedge_normal
+  normal_count_by U = count_cases (inside e || is_missing H normal e) refl

@@ -10,82 +10,82 @@ use lib.Ieee.{Float, lt}
 use Rattle.float.specs.Ops.{zero}
 use Rattle.linalg.specs.declared.Vec3.{Vec3}
 use Rattle.mesh.specs.Mesh.{Halfedges}
-use Rattle.smoothing.specs.Directions.{equalNormals}
-use Rattle.smoothing.specs.Lists.{tangentAt, putTangent, weightAt}
-use Rattle.cycles.specs.Cycles.{nextAround}
+use Rattle.smoothing.specs.Directions.{equal_normals}
+use Rattle.smoothing.specs.Lists.{tangent_at, put_tangent, weight_at}
+use Rattle.cycles.specs.Cycles.{next_around}
 use Rattle.normals_state.specs.declared.FaceEdges.{FaceEdges}
 use Rattle.normals_state.specs.declared.FaceEdges.TheVariants.{NoEdge, OneEdge, TwoEdges, Spoiled}
 use Rattle.normals_state.specs.declared.StartHalfedge.{StartHalfedge}
 use Rattle.normals_state.specs.declared.StartHalfedge.TheVariants.{NoneMissing, SomeMissing, StartAt}
 use Rattle.normals_state.specs.declared.CycleState.{CycleState}
-use Rattle.normals_state.specs.State.{isMissing, addFaceEdge, nextFaceEdges, setStart, missingStart, nextStart, startState, nextState, spoilFaceEdges}
-use Rattle.normals_steps.specs.Steps.{NormalsIn, FaceEdgesNames, StartNames, StateNames, flagTangent, Walk, walkOf, tangentStep, normalStep}
+use Rattle.normals_state.specs.State.{is_missing, add_face_edge, next_face_edges, set_start, missing_start, next_start, start_state, next_state, spoil_face_edges}
+use Rattle.normals_steps.specs.Steps.{NormalsIn, FaceEdgesNames, StartNames, StateNames, flag_tangent, Walk, walk_of, tangent_step, normal_step}
 
 module _ {list : List ℤ} {P A G T : List Float} {n : ℕ} (w : NormalsIn list P A G T n) {e : ℕ} (h : e < n) where
   -- in a list as long as T
-  pub tangent-in : {m : ℕ} → m ≡ length T → e * 4 + 4 ≤ m
-  tangent-in q = omega (arith, w.tangents)
+  pub tangent_in : {m : ℕ} → m ≡ length T → e * 4 + 4 ≤ m
+  tangent_in q = omega (arith, w.tangents)
 
 -- another list of tangents, as long
-pub normals-still : {list : List ℤ} {P A G T T' : List Float} {n : ℕ} → length T' ≡ length T → NormalsIn list P A G T n → NormalsIn list P A G T' n
-normals-still q w = record { state = w.state; positions = w.positions; tangents = omega (arith, w.tangents) }
+pub normals_still : {list : List ℤ} {P A G T T' : List Float} {n : ℕ} → length T' ≡ length T → NormalsIn list P A G T n → NormalsIn list P A G T' n
+normals_still q w = record { state = w.state; positions = w.positions; tangents = omega (arith, w.tangents) }
 
 -- ---- the halfedges that a walk names are such as it comes by
 
 module _ (Q : ℕ → Type 0) where
-  pub state-start : StateNames Q startState
-  state-start = record { face-edges = tt; start-halfedge = tt }
+  pub state_start : StateNames Q start_state
+  state_start = record { face_edges = tt; start_halfedge = tt }
 
-  either-way : (b : Bool) (x y : Walk) → StateNames Q x.state → StateNames Q y.state → StateNames Q (cond b x y).state
-  either-way true x y p q = p
-  either-way false x y p q = q
+  either_way : (b : Bool) (x y : Walk) → StateNames Q x.state → StateNames Q y.state → StateNames Q (cond b x y).state
+  either_way true x y p q = p
+  either_way false x y p q = q
 
   module _ {e : ℕ} (h : Q e) where
-    face-edge-added : (f : FaceEdges) → FaceEdgesNames Q f → FaceEdgesNames Q (addFaceEdge f e)
-    unfolding addFaceEdge
-    face-edge-added NoEdge w = h
-    face-edge-added (OneEdge a) w = (w, h)
-    face-edge-added (TwoEdges a b) w = tt
-    face-edge-added Spoiled w = tt
+    face_edge_added : (f : FaceEdges) → FaceEdgesNames Q f → FaceEdgesNames Q (add_face_edge f e)
+    unfolding add_face_edge
+    face_edge_added NoEdge w = h
+    face_edge_added (OneEdge a) w = (w, h)
+    face_edge_added (TwoEdges a b) w = tt
+    face_edge_added Spoiled w = tt
 
-    start-set : (s to : StartHalfedge) → StartNames Q s → StartNames Q to → StartNames Q (setStart s to)
-    unfolding setStart
-    start-set NoneMissing to w k = k
-    start-set SomeMissing to w k = k
-    start-set (StartAt a) to w k = w
+    start_set : (s to : StartHalfedge) → StartNames Q s → StartNames Q to → StartNames Q (set_start s to)
+    unfolding set_start
+    start_set NoneMissing to w k = k
+    start_set SomeMissing to w k = k
+    start_set (StartAt a) to w k = w
 
-    face-edges-next : (here next : Bool) (f : FaceEdges) → FaceEdgesNames Q f → FaceEdgesNames Q (nextFaceEdges here next f e)
-    unfolding nextFaceEdges xor
-    face-edges-next true true f w = w
-    face-edges-next true false f w = face-edge-added f w
-    face-edges-next false true f w = face-edge-added f w
-    face-edges-next false false f w = w
+    face_edges_next : (here next : Bool) (f : FaceEdges) → FaceEdgesNames Q f → FaceEdgesNames Q (next_face_edges here next f e)
+    unfolding next_face_edges xor
+    face_edges_next true true f w = w
+    face_edges_next true false f w = face_edge_added f w
+    face_edges_next false true f w = face_edge_added f w
+    face_edges_next false false f w = w
 
-    start-next : (here next : Bool) (s : StartHalfedge) → StartNames Q s → StartNames Q (nextStart here next s e)
-    unfolding nextStart missingStart
-    start-next true true s w = start-set s SomeMissing w tt
-    start-next true false s w = start-set s (StartAt e) w h
-    start-next false next s w = w
+    start_next : (here next : Bool) (s : StartHalfedge) → StartNames Q s → StartNames Q (next_start here next s e)
+    unfolding next_start missing_start
+    start_next true true s w = start_set s SomeMissing w tt
+    start_next true false s w = start_set s (StartAt e) w h
+    start_next false next s w = w
 
     module _ (H : Halfedges) (P A : List Float) (normal : ℕ → Vec3) (inside : ℕ → Bool) where
-      state-next : (s : CycleState) → StateNames Q s → StateNames Q (nextState H A normal s e)
-      unfolding nextState
-      state-next s w = record {
-        face-edges = face-edges-next _ _ s.face_edges w.face-edges;
-        start-halfedge = start-next _ _ s.start_halfedge w.start-halfedge;
+      state_next : (s : CycleState) → StateNames Q s → StateNames Q (next_state H A normal s e)
+      unfolding next_state
+      state_next s w = record {
+        face_edges = face_edges_next _ _ s.face_edges w.face_edges;
+        start_halfedge = start_next _ _ s.start_halfedge w.start_halfedge;
       }
 
-      tangent-state : (m : Walk) → StateNames Q m.state → StateNames Q (tangentStep H P A normal m e).state
-      unfolding tangentStep spoilFaceEdges
-      tangent-state m w = either-way (equalNormals (normal (nextAround H e)) (normal e)) _ _ w (record { face-edges = tt; start-halfedge = w.start-halfedge })
+      tangent_state : (m : Walk) → StateNames Q m.state → StateNames Q (tangent_step H P A normal m e).state
+      unfolding tangent_step spoil_face_edges
+      tangent_state m w = either_way (equal_normals (normal (next_around H e)) (normal e)) _ _ w (record { face_edges = tt; start_halfedge = w.start_halfedge })
 
       -- after the body of the first loop, at halfedge e
-      pub state-step : (m : Walk) → StateNames Q m.state → StateNames Q (normalStep H P A normal inside m e).state
-      unfolding normalStep
-      state-step m w =
-          let k = state-next m.state w in
-          let T = putTangent m.tangents e (flagTangent (isMissing H normal e) (inside e) (nextState H A normal m.state e).last_normal (tangentAt m.tangents e)) in
-          either-way (lt (weightAt T e) zero) _ _ k (tangent-state (walkOf T m.fixed (nextState H A normal m.state e)) k)
+      pub state_step : (m : Walk) → StateNames Q m.state → StateNames Q (normal_step H P A normal inside m e).state
+      unfolding normal_step
+      state_step m w =
+          let k = state_next m.state w in
+          let T = put_tangent m.tangents e (flag_tangent (is_missing H normal e) (inside e) (next_state H A normal m.state e).last_normal (tangent_at m.tangents e)) in
+          either_way (lt (weight_at T e) zero) _ _ k (tangent_state (walk_of T m.fixed (next_state H A normal m.state e)) k)
 
-      pub state-after : (m : Walk) {m' : Walk} → m' ≡ normalStep H P A normal inside m e → StateNames Q m.state → StateNames Q m'.state
-      state-after m q w = subst (λ (z : Walk). StateNames Q z.state) (sym q) (state-step m w)
+      pub state_after : (m : Walk) {m' : Walk} → m' ≡ normal_step H P A normal inside m e → StateNames Q m.state → StateNames Q m'.state
+      state_after m q w = subst (λ (z : Walk). StateNames Q z.state) (sym q) (state_step m w)

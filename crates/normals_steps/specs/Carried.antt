@@ -4,44 +4,44 @@ use Rattle.linalg.specs.declared.Vec3.{Vec3}
 use Rattle.linalg.specs.declared.Vec4.{Vec4}
 use Rattle.mesh.specs.Mesh.{Halfedges}
 use Rattle.smoothing.specs.declared.CircularTangent.{CircularTangent}
-use Rattle.smoothing.specs.Directions.{directionless, equalUnits}
-use Rattle.smoothing.specs.Lists.{putTangent}
-use Rattle.smoothing.specs.Edges.{edgeVec}
-use Rattle.smoothing.specs.Inner.{directionFromNormal}
-use Rattle.create_shared.specs.Makings.{directionlessAt}
+use Rattle.smoothing.specs.Directions.{directionless, equal_units}
+use Rattle.smoothing.specs.Lists.{put_tangent}
+use Rattle.smoothing.specs.Edges.{edge_vec}
+use Rattle.smoothing.specs.Inner.{direction_from_normal}
+use Rattle.create_shared.specs.Makings.{directionless_at}
 use Rattle.normals_state.specs.declared.HalfedgeNormal.{HalfedgeNormal}
-use Rattle.normals_state.specs.State.{spoilFaceEdges}
-use Rattle.normals_state.specs.Carried.{nextStateOf}
-use Rattle.normals_steps.specs.Steps.{signedDir, tangentBetween, withWeight, insideQuadWeight, missingNormalWeight, Walk, walkOf}
+use Rattle.normals_state.specs.State.{spoil_face_edges}
+use Rattle.normals_state.specs.Carried.{next_state_of}
+use Rattle.normals_steps.specs.Steps.{signed_dir, tangent_between, with_weight, inside_quad_weight, missing_normal_weight, Walk, walk_of}
 
 -- halfedge e has flag 1
-abbrev pub isInside : List ℕ → ℕ → Bool
-isInside B e = eqb (get_or B e 0) 1
+abbrev pub is_inside : List ℕ → ℕ → Bool
+is_inside B e = eqb (get_or B e 0) 1
 
 -- a circular tangent of halfedge e, and whether its edge has no direction
-abbrev pub circularAt : Halfedges → List Float → Vec4 → ℕ → CircularTangent
-circularAt H P t e = record { tangent = t; directionless = directionless (edgeVec H P e) }
+abbrev pub circular_at : Halfedges → List Float → Vec4 → ℕ → CircularTangent
+circular_at H P t e = record { tangent = t; directionless = directionless (edge_vec H P e) }
 
 -- the direction of the tangent of halfedge e between two normals, where its edge is known
-unfoldable pub directionBetween : Halfedges → List Float → Vec3 → Vec3 → Bool → Vec3 → ℕ → Vec3
-directionBetween H A a b equal edge e = cond equal (directionFromNormal H A a edge e) (signedDir a b edge)
+unfoldable pub direction_between : Halfedges → List Float → Vec3 → Vec3 → Bool → Vec3 → ℕ → Vec3
+direction_between H A a b equal edge e = cond equal (direction_from_normal H A a edge e) (signed_dir a b edge)
 
--- `tangentStep`, where `here` is the normal of halfedge e and `next` that of the next one round its point
-unfoldable pub tangentStepOf : Halfedges → List Float → List Float → HalfedgeNormal → HalfedgeNormal → Walk → ℕ → Walk
-tangentStepOf H P A here next m e =
-    let equal = equalUnits next.unit here.unit in
-    let T = putTangent m.tangents e (tangentBetween H P A here.normal next.normal equal e) in
-    cond equal (walkOf T m.fixed m.state) (walkOf T (set m.fixed e 1) (spoilFaceEdges m.state))
+-- `tangent_step`, where `here` is the normal of halfedge e and `next` that of the next one round its point
+unfoldable pub tangent_step_of : Halfedges → List Float → List Float → HalfedgeNormal → HalfedgeNormal → Walk → ℕ → Walk
+tangent_step_of H P A here next m e =
+    let equal = equal_units next.unit here.unit in
+    let T = put_tangent m.tangents e (tangent_between H P A here.normal next.normal equal e) in
+    cond equal (walk_of T m.fixed m.state) (walk_of T (set m.fixed e 1) (spoil_face_edges m.state))
 
--- `normalStep`, likewise. The tangent is written once: with a flag, or as `tangentStepOf` says.
-unfoldable pub normalStepOf : Halfedges → List Float → List Float → (ℕ → Bool) → HalfedgeNormal → HalfedgeNormal → Walk → ℕ → Walk
-normalStepOf H P A inside here next m e =
-    let s = nextStateOf m.state here next e in
-    let flag = withWeight s.last_normal (cond (inside e) insideQuadWeight missingNormalWeight) in
+-- `normal_step`, likewise. The tangent is written once: with a flag, or as `tangent_step_of` says.
+unfoldable pub normal_step_of : Halfedges → List Float → List Float → (ℕ → Bool) → HalfedgeNormal → HalfedgeNormal → Walk → ℕ → Walk
+normal_step_of H P A inside here next m e =
+    let s = next_state_of m.state here next e in
+    let flag = with_weight s.last_normal (cond (inside e) inside_quad_weight missing_normal_weight) in
     cond (inside e || (here.zero || next.zero))
-    (walkOf (putTangent m.tangents e flag) m.fixed s)
-    (tangentStepOf H P A here next (walkOf m.tangents m.fixed s) e)
+    (walk_of (put_tangent m.tangents e flag) m.fixed s)
+    (tangent_step_of H P A here next (walk_of m.tangents m.fixed s) e)
 
--- `normalStepDirectionless`, likewise
-unfoldable pub normalStepDirectionlessOf : Halfedges → List Float → (ℕ → Bool) → HalfedgeNormal → HalfedgeNormal → ℕ → ℕ
-normalStepDirectionlessOf H P inside here next e = cond (inside e || (here.zero || next.zero)) 0 (directionlessAt H P e)
+-- `normal_step_directionless`, likewise
+unfoldable pub normal_step_directionless_of : Halfedges → List Float → (ℕ → Bool) → HalfedgeNormal → HalfedgeNormal → ℕ → ℕ
+normal_step_directionless_of H P inside here next e = cond (inside e || (here.zero || next.zero)) 0 (directionless_at H P e)

@@ -3,13 +3,13 @@
 #![tactic(auto)]
 
 ghost use Rattle.std.specs.Prelude.{◌≡◌, cond, ◌+◌, ◌*◌, ◌≤◌, ◌<◌, length};
-ghost use Rattle.mesh.specs.Mesh.{asHalfedges};
+ghost use Rattle.mesh.specs.Mesh.{as_halfedges};
 ghost use Rattle.smoothing.specs.Edges.{EdgeIn, NormalsIn, FacesIn};
-ghost use Rattle.create_shared.specs.Makings.{MakingIn, tangentsOf, directionlessAt, alignedDirectionless};
-ghost use Rattle.normals_state.specs.State.{RowIn, getNormal};
-ghost use Rattle.normals_state.specs.Packed.{stateOf};
-ghost use Rattle.normals_steps.specs.Steps.{FaceEdgesIn, signedDir, tangentBetween, withWeight, insideQuadWeight, missingNormalWeight, walkOf, vertNormalStep, vertNormalDirectionless, fillOf, fillTangent, putFillTangent, fillStep, fillDirectionless, faceTangent, fixFaceEdges, alignFaceEdges, faceEdgesDirectionless};
-ghost use Rattle.normals_steps.specs.Carried.{isInside, circularAt, directionBetween, tangentStepOf, normalStepOf, normalStepDirectionlessOf};
+ghost use Rattle.create_shared.specs.Makings.{MakingIn, tangents_of, directionless_at, aligned_directionless};
+ghost use Rattle.normals_state.specs.State.{RowIn, get_normal};
+ghost use Rattle.normals_state.specs.Packed.{state_of};
+ghost use Rattle.normals_steps.specs.Steps.{FaceEdgesIn, signed_dir, tangent_between, with_weight, inside_quad_weight, missing_normal_weight, walk_of, vert_normal_step, vert_normal_directionless, fill_of, fill_tangent, put_fill_tangent, fill_step, fill_directionless, face_tangent, fix_face_edges, align_face_edges, face_edges_directionless};
+ghost use Rattle.normals_steps.specs.Carried.{is_inside, circular_at, direction_between, tangent_step_of, normal_step_of, normal_step_directionless_of};
 
 use linalg::{Vec3, Vec4};
 use normals_state::{FaceEdges, HalfedgeNormal, PackedState};
@@ -33,7 +33,7 @@ pub struct FillStep {
 
 // The direction of a halfedge between two normals: along their cross product, or against it, as the edge runs.
 fn signed_dir(a: Vec3, b: Vec3, edge_vec: Vec3) -> Vec3
-    ensures { result ≡ signedDir a b edge_vec }
+    ensures { result ≡ signed_dir a b edge_vec }
 {
     let dir = linalg::cross(a, b);
     if linalg::dot(dir, edge_vec) < 0.0 {
@@ -52,8 +52,8 @@ fn direction_between(
     edge: Vec3,
     e: usize,
 ) -> Vec3
-    requires { NormalsIn (asHalfedges h.now) face_normals.now e }
-    ensures { result ≡ directionBetween (asHalfedges h.now) face_normals.now a b equal edge e }
+    requires { NormalsIn (as_halfedges h.now) face_normals.now e }
+    ensures { result ≡ direction_between (as_halfedges h.now) face_normals.now a b equal edge e }
 {
     if equal {
         return smoothing::direction_from_normal(h, face_normals, a, edge, e);
@@ -71,8 +71,8 @@ fn tangent_between(
     equal: bool,
     e: usize,
 ) -> CircularTangent
-    requires { FacesIn (asHalfedges h.now) pos.now face_normals.now e }
-    ensures { result ≡ circularAt (asHalfedges h.now) pos.now (tangentBetween (asHalfedges h.now) pos.now face_normals.now a b equal e) e }
+    requires { FacesIn (as_halfedges h.now) pos.now face_normals.now e }
+    ensures { result ≡ circular_at (as_halfedges h.now) pos.now (tangent_between (as_halfedges h.now) pos.now face_normals.now a b equal e) e }
 {
     let edge = smoothing::edge_vec(h, pos, e);
     let dir = direction_between(h, face_normals, a, b, equal, edge, e);
@@ -80,7 +80,7 @@ fn tangent_between(
 }
 
 fn with_weight(v: Vec3, w: f64) -> Vec4
-    ensures { result ≡ withWeight v w }
+    ensures { result ≡ with_weight v w }
 {
     Vec4 {
         x: v.x,
@@ -92,7 +92,7 @@ fn with_weight(v: Vec3, w: f64) -> Vec4
 
 // The tangent of a halfedge with a flag: inside a quad, or its normal or the next one is missing.
 fn flag_tangent(inside: bool, last: Vec3) -> Vec4
-    ensures { result ≡ withWeight last (cond inside insideQuadWeight missingNormalWeight) }
+    ensures { result ≡ with_weight last (cond inside inside_quad_weight missing_normal_weight) }
 {
     if inside {
         return with_weight(last, -1.0);
@@ -114,9 +114,9 @@ fn tangent_step(
     next: HalfedgeNormal,
     e: usize,
 ) -> NormalStep
-    requires { (e < n) × MakingIn (asHalfedges h.now) pos.now t.old fixed.old n × (length face_normals.now ≡ n) }
-    ensures state { walkOf t.new fixed.new (stateOf result.state) ≡ tangentStepOf (asHalfedges h.now) pos.now face_normals.now here next (walkOf t.old fixed.old (stateOf state)) e }
-    ensures directionless { result.directionless ≡ directionlessAt (asHalfedges h.now) pos.now e }
+    requires { (e < n) × MakingIn (as_halfedges h.now) pos.now t.old fixed.old n × (length face_normals.now ≡ n) }
+    ensures state { walk_of t.new fixed.new (state_of result.state) ≡ tangent_step_of (as_halfedges h.now) pos.now face_normals.now here next (walk_of t.old fixed.old (state_of state)) e }
+    ensures directionless { result.directionless ≡ directionless_at (as_halfedges h.now) pos.now e }
 {
     let equal = smoothing::equal_units(next.unit, here.unit);
     let made = tangent_between(h, pos, face_normals, here.normal, next.normal, equal, e);
@@ -151,9 +151,9 @@ pub fn normal_step(
     next: HalfedgeNormal,
     e: usize,
 ) -> NormalStep
-    requires { (e < n) × MakingIn (asHalfedges h.now) pos.now t.old fixed.old n × (length face_normals.now ≡ n) × (length inside.now ≡ n) }
-    ensures state { walkOf t.new fixed.new (stateOf result.state) ≡ normalStepOf (asHalfedges h.now) pos.now face_normals.now (isInside inside.now) here next (walkOf t.old fixed.old (stateOf state)) e }
-    ensures directionless { result.directionless ≡ normalStepDirectionlessOf (asHalfedges h.now) pos.now (isInside inside.now) here next e }
+    requires { (e < n) × MakingIn (as_halfedges h.now) pos.now t.old fixed.old n × (length face_normals.now ≡ n) × (length inside.now ≡ n) }
+    ensures state { walk_of t.new fixed.new (state_of result.state) ≡ normal_step_of (as_halfedges h.now) pos.now face_normals.now (is_inside inside.now) here next (walk_of t.old fixed.old (state_of state)) e }
+    ensures directionless { result.directionless ≡ normal_step_directionless_of (as_halfedges h.now) pos.now (is_inside inside.now) here next e }
 {
     let after = normals_state::next_state(state, here, next, e);
     let in_quad = inside[e] == 1;
@@ -179,9 +179,9 @@ pub fn vert_normal_step(
     t: &mut [f64],
     e: usize,
 ) -> usize
-    requires { (e * 4 + 4 ≤ length t.old) × FacesIn (asHalfedges h.now) pos.now face_normals.now e }
-    ensures tangents { t.new ≡ vertNormalStep (asHalfedges h.now) pos.now face_normals.now normal t.old e }
-    ensures directionless { result ≡ vertNormalDirectionless (asHalfedges h.now) pos.now t.old e }
+    requires { (e * 4 + 4 ≤ length t.old) × FacesIn (as_halfedges h.now) pos.now face_normals.now e }
+    ensures tangents { t.new ≡ vert_normal_step (as_halfedges h.now) pos.now face_normals.now normal t.old e }
+    ensures directionless { result ≡ vert_normal_directionless (as_halfedges h.now) pos.now t.old e }
 {
     if smoothing::is_marked_inside_quad(t, e) {
         return 0;
@@ -201,8 +201,8 @@ fn fill_tangent(
     t: Vec4,
     e: usize,
 ) -> CircularTangent
-    requires { FacesIn (asHalfedges h.now) pos.now face_normals.now e }
-    ensures { result ≡ circularAt (asHalfedges h.now) pos.now (fillTangent (asHalfedges h.now) pos.now face_normals.now last prev t e) e }
+    requires { FacesIn (as_halfedges h.now) pos.now face_normals.now e }
+    ensures { result ≡ circular_at (as_halfedges h.now) pos.now (fill_tangent (as_halfedges h.now) pos.now face_normals.now last prev t e) e }
 {
     let next = normals_state::normal_or(smoothing::vec3_from_vec4(t), last);
     if smoothing::equal_normals(prev, next) {
@@ -222,9 +222,9 @@ fn put_fill_tangent(
     t: &mut [f64],
     e: usize,
 ) -> usize
-    requires { (e * 4 + 4 ≤ length t.old) × FacesIn (asHalfedges h.now) pos.now face_normals.now e }
-    ensures tangents { t.new ≡ putFillTangent (asHalfedges h.now) pos.now face_normals.now last prev t.old e }
-    ensures directionless { result ≡ fillDirectionless (asHalfedges h.now) pos.now t.old e }
+    requires { (e * 4 + 4 ≤ length t.old) × FacesIn (as_halfedges h.now) pos.now face_normals.now e }
+    ensures tangents { t.new ≡ put_fill_tangent (as_halfedges h.now) pos.now face_normals.now last prev t.old e }
+    ensures directionless { result ≡ fill_directionless (as_halfedges h.now) pos.now t.old e }
 {
     if smoothing::weight_at(t, e) == -3.0 {
         let old = smoothing::tangent_at(t, e);
@@ -246,9 +246,9 @@ pub fn fill_step(
     prev: Vec3,
     e: usize,
 ) -> FillStep
-    requires { (e * 4 + 4 ≤ length t.old) × RowIn h.now rows.now e × FacesIn (asHalfedges h.now) pos.now face_normals.now e }
-    ensures fill { fillOf t.new result.prev ≡ fillStep (asHalfedges h.now) pos.now face_normals.now (getNormal h.now rows.now) last (fillOf t.old prev) e }
-    ensures directionless { result.directionless ≡ fillDirectionless (asHalfedges h.now) pos.now t.old e }
+    requires { (e * 4 + 4 ≤ length t.old) × RowIn h.now rows.now e × FacesIn (as_halfedges h.now) pos.now face_normals.now e }
+    ensures fill { fill_of t.new result.prev ≡ fill_step (as_halfedges h.now) pos.now face_normals.now (get_normal h.now rows.now) last (fill_of t.old prev) e }
+    ensures directionless { result.directionless ≡ fill_directionless (as_halfedges h.now) pos.now t.old e }
 {
     let directionless = put_fill_tangent(h, pos, face_normals, last, prev, t, e);
     let next = normals_state::normal_or(normals_state::get_normal(h, rows, e), prev);
@@ -261,8 +261,8 @@ pub fn fill_step(
 // ---- the edges of a single flat face
 
 fn face_tangent(h: &[i32], pos: &[f64], a: usize, b: usize) -> Vec3
-    requires { EdgeIn (asHalfedges h.now) pos.now a × EdgeIn (asHalfedges h.now) pos.now b }
-    ensures { result ≡ faceTangent (asHalfedges h.now) pos.now a b }
+    requires { EdgeIn (as_halfedges h.now) pos.now a × EdgeIn (as_halfedges h.now) pos.now b }
+    ensures { result ≡ face_tangent (as_halfedges h.now) pos.now a b }
 {
     let first = linalg::normalize(smoothing::edge_vec(h, pos, a));
     let second = linalg::normalize(smoothing::edge_vec(h, pos, b));
@@ -279,9 +279,9 @@ fn fix_face_edges(
     a: usize,
     b: usize,
 ) -> usize
-    requires { (a < n) × (b < n) × MakingIn (asHalfedges h.now) pos.now t.old fixed.old n }
-    ensures tangents { tangentsOf t.new fixed.new ≡ fixFaceEdges (asHalfedges h.now) pos.now (tangentsOf t.old fixed.old) a b }
-    ensures directionless { result ≡ alignedDirectionless (asHalfedges h.now) pos.now a b }
+    requires { (a < n) × (b < n) × MakingIn (as_halfedges h.now) pos.now t.old fixed.old n }
+    ensures tangents { tangents_of t.new fixed.new ≡ fix_face_edges (as_halfedges h.now) pos.now (tangents_of t.old fixed.old) a b }
+    ensures directionless { result ≡ aligned_directionless (as_halfedges h.now) pos.now a b }
 {
     let dir = face_tangent(h, pos, a, b);
     create_shared::align_tangents(n, h, pos, t, fixed, a, b, dir)
@@ -296,9 +296,9 @@ pub fn align_face_edges(
     fixed: &mut [u8],
     face_edges: FaceEdges,
 ) -> usize
-    requires { FaceEdgesIn n face_edges × MakingIn (asHalfedges h.now) pos.now t.old fixed.old n }
-    ensures tangents { tangentsOf t.new fixed.new ≡ alignFaceEdges (asHalfedges h.now) pos.now (tangentsOf t.old fixed.old) face_edges }
-    ensures directionless { result ≡ faceEdgesDirectionless (asHalfedges h.now) pos.now face_edges }
+    requires { FaceEdgesIn n face_edges × MakingIn (as_halfedges h.now) pos.now t.old fixed.old n }
+    ensures tangents { tangents_of t.new fixed.new ≡ align_face_edges (as_halfedges h.now) pos.now (tangents_of t.old fixed.old) face_edges }
+    ensures directionless { result ≡ face_edges_directionless (as_halfedges h.now) pos.now face_edges }
 {
     match face_edges {
         FaceEdges::NoEdge => 0,

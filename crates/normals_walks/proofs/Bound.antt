@@ -10,98 +10,98 @@ use borrow.Author.Tests.{ltb-true}
 use lib.ListN.{length}
 use lib.Ieee.{Float}
 use Rattle.linalg.specs.declared.Vec3.{Vec3}
-use Rattle.common.specs.Count.{countBelow}
+use Rattle.common.specs.Count.{count_below}
 use Rattle.common.specs.Counted.{counted}
-use Rattle.common.proofs.Counted.{counted-length, counted-sum}
-use Rattle.mesh.specs.Mesh.{startVert, Halfedges}
+use Rattle.common.proofs.Counted.{counted_length, counted_sum}
+use Rattle.mesh.specs.Mesh.{start_vert, Halfedges}
 use Rattle.mesh.specs.Sound.{Sound}
-use Rattle.smoothing.specs.Lists.{pointAt}
-use Rattle.cycles.specs.Cycles.{nextAround, vertexCycle, vertexCycleBack}
-use Rattle.cycles.proofs.Around.{prev-permutes, cycle-two}
-use Rattle.cycles.proofs.Orbits.{cycle-within}
-use Rattle.cycles.proofs.Starts.{startsAt, cycle-starts, cycle-starts-back, points-bound}
-use Rattle.create_shared.specs.Faces.{vertHalfedge}
+use Rattle.smoothing.specs.Lists.{point_at}
+use Rattle.cycles.specs.Cycles.{next_around, vertex_cycle, vertex_cycle_back}
+use Rattle.cycles.proofs.Around.{prev_permutes, cycle_two}
+use Rattle.cycles.proofs.Orbits.{cycle_within}
+use Rattle.cycles.proofs.Starts.{starts_at, cycle_starts, cycle_starts_back, points_bound}
+use Rattle.create_shared.specs.Faces.{vert_halfedge}
 use Rattle.create_shared.specs.Makings.{Tangents}
-use Rattle.create_shared.proofs.Verts.{vert-halfedge-starts}
+use Rattle.create_shared.proofs.Verts.{vert_halfedge_starts}
 use Rattle.normals_state.specs.declared.StartHalfedge.{StartHalfedge}
 use Rattle.normals_state.specs.declared.StartHalfedge.TheVariants.{NoneMissing, SomeMissing, StartAt}
-use Rattle.normals_state.specs.State.{isZero, someMissing, startState}
-use Rattle.normals_steps.specs.Steps.{StartNames, StartIn, StateNames, Walk, walkOf, normalStep, normalStepDirectionless, vertNormalStep, vertNormalDirectionless, Fill, fillOf, fillStep, fillDirectionless}
-use Rattle.normals_steps.proofs.Counts.{way-at-most, normal-step-one, vert-normal-one, fill-one, face-edges-two}
-use Rattle.normals_walks.specs.Walks.{normalWalk, normalWalkDirectionless, vertNormalWalkDirectionless, fillWalkDirectionless, fillMissingDirectionless, finishVertDirectionless, normalsVert, normalsVertDirectionless, normalsVertsDirectionless}
-use Rattle.normals_walks.proofs.Rounds.{walk-at}
+use Rattle.normals_state.specs.State.{is_zero, some_missing, start_state}
+use Rattle.normals_steps.specs.Steps.{StartNames, StartIn, StateNames, Walk, walk_of, normal_step, normal_step_directionless, vert_normal_step, vert_normal_directionless, Fill, fill_of, fill_step, fill_directionless}
+use Rattle.normals_steps.proofs.Counts.{way_at_most, normal_step_one, vert_normal_one, fill_one, face_edges_two}
+use Rattle.normals_walks.specs.Walks.{normal_walk, normal_walk_directionless, vert_normal_walk_directionless, fill_walk_directionless, fill_missing_directionless, finish_vert_directionless, normals_vert, normals_vert_directionless, normals_verts_directionless}
+use Rattle.normals_walks.proofs.Rounds.{walk_at}
 
 -- ---- the loops round a vertex cycle
 
 module _ (H : Halfedges) (P A : List Float) (normal : ℕ → Vec3) (n : ℕ) where
-  pub walk-within : (inside : ℕ → Bool) (m : Tangents) (e : ℕ) → normalWalkDirectionless H P A normal inside n m e ≤ length (vertexCycle H n e)
-  unfolding normalWalkDirectionless
-  walk-within inside m e =
-      omega (arith, counted-length (normalStep H P A normal inside) (normalStepDirectionless H P A normal inside) (normal-step-one H P A normal inside) (counted (walkOf m.tangents m.fixed startState) 0) (vertexCycle H n e))
+  pub walk_within : (inside : ℕ → Bool) (m : Tangents) (e : ℕ) → normal_walk_directionless H P A normal inside n m e ≤ length (vertex_cycle H n e)
+  unfolding normal_walk_directionless
+  walk_within inside m e =
+      omega (arith, counted_length (normal_step H P A normal inside) (normal_step_directionless H P A normal inside) (normal_step_one H P A normal inside) (counted (walk_of m.tangents m.fixed start_state) 0) (vertex_cycle H n e))
 
-  vert-walk-within : (v : Vec3) (T : List Float) (e : ℕ) → vertNormalWalkDirectionless H P A n v T e ≤ length (vertexCycle H n e)
-  unfolding vertNormalWalkDirectionless
-  vert-walk-within v T e =
-      omega (arith, counted-length (vertNormalStep H P A v) (vertNormalDirectionless H P) (vert-normal-one H P) (counted T 0) (vertexCycle H n e))
+  vert_walk_within : (v : Vec3) (T : List Float) (e : ℕ) → vert_normal_walk_directionless H P A n v T e ≤ length (vertex_cycle H n e)
+  unfolding vert_normal_walk_directionless
+  vert_walk_within v T e =
+      omega (arith, counted_length (vert_normal_step H P A v) (vert_normal_directionless H P) (vert_normal_one H P) (counted T 0) (vertex_cycle H n e))
 
-  fill-within : (last : Vec3) (T : List Float) (start : ℕ) → fillWalkDirectionless H P A normal n last T start ≤ length (vertexCycleBack H n start)
-  unfolding fillWalkDirectionless
-  fill-within last T start =
-      omega (arith, counted-length (fillStep H P A normal last) (λ (m : Fill). fillDirectionless H P m.tangents) (λ m. fill-one H P m.tangents) (counted (fillOf T (normal (nextAround H start))) 0) (vertexCycleBack H n start))
+  fill_within : (last : Vec3) (T : List Float) (start : ℕ) → fill_walk_directionless H P A normal n last T start ≤ length (vertex_cycle_back H n start)
+  unfolding fill_walk_directionless
+  fill_within last T start =
+      omega (arith, counted_length (fill_step H P A normal last) (λ (m : Fill). fill_directionless H P m.tangents) (λ m. fill_one H P m.tangents) (counted (fill_of T (normal (next_around H start))) 0) (vertex_cycle_back H n start))
 
   -- from where it starts, if that has Q
-  fill-missing-within : (Q : ℕ → Type 0) (b : ℕ) → ((x : ℕ) → Q x → length (vertexCycleBack H n x) ≤ b) → (last : Vec3) (T : List Float) (s : StartHalfedge) → StartNames Q s → fillMissingDirectionless H P A normal n last T s ≤ b
-  unfolding fillMissingDirectionless
-  fill-missing-within Q b h last T NoneMissing w = omega arith
-  fill-missing-within Q b h last T SomeMissing w = omega arith
-  fill-missing-within Q b h last T (StartAt x) w = omega (arith, fill-within last T x, h x w)
+  fill_missing_within : (Q : ℕ → Type 0) (b : ℕ) → ((x : ℕ) → Q x → length (vertex_cycle_back H n x) ≤ b) → (last : Vec3) (T : List Float) (s : StartHalfedge) → StartNames Q s → fill_missing_directionless H P A normal n last T s ≤ b
+  unfolding fill_missing_directionless
+  fill_missing_within Q b h last T NoneMissing w = omega arith
+  fill_missing_within Q b h last T SomeMissing w = omega arith
+  fill_missing_within Q b h last T (StartAt x) w = omega (arith, fill_within last T x, h x w)
 
 module _ {H : Halfedges} {n p : ℕ} (S : Sound H n p) (P N A : List Float) (normal : ℕ → Vec3) where
-  pub fill-missing-few : (last : Vec3) (T : List Float) (s : StartHalfedge) → StartIn n s → fillMissingDirectionless H P A normal n last T s ≤ n
-  fill-missing-few = fill-missing-within H P A normal n (λ x. x < n) n (λ x l. cycle-within (prev-permutes S) x l)
+  pub fill_missing_few : (last : Vec3) (T : List Float) (s : StartHalfedge) → StartIn n s → fill_missing_directionless H P A normal n last T s ≤ n
+  fill_missing_few = fill_missing_within H P A normal n (λ x. x < n) n (λ x l. cycle_within (prev_permutes S) x l)
 
   -- ---- a point
 
   -- at point v, where the halfedge e starts; `starts` is how many do
-  module _ {v e : ℕ} (h : e < n) (q : startVert H e ≡ v) where
+  module _ {v e : ℕ} (h : e < n) (q : start_vert H e ≡ v) where
     abbrev starts : ℕ
-    starts = countBelow (startsAt H v) n
+    starts = count_below (starts_at H v) n
 
-    round : length (vertexCycle H n e) ≤ starts
-    round = subst (λ (u : ℕ). length (vertexCycle H n e) ≤ countBelow (startsAt H u) n) q (cycle-starts S e h)
+    round : length (vertex_cycle H n e) ≤ starts
+    round = subst (λ (u : ℕ). length (vertex_cycle H n e) ≤ count_below (starts_at H u) n) q (cycle_starts S e h)
 
-    round-back : (x : ℕ) → (x < n) × (startVert H x ≡ startVert H e) → length (vertexCycleBack H n x) ≤ starts
-    round-back x w =
-        subst (λ (u : ℕ). length (vertexCycleBack H n x) ≤ countBelow (startsAt H u) n) (w.1 ∙ q) (cycle-starts-back S x w.0)
+    round_back : (x : ℕ) → (x < n) × (start_vert H x ≡ start_vert H e) → length (vertex_cycle_back H n x) ≤ starts
+    round_back x w =
+        subst (λ (u : ℕ). length (vertex_cycle_back H n x) ≤ count_below (starts_at H u) n) (w.1 ∙ q) (cycle_starts_back S x w.0)
 
-    finish-within : (m : Walk) → StateNames (λ x. (x < n) × (startVert H x ≡ startVert H e)) m.state → finishVertDirectionless H P N A normal n m v e ≤ 2 * starts
-    unfolding finishVertDirectionless
-    finish-within m w =
+    finish_within : (m : Walk) → StateNames (λ x. (x < n) × (start_vert H x ≡ start_vert H e)) m.state → finish_vert_directionless H P N A normal n m v e ≤ 2 * starts
+    unfolding finish_vert_directionless
+    finish_within m w =
         let s = m.state in
-        way-at-most (someMissing s.start_halfedge && isZero s.last_normal)
-        (omega (arith, vert-walk-within H P A normal n (pointAt N v) m.tangents e, round))
-        (omega (arith, fill-missing-within H P A normal n (λ x. (x < n) × (startVert H x ≡ startVert H e)) starts round-back s.last_normal m.tangents s.start_halfedge w.start-halfedge, face-edges-two H P s.face_edges, cycle-two S e h, round))
+        way_at_most (some_missing s.start_halfedge && is_zero s.last_normal)
+        (omega (arith, vert_walk_within H P A normal n (point_at N v) m.tangents e, round))
+        (omega (arith, fill_missing_within H P A normal n (λ x. (x < n) × (start_vert H x ≡ start_vert H e)) starts round_back s.last_normal m.tangents s.start_halfedge w.start_halfedge, face_edges_two H P s.face_edges, cycle_two S e h, round))
 
-    pub point-within : (inside : ℕ → Bool) (m : Tangents) → normalWalkDirectionless H P A normal inside n m e + finishVertDirectionless H P N A normal n (normalWalk H P A normal inside n m e) v e ≤ 3 * starts
-    point-within inside m =
-        omega (arith, walk-within H P A normal n inside m e, round, finish-within (normalWalk H P A normal inside n m e) (walk-at S P A normal inside m e h))
+    pub point_within : (inside : ℕ → Bool) (m : Tangents) → normal_walk_directionless H P A normal inside n m e + finish_vert_directionless H P N A normal n (normal_walk H P A normal inside n m e) v e ≤ 3 * starts
+    point_within inside m =
+        omega (arith, walk_within H P A normal n inside m e, round, finish_within (normal_walk H P A normal inside n m e) (walk_at S P A normal inside m e h))
 
-  vert-within : (inside : ℕ → Bool) (m : Tangents) (v : ℕ) → normalsVertDirectionless H P N A normal inside n m v ≤ 3 * countBelow (startsAt H v) n
-  unfolding normalsVertDirectionless
-  vert-within inside m v = go (ltb (vertHalfedge H n v) n) refl
+  vert_within : (inside : ℕ → Bool) (m : Tangents) (v : ℕ) → normals_vert_directionless H P N A normal inside n m v ≤ 3 * count_below (starts_at H v) n
+  unfolding normals_vert_directionless
+  vert_within inside m v = go (ltb (vert_halfedge H n v) n) refl
     where
-      go : (t : Bool) → ltb (vertHalfedge H n v) n ≡ t → cond t (normalWalkDirectionless H P A normal inside n m (vertHalfedge H n v) + finishVertDirectionless H P N A normal n (normalWalk H P A normal inside n m (vertHalfedge H n v)) v (vertHalfedge H n v)) 0 ≤ 3 * countBelow (startsAt H v) n
+      go : (t : Bool) → ltb (vert_halfedge H n v) n ≡ t → cond t (normal_walk_directionless H P A normal inside n m (vert_halfedge H n v) + finish_vert_directionless H P N A normal n (normal_walk H P A normal inside n m (vert_halfedge H n v)) v (vert_halfedge H n v)) 0 ≤ 3 * count_below (starts_at H v) n
       go true t =
-          let h = ltb-true (vertHalfedge H n v) n t in point-within h (vert-halfedge-starts H n v h) inside m
+          let h = ltb-true (vert_halfedge H n v) n t in point_within h (vert_halfedge_starts H n v h) inside m
       go false t = omega arith
 
   -- ---- any number of points
 
-  pub verts-within : (inside : ℕ → Bool) (k : ℕ) (m : Tangents) → normalsVertsDirectionless H P N A normal inside n k m ≤ 3 * n
-  unfolding normalsVertsDirectionless
-  verts-within inside k m =
+  pub verts_within : (inside : ℕ → Bool) (k : ℕ) (m : Tangents) → normals_verts_directionless H P N A normal inside n k m ≤ 3 * n
+  unfolding normals_verts_directionless
+  verts_within inside k m =
       omega (
         arith,
-        counted-sum (normalsVert H P N A normal inside n) (normalsVertDirectionless H P N A normal inside n) (λ v. 3 * countBelow (startsAt H v) n) k (λ t v l. vert-within inside t v) (counted m 0),
-        points-bound H n k (λ v. 3 * countBelow (startsAt H v) n) 3 (λ v l. le_refl (3 * countBelow (startsAt H v) n)),
+        counted_sum (normals_vert H P N A normal inside n) (normals_vert_directionless H P N A normal inside n) (λ v. 3 * count_below (starts_at H v) n) k (λ t v l. vert_within inside t v) (counted m 0),
+        points_bound H n k (λ v. 3 * count_below (starts_at H v) n) 3 (λ v l. le_refl (3 * count_below (starts_at H v) n)),
       )

@@ -2,19 +2,19 @@
 use Rattle.std.specs.Prelude.{ℕ, ◌*◌, ◌+◌, ◌<◌, ◌≡◌, Bool, cond, ◌&&◌, length, get_or, ℤ, ltb, Float}
 use mathlib.Core.List.{List, foldl}
 use Rattle.linalg.specs.declared.Vec3.{Vec3}
-use Rattle.common.specs.Fold.{foldTo}
-use Rattle.common.specs.Counted.{counted, countStep}
-use Rattle.mesh.specs.Mesh.{halfedgeStride, Halfedges, asHalfedges}
+use Rattle.common.specs.Fold.{fold_to}
+use Rattle.common.specs.Counted.{counted, count_step}
+use Rattle.mesh.specs.Mesh.{halfedge_stride, Halfedges, as_halfedges}
 use Rattle.mesh.specs.Sound.{Sound}
-use Rattle.smoothing.specs.Lists.{pointAt}
-use Rattle.create_shared.specs.Makings.{TangentsIn, Tangents, tangentsOf}
-use Rattle.cycles.specs.Cycles.{nextAround, vertexCycle, vertexCycleBack}
-use Rattle.create_shared.specs.Faces.{vertHalfedge}
+use Rattle.smoothing.specs.Lists.{point_at}
+use Rattle.create_shared.specs.Makings.{TangentsIn, Tangents, tangents_of}
+use Rattle.cycles.specs.Cycles.{next_around, vertex_cycle, vertex_cycle_back}
+use Rattle.create_shared.specs.Faces.{vert_halfedge}
 use Rattle.normals_state.specs.declared.StartHalfedge.{StartHalfedge}
 use Rattle.normals_state.specs.declared.StartHalfedge.TheVariants.{NoneMissing, SomeMissing, StartAt}
-use Rattle.normals_state.specs.State.{RowIn, isZero, someMissing, startState}
+use Rattle.normals_state.specs.State.{RowIn, is_zero, some_missing, start_state}
 use Rattle.normals_state.specs.Units.{UnitsIn}
-use Rattle.normals_steps.specs.Steps.{Walk, walkOf, normalStep, normalStepDirectionless, vertNormalStep, vertNormalDirectionless, Fill, fillOf, fillStep, fillDirectionless, alignFaceEdges, faceEdgesDirectionless}
+use Rattle.normals_steps.specs.Steps.{Walk, walk_of, normal_step, normal_step_directionless, vert_normal_step, vert_normal_directionless, Fill, fill_of, fill_step, fill_directionless, align_face_edges, face_edges_directionless}
 
 -- ---- what the lists must be for a call
 
@@ -22,104 +22,104 @@ use Rattle.normals_steps.specs.Steps.{Walk, walkOf, normalStep, normalStepDirect
 pub record FacesLists (H : Halfedges) (P A T : List Float) (n : ℕ) : Type 0 where
   pub tangents : TangentsIn H T n
   pub positions : length P ≡ tangents.points * 3
-  pub face-normals : length A ≡ n
+  pub face_normals : length A ≡ n
 
 -- All lists of the loop over the points. U, B and X are the code's lists `face_units`, `inside` and `fixed`; W has a place for each point, which holds its `vert_halfedge`.
 pub record VertsLists (list : List ℤ) (P N A U G : List Float) (B W : List ℕ) (T : List Float) (X : List ℕ) (n : ℕ) : Type 0 where
-  pub sound : Sound (asHalfedges list) n (length W)
-  pub whole : (asHalfedges list).numbers ≡ n * halfedgeStride
+  pub sound : Sound (as_halfedges list) n (length W)
+  pub whole : (as_halfedges list).numbers ≡ n * halfedge_stride
   pub positions : length P ≡ length W * 3
-  pub point-normals : length N ≡ length W * 3
-  pub face-normals : length A ≡ n
-  pub face-units : UnitsIn A U n
+  pub point_normals : length N ≡ length W * 3
+  pub face_normals : length A ≡ n
+  pub face_units : UnitsIn A U n
   pub normals : (e : ℕ) → e < n → RowIn list G e
   pub inside : length B ≡ n
-  pub vert-halfedge : (v : ℕ) → v < length W → get_or W v 0 ≡ vertHalfedge (asHalfedges list) n v
+  pub vert_halfedge : (v : ℕ) → v < length W → get_or W v 0 ≡ vert_halfedge (as_halfedges list) n v
   pub tangents : length T ≡ n * 4
   pub fixed : length X ≡ n
 
 -- ---- the loops round a vertex cycle
 
 -- the first, from halfedge e
-unfoldable pub normalWalk : Halfedges → List Float → List Float → (ℕ → Vec3) → (ℕ → Bool) → ℕ → Tangents → ℕ → Walk
-normalWalk H P A normal inside n m e = foldl (normalStep H P A normal inside) (walkOf m.tangents m.fixed startState) (vertexCycle H n e)
+unfoldable pub normal_walk : Halfedges → List Float → List Float → (ℕ → Vec3) → (ℕ → Bool) → ℕ → Tangents → ℕ → Walk
+normal_walk H P A normal inside n m e = foldl (normal_step H P A normal inside) (walk_of m.tangents m.fixed start_state) (vertex_cycle H n e)
 
 -- all normals are missing: `normal` is the point's
-unfoldable pub vertNormalWalk : Halfedges → List Float → List Float → ℕ → Vec3 → List Float → ℕ → List Float
-vertNormalWalk H P A n normal T e = foldl (vertNormalStep H P A normal) T (vertexCycle H n e)
+unfoldable pub vert_normal_walk : Halfedges → List Float → List Float → ℕ → Vec3 → List Float → ℕ → List Float
+vert_normal_walk H P A n normal T e = foldl (vert_normal_step H P A normal) T (vertex_cycle H n e)
 
 -- some are missing: backwards from `start`; `last` is the last normal of the first loop
-unfoldable pub fillWalk : Halfedges → List Float → List Float → (ℕ → Vec3) → ℕ → Vec3 → List Float → ℕ → List Float
-fillWalk H P A normal n last T start =
-    (foldl (fillStep H P A normal last) (fillOf T (normal (nextAround H start))) (vertexCycleBack H n start)).tangents
+unfoldable pub fill_walk : Halfedges → List Float → List Float → (ℕ → Vec3) → ℕ → Vec3 → List Float → ℕ → List Float
+fill_walk H P A normal n last T start =
+    (foldl (fill_step H P A normal last) (fill_of T (normal (next_around H start))) (vertex_cycle_back H n start)).tangents
 
 -- `if start_halfedge >= 0`
-unfoldable pub fillMissing : Halfedges → List Float → List Float → (ℕ → Vec3) → ℕ → Vec3 → List Float → StartHalfedge → List Float
-fillMissing H P A normal n last T NoneMissing = T
-fillMissing H P A normal n last T SomeMissing = T
-fillMissing H P A normal n last T (StartAt start) = fillWalk H P A normal n last T start
+unfoldable pub fill_missing : Halfedges → List Float → List Float → (ℕ → Vec3) → ℕ → Vec3 → List Float → StartHalfedge → List Float
+fill_missing H P A normal n last T NoneMissing = T
+fill_missing H P A normal n last T SomeMissing = T
+fill_missing H P A normal n last T (StartAt start) = fill_walk H P A normal n last T start
 
 -- ---- what they count
 
 -- each of the first loop
-unfoldable pub normalWalkDirectionless : Halfedges → List Float → List Float → (ℕ → Vec3) → (ℕ → Bool) → ℕ → Tangents → ℕ → ℕ
-normalWalkDirectionless H P A normal inside n m e =
-    (foldl (countStep (normalStep H P A normal inside) (normalStepDirectionless H P A normal inside)) (counted (walkOf m.tangents m.fixed startState) 0) (vertexCycle H n e)).count
+unfoldable pub normal_walk_directionless : Halfedges → List Float → List Float → (ℕ → Vec3) → (ℕ → Bool) → ℕ → Tangents → ℕ → ℕ
+normal_walk_directionless H P A normal inside n m e =
+    (foldl (count_step (normal_step H P A normal inside) (normal_step_directionless H P A normal inside)) (counted (walk_of m.tangents m.fixed start_state) 0) (vertex_cycle H n e)).count
 
 -- each of a point whose normals are all missing
-unfoldable pub vertNormalWalkDirectionless : Halfedges → List Float → List Float → ℕ → Vec3 → List Float → ℕ → ℕ
-vertNormalWalkDirectionless H P A n normal T e =
-    (foldl (countStep (vertNormalStep H P A normal) (vertNormalDirectionless H P)) (counted T 0) (vertexCycle H n e)).count
+unfoldable pub vert_normal_walk_directionless : Halfedges → List Float → List Float → ℕ → Vec3 → List Float → ℕ → ℕ
+vert_normal_walk_directionless H P A n normal T e =
+    (foldl (count_step (vert_normal_step H P A normal) (vert_normal_directionless H P)) (counted T 0) (vertex_cycle H n e)).count
 
 -- each one filled in
-unfoldable pub fillWalkDirectionless : Halfedges → List Float → List Float → (ℕ → Vec3) → ℕ → Vec3 → List Float → ℕ → ℕ
-fillWalkDirectionless H P A normal n last T start =
-    (foldl (countStep (fillStep H P A normal last) (λ (m : Fill). fillDirectionless H P m.tangents)) (counted (fillOf T (normal (nextAround H start))) 0) (vertexCycleBack H n start)).count
+unfoldable pub fill_walk_directionless : Halfedges → List Float → List Float → (ℕ → Vec3) → ℕ → Vec3 → List Float → ℕ → ℕ
+fill_walk_directionless H P A normal n last T start =
+    (foldl (count_step (fill_step H P A normal last) (λ (m : Fill). fill_directionless H P m.tangents)) (counted (fill_of T (normal (next_around H start))) 0) (vertex_cycle_back H n start)).count
 
-unfoldable pub fillMissingDirectionless : Halfedges → List Float → List Float → (ℕ → Vec3) → ℕ → Vec3 → List Float → StartHalfedge → ℕ
-fillMissingDirectionless H P A normal n last T NoneMissing = 0
-fillMissingDirectionless H P A normal n last T SomeMissing = 0
-fillMissingDirectionless H P A normal n last T (StartAt start) = fillWalkDirectionless H P A normal n last T start
+unfoldable pub fill_missing_directionless : Halfedges → List Float → List Float → (ℕ → Vec3) → ℕ → Vec3 → List Float → StartHalfedge → ℕ
+fill_missing_directionless H P A normal n last T NoneMissing = 0
+fill_missing_directionless H P A normal n last T SomeMissing = 0
+fill_missing_directionless H P A normal n last T (StartAt start) = fill_walk_directionless H P A normal n last T start
 
 -- ---- a point
 
 -- what follows the first loop, at point v, with its lowest halfedge e
-unfoldable pub finishVert : Halfedges → List Float → List Float → List Float → (ℕ → Vec3) → ℕ → Walk → ℕ → ℕ → Tangents
-finishVert H P N A normal n m v e =
+unfoldable pub finish_vert : Halfedges → List Float → List Float → List Float → (ℕ → Vec3) → ℕ → Walk → ℕ → ℕ → Tangents
+finish_vert H P N A normal n m v e =
     let s = m.state in
-    cond (someMissing s.start_halfedge && isZero s.last_normal)
-    (tangentsOf (vertNormalWalk H P A n (pointAt N v) m.tangents e) m.fixed)
-    (alignFaceEdges H P (tangentsOf (fillMissing H P A normal n s.last_normal m.tangents s.start_halfedge) m.fixed) s.face_edges)
+    cond (some_missing s.start_halfedge && is_zero s.last_normal)
+    (tangents_of (vert_normal_walk H P A n (point_at N v) m.tangents e) m.fixed)
+    (align_face_edges H P (tangents_of (fill_missing H P A normal n s.last_normal m.tangents s.start_halfedge) m.fixed) s.face_edges)
 
 -- the body of the loop over the points: nothing where no halfedge starts at v
-unfoldable pub normalsVert : Halfedges → List Float → List Float → List Float → (ℕ → Vec3) → (ℕ → Bool) → ℕ → Tangents → ℕ → Tangents
-normalsVert H P N A normal inside n m v =
-    let e = vertHalfedge H n v in
-    cond (ltb e n) (finishVert H P N A normal n (normalWalk H P A normal inside n m e) v e) m
+unfoldable pub normals_vert : Halfedges → List Float → List Float → List Float → (ℕ → Vec3) → (ℕ → Bool) → ℕ → Tangents → ℕ → Tangents
+normals_vert H P N A normal inside n m v =
+    let e = vert_halfedge H n v in
+    cond (ltb e n) (finish_vert H P N A normal n (normal_walk H P A normal inside n m e) v e) m
 
 -- all p points
-unfoldable pub normalsVerts : Halfedges → List Float → List Float → List Float → (ℕ → Vec3) → (ℕ → Bool) → ℕ → ℕ → Tangents → Tangents
-normalsVerts H P N A normal inside n p m = foldTo (normalsVert H P N A normal inside n) m p
+unfoldable pub normals_verts : Halfedges → List Float → List Float → List Float → (ℕ → Vec3) → (ℕ → Bool) → ℕ → ℕ → Tangents → Tangents
+normals_verts H P N A normal inside n p m = fold_to (normals_vert H P N A normal inside n) m p
 
 -- ---- what they count
 
 -- what follows the first loop: with all normals missing that is all; else those filled in, and both edges of a single flat face
-unfoldable pub finishVertDirectionless : Halfedges → List Float → List Float → List Float → (ℕ → Vec3) → ℕ → Walk → ℕ → ℕ → ℕ
-finishVertDirectionless H P N A normal n m v e =
+unfoldable pub finish_vert_directionless : Halfedges → List Float → List Float → List Float → (ℕ → Vec3) → ℕ → Walk → ℕ → ℕ → ℕ
+finish_vert_directionless H P N A normal n m v e =
     let s = m.state in
-    cond (someMissing s.start_halfedge && isZero s.last_normal)
-    (vertNormalWalkDirectionless H P A n (pointAt N v) m.tangents e)
-    (fillMissingDirectionless H P A normal n s.last_normal m.tangents s.start_halfedge + faceEdgesDirectionless H P s.face_edges)
+    cond (some_missing s.start_halfedge && is_zero s.last_normal)
+    (vert_normal_walk_directionless H P A n (point_at N v) m.tangents e)
+    (fill_missing_directionless H P A normal n s.last_normal m.tangents s.start_halfedge + face_edges_directionless H P s.face_edges)
 
 -- a point v
-unfoldable pub normalsVertDirectionless : Halfedges → List Float → List Float → List Float → (ℕ → Vec3) → (ℕ → Bool) → ℕ → Tangents → ℕ → ℕ
-normalsVertDirectionless H P N A normal inside n m v =
-    let e = vertHalfedge H n v in
+unfoldable pub normals_vert_directionless : Halfedges → List Float → List Float → List Float → (ℕ → Vec3) → (ℕ → Bool) → ℕ → Tangents → ℕ → ℕ
+normals_vert_directionless H P N A normal inside n m v =
+    let e = vert_halfedge H n v in
     cond (ltb e n)
-    (normalWalkDirectionless H P A normal inside n m e + finishVertDirectionless H P N A normal n (normalWalk H P A normal inside n m e) v e)
+    (normal_walk_directionless H P A normal inside n m e + finish_vert_directionless H P N A normal n (normal_walk H P A normal inside n m e) v e)
     0
 
 -- all p points
-unfoldable pub normalsVertsDirectionless : Halfedges → List Float → List Float → List Float → (ℕ → Vec3) → (ℕ → Bool) → ℕ → ℕ → Tangents → ℕ
-normalsVertsDirectionless H P N A normal inside n p m =
-    (foldTo (countStep (normalsVert H P N A normal inside n) (normalsVertDirectionless H P N A normal inside n)) (counted m 0) p).count
+unfoldable pub normals_verts_directionless : Halfedges → List Float → List Float → List Float → (ℕ → Vec3) → (ℕ → Bool) → ℕ → ℕ → Tangents → ℕ
+normals_verts_directionless H P N A normal inside n p m =
+    (fold_to (count_step (normals_vert H P N A normal inside n) (normals_vert_directionless H P N A normal inside n)) (counted m 0) p).count

@@ -3,13 +3,13 @@
 #![tactic(auto)]
 
 ghost use Rattle.std.specs.Prelude.{◌≡◌, ◌+◌, ◌*◌, ◌≤◌, ◌<◌, length};
-ghost use Rattle.mesh.specs.Mesh.{asHalfedges};
-ghost use Rattle.create_shared.specs.Makings.{tangentsOf};
-ghost use Rattle.normals_state.specs.State.{getNormal};
-ghost use Rattle.normals_steps.specs.Steps.{NormalsIn, StepIn, StartIn, StateIn, walkOf};
-ghost use Rattle.normals_steps.specs.Carried.{isInside};
-ghost use Rattle.normals_walks.specs.Walks.{FacesLists, VertsLists, normalWalk, vertNormalWalk, fillWalk, fillMissing, finishVert, normalsVert, normalsVerts};
-ghost use Rattle.normals_walks.specs.Walks.{normalWalkDirectionless, vertNormalWalkDirectionless, fillWalkDirectionless, fillMissingDirectionless, finishVertDirectionless, normalsVertDirectionless, normalsVertsDirectionless};
+ghost use Rattle.mesh.specs.Mesh.{as_halfedges};
+ghost use Rattle.create_shared.specs.Makings.{tangents_of};
+ghost use Rattle.normals_state.specs.State.{get_normal};
+ghost use Rattle.normals_steps.specs.Steps.{NormalsIn, StepIn, StartIn, StateIn, walk_of};
+ghost use Rattle.normals_steps.specs.Carried.{is_inside};
+ghost use Rattle.normals_walks.specs.Walks.{FacesLists, VertsLists, normal_walk, vert_normal_walk, fill_walk, fill_missing, finish_vert, normals_vert, normals_verts};
+ghost use Rattle.normals_walks.specs.Walks.{normal_walk_directionless, vert_normal_walk_directionless, fill_walk_directionless, fill_missing_directionless, finish_vert_directionless, normals_vert_directionless, normals_verts_directionless};
 
 use linalg::Vec3;
 use normals_state::{CycleState, StartHalfedge};
@@ -37,9 +37,9 @@ fn normal_walk(
     e: usize,
 ) -> NormalWalk
     requires { (e < n) × StepIn h.now pos.now face_normals.now face_units.now rows.now inside.now t.old fixed.old n }
-    ensures state { walkOf t.new fixed.new result.state ≡ normalWalk (asHalfedges h.now) pos.now face_normals.now (getNormal h.now rows.now) (isInside inside.now) n (tangentsOf t.old fixed.old) e }
+    ensures state { walk_of t.new fixed.new result.state ≡ normal_walk (as_halfedges h.now) pos.now face_normals.now (get_normal h.now rows.now) (is_inside inside.now) n (tangents_of t.old fixed.old) e }
     ensures state_in { StateIn n result.state }
-    ensures directionless { result.directionless ≡ normalWalkDirectionless (asHalfedges h.now) pos.now face_normals.now (getNormal h.now rows.now) (isInside inside.now) n (tangentsOf t.old fixed.old) e }
+    ensures directionless { result.directionless ≡ normal_walk_directionless (as_halfedges h.now) pos.now face_normals.now (get_normal h.now rows.now) (is_inside inside.now) n (tangents_of t.old fixed.old) e }
 {
     let mut state = normals_state::start_state();
     let mut here = normals_state::halfedge_normal(h, face_units, rows, e);
@@ -93,9 +93,9 @@ fn vert_normal_walk(
     t: &mut [f64],
     e: usize,
 ) -> usize
-    requires { (e < n) × FacesLists (asHalfedges h.now) pos.now face_normals.now t.old n }
-    ensures tangents { t.new ≡ vertNormalWalk (asHalfedges h.now) pos.now face_normals.now n normal t.old e }
-    ensures directionless { result ≡ vertNormalWalkDirectionless (asHalfedges h.now) pos.now face_normals.now n normal t.old e }
+    requires { (e < n) × FacesLists (as_halfedges h.now) pos.now face_normals.now t.old n }
+    ensures tangents { t.new ≡ vert_normal_walk (as_halfedges h.now) pos.now face_normals.now n normal t.old e }
+    ensures directionless { result ≡ vert_normal_walk_directionless (as_halfedges h.now) pos.now face_normals.now n normal t.old e }
 {
     let mut directionless = 0;
     let mut current = e;
@@ -121,8 +121,8 @@ fn fill_walk(
     start: usize,
 ) -> usize
     requires { (start < n) × NormalsIn h.now pos.now face_normals.now rows.now t.old n }
-    ensures tangents { t.new ≡ fillWalk (asHalfedges h.now) pos.now face_normals.now (getNormal h.now rows.now) n last t.old start }
-    ensures directionless { result ≡ fillWalkDirectionless (asHalfedges h.now) pos.now face_normals.now (getNormal h.now rows.now) n last t.old start }
+    ensures tangents { t.new ≡ fill_walk (as_halfedges h.now) pos.now face_normals.now (get_normal h.now rows.now) n last t.old start }
+    ensures directionless { result ≡ fill_walk_directionless (as_halfedges h.now) pos.now face_normals.now (get_normal h.now rows.now) n last t.old start }
 {
     let next = cycles::next_around(h, start);
     let mut prev = normals_state::get_normal(h, rows, next);
@@ -152,8 +152,8 @@ fn fill_missing(
     start: StartHalfedge,
 ) -> usize
     requires { StartIn n start × NormalsIn h.now pos.now face_normals.now rows.now t.old n }
-    ensures tangents { t.new ≡ fillMissing (asHalfedges h.now) pos.now face_normals.now (getNormal h.now rows.now) n last t.old start }
-    ensures directionless { result ≡ fillMissingDirectionless (asHalfedges h.now) pos.now face_normals.now (getNormal h.now rows.now) n last t.old start }
+    ensures tangents { t.new ≡ fill_missing (as_halfedges h.now) pos.now face_normals.now (get_normal h.now rows.now) n last t.old start }
+    ensures directionless { result ≡ fill_missing_directionless (as_halfedges h.now) pos.now face_normals.now (get_normal h.now rows.now) n last t.old start }
 {
     match start {
         StartHalfedge::NoneMissing => 0,
@@ -179,8 +179,8 @@ fn finish_vert(
     e: usize,
 ) -> usize
     requires { (e < n) × (v * 3 + 3 ≤ length normals.now) × StateIn n state × NormalsIn h.now pos.now face_normals.now rows.now t.old n × (length fixed.old ≡ n) }
-    ensures tangents { tangentsOf t.new fixed.new ≡ finishVert (asHalfedges h.now) pos.now normals.now face_normals.now (getNormal h.now rows.now) n (walkOf t.old fixed.old state) v e }
-    ensures directionless { result ≡ finishVertDirectionless (asHalfedges h.now) pos.now normals.now face_normals.now (getNormal h.now rows.now) n (walkOf t.old fixed.old state) v e }
+    ensures tangents { tangents_of t.new fixed.new ≡ finish_vert (as_halfedges h.now) pos.now normals.now face_normals.now (get_normal h.now rows.now) n (walk_of t.old fixed.old state) v e }
+    ensures directionless { result ≡ finish_vert_directionless (as_halfedges h.now) pos.now normals.now face_normals.now (get_normal h.now rows.now) n (walk_of t.old fixed.old state) v e }
 {
     let start = state.start_halfedge;
     let last = state.last_normal;
@@ -213,8 +213,8 @@ fn normals_vert(
     v: usize,
 ) -> usize
     requires { (v < length vert_halfedge.now) × VertsLists h.now pos.now normals.now face_normals.now face_units.now rows.now inside.now vert_halfedge.now t.old fixed.old n }
-    ensures tangents { tangentsOf t.new fixed.new ≡ normalsVert (asHalfedges h.now) pos.now normals.now face_normals.now (getNormal h.now rows.now) (isInside inside.now) n (tangentsOf t.old fixed.old) v }
-    ensures directionless { result ≡ normalsVertDirectionless (asHalfedges h.now) pos.now normals.now face_normals.now (getNormal h.now rows.now) (isInside inside.now) n (tangentsOf t.old fixed.old) v }
+    ensures tangents { tangents_of t.new fixed.new ≡ normals_vert (as_halfedges h.now) pos.now normals.now face_normals.now (get_normal h.now rows.now) (is_inside inside.now) n (tangents_of t.old fixed.old) v }
+    ensures directionless { result ≡ normals_vert_directionless (as_halfedges h.now) pos.now normals.now face_normals.now (get_normal h.now rows.now) (is_inside inside.now) n (tangents_of t.old fixed.old) v }
 {
     let e = vert_halfedge[v];
     if e >= n {
@@ -263,8 +263,8 @@ pub fn normals_verts(
     fixed: &mut [u8],
 ) -> usize
     requires { VertsLists h.now pos.now normals.now face_normals.now face_units.now rows.now inside.now vert_halfedge.now t.old fixed.old n }
-    ensures tangents { tangentsOf t.new fixed.new ≡ normalsVerts (asHalfedges h.now) pos.now normals.now face_normals.now (getNormal h.now rows.now) (isInside inside.now) n (length vert_halfedge.now) (tangentsOf t.old fixed.old) }
-    ensures directionless { result ≡ normalsVertsDirectionless (asHalfedges h.now) pos.now normals.now face_normals.now (getNormal h.now rows.now) (isInside inside.now) n (length vert_halfedge.now) (tangentsOf t.old fixed.old) }
+    ensures tangents { tangents_of t.new fixed.new ≡ normals_verts (as_halfedges h.now) pos.now normals.now face_normals.now (get_normal h.now rows.now) (is_inside inside.now) n (length vert_halfedge.now) (tangents_of t.old fixed.old) }
+    ensures directionless { result ≡ normals_verts_directionless (as_halfedges h.now) pos.now normals.now face_normals.now (get_normal h.now rows.now) (is_inside inside.now) n (length vert_halfedge.now) (tangents_of t.old fixed.old) }
 {
     let mut directionless = 0;
     let mut v = 0;

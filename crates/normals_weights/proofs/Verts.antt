@@ -13,69 +13,69 @@ use lib.Ieee.{Float, eq, of_bits}
 use Rattle.linalg.specs.declared.Vec3.{Vec3}
 use Rattle.mesh.specs.Mesh.{Halfedges}
 use Rattle.mesh.specs.Sound.{Sound}
-use Rattle.smoothing.specs.Lists.{pointAt, weightAt}
+use Rattle.smoothing.specs.Lists.{point_at, weight_at}
 use Rattle.cycles.specs.Count.{◌∈◌}
 use Rattle.cycles.specs.Walk.{iter}
-use Rattle.cycles.specs.Cycles.{nextAround, vertexCycle, vertexCycleBack}
-use Rattle.cycles.proofs.Paths.{iter-zero, iter-suc}
-use Rattle.cycles.proofs.Orbits.{cycle-reached, cycle-all, cycle-below, cycles-equal}
-use Rattle.cycles.proofs.Around.{next-permutes, cycle-ways}
-use Rattle.create_shared.specs.Faces.{vertHalfedge}
-use Rattle.create_shared.specs.Makings.{Tangents, tangentsOf}
+use Rattle.cycles.specs.Cycles.{next_around, vertex_cycle, vertex_cycle_back}
+use Rattle.cycles.proofs.Paths.{iter_zero, iter_suc}
+use Rattle.cycles.proofs.Orbits.{cycle_reached, cycle_all, cycle_below, cycles_equal}
+use Rattle.cycles.proofs.Around.{next_permutes, cycle_ways}
+use Rattle.create_shared.specs.Faces.{vert_halfedge}
+use Rattle.create_shared.specs.Makings.{Tangents, tangents_of}
 use Rattle.normals_state.specs.declared.StartHalfedge.{StartHalfedge}
 use Rattle.normals_state.specs.declared.StartHalfedge.TheVariants.{NoneMissing, SomeMissing, StartAt}
-use Rattle.normals_state.specs.State.{isZero, isMissing, someMissing, setStart, missingStart, nextStart, nextLast, zeroNormal, startState}
-use Rattle.normals_steps.specs.Steps.{missingNormalWeight, Walk, walkOf, normalStep, vertNormalStep, fillOf, fillStep, alignFaceEdges}
-use Rattle.normals_walks.specs.Walks.{normalWalk, vertNormalWalk, fillWalk, fillMissing, finishVert, normalsVert}
-use Rattle.normals_weights.proofs.Folds.{list-keeps, list-gains}
-use Rattle.normals_weights.proofs.Writes.{Writes, Made, MadeOrMissing, vert-normal-writes, vert-normal-made, fill-writes, fill-made, align-length, align-keeps, Flagged, normal-writes, normal-flagged, normal-start, normal-last}
+use Rattle.normals_state.specs.State.{is_zero, is_missing, some_missing, set_start, missing_start, next_start, next_last, zero_normal, start_state}
+use Rattle.normals_steps.specs.Steps.{missing_normal_weight, Walk, walk_of, normal_step, vert_normal_step, fill_of, fill_step, align_face_edges}
+use Rattle.normals_walks.specs.Walks.{normal_walk, vert_normal_walk, fill_walk, fill_missing, finish_vert, normals_vert}
+use Rattle.normals_weights.proofs.Folds.{list_keeps, list_gains}
+use Rattle.normals_weights.proofs.Writes.{Writes, Made, MadeOrMissing, vert_normal_writes, vert_normal_made, fill_writes, fill_made, align_length, align_keeps, Flagged, normal_writes, normal_flagged, normal_start, normal_last}
 
 -- ---- `start_halfedge` and `last_normal`, one halfedge after the other
 
-abbrev isStart : StartHalfedge → Bool
-isStart NoneMissing = false
-isStart SomeMissing = false
-isStart (StartAt e) = true
+abbrev is_start : StartHalfedge → Bool
+is_start NoneMissing = false
+is_start SomeMissing = false
+is_start (StartAt e) = true
 
 -- once some normal is missing, it stays so; and a start is kept
-some-kept : (here next : Bool) (s : StartHalfedge) (e : ℕ) → someMissing s ≡ true → someMissing (nextStart here next s e) ≡ true
-unfolding nextStart missingStart setStart
-some-kept false next s e k = k
-some-kept true true NoneMissing e k = refl
-some-kept true false NoneMissing e k = refl
-some-kept true true SomeMissing e k = refl
-some-kept true false SomeMissing e k = refl
-some-kept true next (StartAt a) e k = refl
+some_kept : (here next : Bool) (s : StartHalfedge) (e : ℕ) → some_missing s ≡ true → some_missing (next_start here next s e) ≡ true
+unfolding next_start missing_start set_start
+some_kept false next s e k = k
+some_kept true true NoneMissing e k = refl
+some_kept true false NoneMissing e k = refl
+some_kept true true SomeMissing e k = refl
+some_kept true false SomeMissing e k = refl
+some_kept true next (StartAt a) e k = refl
 
-start-kept : (here next : Bool) (s : StartHalfedge) (e : ℕ) → isStart s ≡ true → isStart (nextStart here next s e) ≡ true
-unfolding nextStart missingStart setStart
-start-kept false next s e k = k
-start-kept true next NoneMissing e k = absurd (true≢false (sym k))
-start-kept true next SomeMissing e k = absurd (true≢false (sym k))
-start-kept true next (StartAt a) e k = refl
+start_kept : (here next : Bool) (s : StartHalfedge) (e : ℕ) → is_start s ≡ true → is_start (next_start here next s e) ≡ true
+unfolding next_start missing_start set_start
+start_kept false next s e k = k
+start_kept true next NoneMissing e k = absurd (true≢false (sym k))
+start_kept true next SomeMissing e k = absurd (true≢false (sym k))
+start_kept true next (StartAt a) e k = refl
 
 -- at a missing normal; and where the next one is there
-some-set : (next : Bool) (s : StartHalfedge) (e : ℕ) → someMissing (nextStart true next s e) ≡ true
-unfolding nextStart missingStart setStart
-some-set true NoneMissing e = refl
-some-set false NoneMissing e = refl
-some-set true SomeMissing e = refl
-some-set false SomeMissing e = refl
-some-set next (StartAt a) e = refl
+some_set : (next : Bool) (s : StartHalfedge) (e : ℕ) → some_missing (next_start true next s e) ≡ true
+unfolding next_start missing_start set_start
+some_set true NoneMissing e = refl
+some_set false NoneMissing e = refl
+some_set true SomeMissing e = refl
+some_set false SomeMissing e = refl
+some_set next (StartAt a) e = refl
 
-start-set : (s : StartHalfedge) (e : ℕ) → isStart (nextStart true false s e) ≡ true
-unfolding nextStart missingStart setStart
-start-set NoneMissing e = refl
-start-set SomeMissing e = refl
-start-set (StartAt a) e = refl
+start_set : (s : StartHalfedge) (e : ℕ) → is_start (next_start true false s e) ≡ true
+unfolding next_start missing_start set_start
+start_set NoneMissing e = refl
+start_set SomeMissing e = refl
+start_set (StartAt a) e = refl
 
-last-kept : (next : Bool) (normal last : Vec3) → nextLast true next normal last ≡ last
-unfolding nextLast
-last-kept next normal last = refl
+last_kept : (next : Bool) (normal last : Vec3) → next_last true next normal last ≡ last
+unfolding next_last
+last_kept next normal last = refl
 
-zero-normal : isZero zeroNormal ≡ true
-unfolding isZero eq of_bits
-zero-normal = refl
+zero_normal_lem : is_zero zero_normal ≡ true
+unfolding is_zero eq of_bits
+zero_normal_lem = refl
 
 -- the start is a halfedge of the list
 abbrev StartOf : List ℕ → StartHalfedge → Type 0
@@ -83,26 +83,26 @@ StartOf xs NoneMissing = Unit {0}
 StartOf xs SomeMissing = Unit {0}
 StartOf xs (StartAt e) = e ∈ xs
 
-start-of : (xs : List ℕ) (here next : Bool) (s : StartHalfedge) (e : ℕ) → e ∈ xs → StartOf xs s → StartOf xs (nextStart here next s e)
-unfolding nextStart missingStart setStart
-start-of xs false next s e m k = k
-start-of xs true true NoneMissing e m k = tt
-start-of xs true false NoneMissing e m k = m
-start-of xs true true SomeMissing e m k = tt
-start-of xs true false SomeMissing e m k = m
-start-of xs true next (StartAt a) e m k = k
+start_of : (xs : List ℕ) (here next : Bool) (s : StartHalfedge) (e : ℕ) → e ∈ xs → StartOf xs s → StartOf xs (next_start here next s e)
+unfolding next_start missing_start set_start
+start_of xs false next s e m k = k
+start_of xs true true NoneMissing e m k = tt
+start_of xs true false NoneMissing e m k = m
+start_of xs true true SomeMissing e m k = tt
+start_of xs true false SomeMissing e m k = m
+start_of xs true next (StartAt a) e m k = k
 
-either-true : (a b : Bool) → (a || b) ≡ true → (a ≡ true) ⊎ (b ≡ true)
-either-true true b q = inl refl
-either-true false b q = inr q
+either_true : (a b : Bool) → (a || b) ≡ true → (a ≡ true) ⊎ (b ≡ true)
+either_true true b q = inl refl
+either_true false b q = inr q
 
 -- ---- a loop that writes each flag of a missing normal anew
 
 module _ (H : Halfedges) (P : List Float) (n : ℕ) where
   module _ {S : Type 0} (step : S → ℕ → S) (tangents : S → List Float) (writes : (s : S) (x : ℕ) → Writes (tangents s) (tangents (step s x)) x)
       (makes : (s : S) (x : ℕ) → x * 4 + 4 ≤ length (tangents s) → MadeOrMissing H P (tangents s) x → Made H P (tangents (step s x)) x) where
-    loop-length : (xs : List ℕ) (s : S) → length (tangents s) ≡ n * 4 → length (tangents (foldl step s xs)) ≡ n * 4
-    loop-length xs s = list-keeps step (λ t. length (tangents t) ≡ n * 4) xs (λ t x m i. (writes t x).same_length ∙ i) s
+    loop_length : (xs : List ℕ) (s : S) → length (tangents s) ≡ n * 4 → length (tangents (foldl step s xs)) ≡ n * 4
+    loop_length xs s = list_keeps step (λ t. length (tangents t) ≡ n * 4) xs (λ t x m i. (writes t x).same_length ∙ i) s
 
     module _ (d : ℕ) (b : d < n) where
       -- at halfedge d
@@ -112,226 +112,226 @@ module _ (H : Halfedges) (P : List Float) (n : ℕ) where
       abbrev MadeOrMissingAt : S → Type 0
       MadeOrMissingAt s = (length (tangents s) ≡ n * 4) × MadeOrMissing H P (tangents s) d
 
-      made-keeps : (s : S) (x : ℕ) → MadeAt s → MadeAt (step s x)
-      made-keeps s x (l, m) = ((writes s x).same_length ∙ l, go (ℕ_discrete d x))
+      made_keeps : (s : S) (x : ℕ) → MadeAt s → MadeAt (step s x)
+      made_keeps s x (l, m) = ((writes s x).same_length ∙ l, go (ℕ_discrete d x))
         where
           go : Dec (d ≡ x) → Made H P (tangents (step s x)) d
           go (yes q) = rw q (makes s x (omega arith) (inl (rw q at m)))
           go (no q) = rw ((writes s x).others d q) m
 
-      missing-keeps : (s : S) (x : ℕ) → MadeOrMissingAt s → MadeOrMissingAt (step s x)
-      missing-keeps s x (l, inl m) = let k = made-keeps s x (l, m) in (k.0, inl k.1)
-      missing-keeps s x (l, inr m) = ((writes s x).same_length ∙ l, go (ℕ_discrete d x))
+      missing_keeps : (s : S) (x : ℕ) → MadeOrMissingAt s → MadeOrMissingAt (step s x)
+      missing_keeps s x (l, inl m) = let k = made_keeps s x (l, m) in (k.0, inl k.1)
+      missing_keeps s x (l, inr m) = ((writes s x).same_length ∙ l, go (ℕ_discrete d x))
         where
           go : Dec (d ≡ x) → MadeOrMissing H P (tangents (step s x)) d
           go (yes q) = inl (rw q (makes s x (omega arith) (inr (rw q at m))))
           go (no q) = inr ((writes s x).others d q ∙ m)
 
-      pub loop-made : (xs : List ℕ) (s : S) → length (tangents s) ≡ n * 4 → Made H P (tangents s) d ⊎ ((weightAt (tangents s) d ≡ missingNormalWeight) × (d ∈ xs)) → Made H P (tangents (foldl step s xs)) d
-      loop-made xs s l (inl m) = (list-keeps step MadeAt xs (λ t x k i. made-keeps t x i) s (l, m)).1
-      loop-made xs s l (inr m) =
-          (list-gains step MadeOrMissingAt MadeAt d xs m.1 (λ t x k i. missing-keeps t x i) (λ t x k i. made-keeps t x i)
+      pub loop_made : (xs : List ℕ) (s : S) → length (tangents s) ≡ n * 4 → Made H P (tangents s) d ⊎ ((weight_at (tangents s) d ≡ missing_normal_weight) × (d ∈ xs)) → Made H P (tangents (foldl step s xs)) d
+      loop_made xs s l (inl m) = (list_keeps step MadeAt xs (λ t x k i. made_keeps t x i) s (l, m)).1
+      loop_made xs s l (inr m) =
+          (list_gains step MadeOrMissingAt MadeAt d xs m.1 (λ t x k i. missing_keeps t x i) (λ t x k i. made_keeps t x i)
           (λ t i. ((writes t d).same_length ∙ i.0, makes t d (omega (arith, i.0)) i.1)) s (l, inr m.0)).1
 
 -- ---- the vertex cycle of halfedge h
 
-module _ {H : Halfedges} {n p : ℕ} (S : Sound H n p) (h : ℕ) (h-below : h < n) where
+module _ {H : Halfedges} {n p : ℕ} (S : Sound H n p) (h : ℕ) (h_below : h < n) where
   abbrev cycle : List ℕ
-  cycle = vertexCycle H n h
+  cycle = vertex_cycle H n h
 
-  in-below : (x : ℕ) → x ∈ cycle → x < n
-  in-below x m = cycle-below (next-permutes S) h h-below x m
+  in_below : (x : ℕ) → x ∈ cycle → x < n
+  in_below x m = cycle_below (next_permutes S) h h_below x m
 
-  next-in : (x : ℕ) → x ∈ cycle → nextAround H x ∈ cycle
-  next-in x m =
-      let r = cycle-reached (next-permutes S) h h-below x m in
-      cycle-all (next-permutes S) h h-below (nextAround H x) (suc r.0, iter-suc (nextAround H) r.0 h ∙ ap (nextAround H) r.1)
+  next_in : (x : ℕ) → x ∈ cycle → next_around H x ∈ cycle
+  next_in x m =
+      let r = cycle_reached (next_permutes S) h h_below x m in
+      cycle_all (next_permutes S) h h_below (next_around H x) (suc r.0, iter_suc (next_around H) r.0 h ∙ ap (next_around H) r.1)
 
   -- it is the cycle of each of its halfedges, and has the same ones the other way round
-  same-cycle : (x y : ℕ) → x ∈ cycle → y ∈ cycle → y ∈ vertexCycle H n x
-  same-cycle x y mx my =
-      let bx = in-below x mx in
-      let own = cycle-all (next-permutes S) x bx x (0, iter-zero (nextAround H) x) in
-      rw (← cycles-equal (next-permutes S) h x x h-below bx mx own y) my
+  same_cycle : (x y : ℕ) → x ∈ cycle → y ∈ cycle → y ∈ vertex_cycle H n x
+  same_cycle x y mx my =
+      let bx = in_below x mx in
+      let own = cycle_all (next_permutes S) x bx x (0, iter_zero (next_around H) x) in
+      rw (← cycles_equal (next_permutes S) h x x h_below bx mx own y) my
 
-  same-back : (x y : ℕ) → x ∈ cycle → y ∈ cycle → y ∈ vertexCycleBack H n x
-  same-back x y mx my = rw (cycle-ways S x y (in-below x mx)) (same-cycle x y mx my)
+  same_back : (x y : ℕ) → x ∈ cycle → y ∈ cycle → y ∈ vertex_cycle_back H n x
+  same_back x y mx my = rw (cycle_ways S x y (in_below x mx)) (same_cycle x y mx my)
 
-  module _ (P A : List Float) (normal : ℕ → Vec3) (in-quad : ℕ → Bool) where
-    abbrev isZeroAt : ℕ → Bool
-    isZeroAt x = isZero (normal x)
+  module _ (P A : List Float) (normal : ℕ → Vec3) (in_quad : ℕ → Bool) where
+    abbrev is_zero_at : ℕ → Bool
+    is_zero_at x = is_zero (normal x)
 
     -- where the next of a missing normal is always missing, and one is, all are
-    along : ((x : ℕ) → x ∈ cycle → isZeroAt x ≡ true → isZeroAt (nextAround H x) ≡ true) → (i y : ℕ) → y ∈ cycle → isZeroAt y ≡ true → isZeroAt (iter (nextAround H) i y) ≡ true
+    along : ((x : ℕ) → x ∈ cycle → is_zero_at x ≡ true → is_zero_at (next_around H x) ≡ true) → (i y : ℕ) → y ∈ cycle → is_zero_at y ≡ true → is_zero_at (iter (next_around H) i y) ≡ true
     unfolding iter
     along f zero y m z = z
-    along f (suc i) y m z = along f i (nextAround H y) (next-in y m) (f y m z)
+    along f (suc i) y m z = along f i (next_around H y) (next_in y m) (f y m z)
 
-    all-zero : ((x : ℕ) → x ∈ cycle → isZeroAt x ≡ true → isZeroAt (nextAround H x) ≡ true) → (y : ℕ) → y ∈ cycle → isZeroAt y ≡ true → (x : ℕ) → x ∈ cycle → isZeroAt x ≡ true
-    all-zero f y my z x mx =
-        let r = cycle-reached (next-permutes S) y (in-below y my) x (same-cycle y x my mx) in
-        subst (λ (u : ℕ). isZeroAt u ≡ true) r.1 (along f r.0 y my z)
+    all_zero : ((x : ℕ) → x ∈ cycle → is_zero_at x ≡ true → is_zero_at (next_around H x) ≡ true) → (y : ℕ) → y ∈ cycle → is_zero_at y ≡ true → (x : ℕ) → x ∈ cycle → is_zero_at x ≡ true
+    all_zero f y my z x mx =
+        let r = cycle_reached (next_permutes S) y (in_below y my) x (same_cycle y x my mx) in
+        subst (λ (u : ℕ). is_zero_at u ≡ true) r.1 (along f r.0 y my z)
 
     -- ---- the first loop, from the tangents and flags m
 
     module _ (m : Tangents) where
       abbrev step : Walk → ℕ → Walk
-      step = normalStep H P A normal in-quad
+      step = normal_step H P A normal in_quad
 
       abbrev before : Walk
-      before = walkOf m.tangents m.fixed startState
+      before = walk_of m.tangents m.fixed start_state
 
       abbrev after : Walk
       after = foldl step before cycle
 
-      abbrev startAfter : StartHalfedge
-      startAfter = after.state.start_halfedge
+      abbrev start_after : StartHalfedge
+      start_after = after.state.start_halfedge
 
       -- a missing normal is noticed
-      some-missing : (y : ℕ) → y ∈ cycle → isZeroAt y ≡ true → someMissing startAfter ≡ true
-      some-missing y my z =
-          list-gains step (λ k. Unit {0}) (λ k. someMissing k.state.start_halfedge ≡ true) y cycle my (λ k x l i. tt)
-          (λ k x l i. rw (normal-start H P A normal in-quad k x) (some-kept _ _ _ x i))
-          (λ k i. rw (normal-start H P A normal in-quad k y, z) (some-set _ _ y)) before tt
+      some_missing_lem : (y : ℕ) → y ∈ cycle → is_zero_at y ≡ true → some_missing start_after ≡ true
+      some_missing_lem y my z =
+          list_gains step (λ k. Unit {0}) (λ k. some_missing k.state.start_halfedge ≡ true) y cycle my (λ k x l i. tt)
+          (λ k x l i. rw (normal_start H P A normal in_quad k x) (some_kept _ _ _ x i))
+          (λ k i. rw (normal_start H P A normal in_quad k y, z) (some_set _ _ y)) before tt
 
       -- and a start is found where the next one is there
-      start-found : (y : ℕ) → y ∈ cycle → isZeroAt y ≡ true → isZeroAt (nextAround H y) ≡ false → isStart startAfter ≡ true
-      start-found y my z w =
-          list-gains step (λ k. Unit {0}) (λ k. isStart k.state.start_halfedge ≡ true) y cycle my (λ k x l i. tt)
-          (λ k x l i. rw (normal-start H P A normal in-quad k x) (start-kept _ _ _ x i))
-          (λ k i. rw (normal-start H P A normal in-quad k y, z, w) (start-set _ y)) before tt
+      start_found : (y : ℕ) → y ∈ cycle → is_zero_at y ≡ true → is_zero_at (next_around H y) ≡ false → is_start start_after ≡ true
+      start_found y my z w =
+          list_gains step (λ k. Unit {0}) (λ k. is_start k.state.start_halfedge ≡ true) y cycle my (λ k x l i. tt)
+          (λ k x l i. rw (normal_start H P A normal in_quad k x) (start_kept _ _ _ x i))
+          (λ k i. rw (normal_start H P A normal in_quad k y, z, w) (start_set _ y)) before tt
 
       -- it is a halfedge of the cycle
-      start-in : StartOf cycle startAfter
-      start-in =
-          list-keeps step (λ k. StartOf cycle k.state.start_halfedge) cycle
-          (λ k x l i. rw (normal-start H P A normal in-quad k x) (start-of cycle _ _ _ x l i)) before tt
+      start_in : StartOf cycle start_after
+      start_in =
+          list_keeps step (λ k. StartOf cycle k.state.start_halfedge) cycle
+          (λ k x l i. rw (normal_start H P A normal in_quad k x) (start_of cycle _ _ _ x l i)) before tt
 
       -- where all normals are missing there is no last one
-      last-zero : ((x : ℕ) → x ∈ cycle → isZeroAt x ≡ true) → after.state.last_normal ≡ zeroNormal
-      last-zero f =
-          list-keeps step (λ k. k.state.last_normal ≡ zeroNormal) cycle
-          (λ k x l i. normal-last H P A normal in-quad k x ∙ rw (f x l) (last-kept _ _ _) ∙ i) before refl
+      last_zero : ((x : ℕ) → x ∈ cycle → is_zero_at x ≡ true) → after.state.last_normal ≡ zero_normal
+      last_zero f =
+          list_keeps step (λ k. k.state.last_normal ≡ zero_normal) cycle
+          (λ k x l i. normal_last H P A normal in_quad k x ∙ rw (f x l) (last_kept _ _ _) ∙ i) before refl
 
       module _ (whole : length m.tangents ≡ n * 4) where
-        after-length : length after.tangents ≡ n * 4
-        after-length = list-keeps step (λ k. length k.tangents ≡ n * 4) cycle (λ k x l i. (normal-writes H P A normal in-quad k x).same_length ∙ i) before whole
+        after_length : length after.tangents ≡ n * 4
+        after_length = list_keeps step (λ k. length k.tangents ≡ n * 4) cycle (λ k x l i. (normal_writes H P A normal in_quad k x).same_length ∙ i) before whole
 
-        vert-normal-length : (normal : Vec3) → length (vertNormalWalk H P A n normal after.tangents h) ≡ n * 4
-        unfolding vertNormalWalk
-        vert-normal-length normal =
-            loop-length H P n (vertNormalStep H P A normal) (λ T. T) (vert-normal-writes H P A normal) (vert-normal-made H P A normal) cycle after.tangents after-length
+        vert_normal_length : (normal : Vec3) → length (vert_normal_walk H P A n normal after.tangents h) ≡ n * 4
+        unfolding vert_normal_walk
+        vert_normal_length normal =
+            loop_length H P n (vert_normal_step H P A normal) (λ T. T) (vert_normal_writes H P A normal) (vert_normal_made H P A normal) cycle after.tangents after_length
 
-        fill-missing-length : (last : Vec3) (start : StartHalfedge) → length (fillMissing H P A normal n last after.tangents start) ≡ n * 4
-        unfolding fillMissing fillWalk
-        fill-missing-length last NoneMissing = after-length
-        fill-missing-length last SomeMissing = after-length
-        fill-missing-length last (StartAt start) =
-            loop-length H P n (fillStep H P A normal last) (λ k. k.tangents) (fill-writes H P A normal last) (fill-made H P A normal last) (vertexCycleBack H n start)
-            (fillOf after.tangents (normal (nextAround H start))) after-length
+        fill_missing_length : (last : Vec3) (start : StartHalfedge) → length (fill_missing H P A normal n last after.tangents start) ≡ n * 4
+        unfolding fill_missing fill_walk
+        fill_missing_length last NoneMissing = after_length
+        fill_missing_length last SomeMissing = after_length
+        fill_missing_length last (StartAt start) =
+            loop_length H P n (fill_step H P A normal last) (λ k. k.tangents) (fill_writes H P A normal last) (fill_made H P A normal last) (vertex_cycle_back H n start)
+            (fill_of after.tangents (normal (next_around H start))) after_length
 
-        finish-length : (N : List Float) (v : ℕ) → length (finishVert H P N A normal n after v h).tangents ≡ n * 4
-        unfolding finishVert
-        finish-length N v = go (someMissing startAfter && isZero after.state.last_normal)
+        finish_length : (N : List Float) (v : ℕ) → length (finish_vert H P N A normal n after v h).tangents ≡ n * 4
+        unfolding finish_vert
+        finish_length N v = go (some_missing start_after && is_zero after.state.last_normal)
           where
             go : (c : Bool)
-                → length (cond c (tangentsOf (vertNormalWalk H P A n (pointAt N v) after.tangents h) after.fixed)
-                (alignFaceEdges H P (tangentsOf (fillMissing H P A normal n after.state.last_normal after.tangents startAfter) after.fixed) after.state.face_edges)).tangents ≡ n * 4
-            go true = vert-normal-length (pointAt N v)
-            go false = align-length H P _ after.state.face_edges ∙ fill-missing-length after.state.last_normal startAfter
+                → length (cond c (tangents_of (vert_normal_walk H P A n (point_at N v) after.tangents h) after.fixed)
+                (align_face_edges H P (tangents_of (fill_missing H P A normal n after.state.last_normal after.tangents start_after) after.fixed) after.state.face_edges)).tangents ≡ n * 4
+            go true = vert_normal_length (point_at N v)
+            go false = align_length H P _ after.state.face_edges ∙ fill_missing_length after.state.last_normal start_after
 
         -- ---- at halfedge d, whose weight was made before
 
         module _ (d : ℕ) (b : d < n) (made : Made H P m.tangents d) where
           -- the flag of a missing normal is left only in the cycle, and where a normal is missing
           abbrev MissingInCycle : List Float → Type 0
-          MissingInCycle T = Made H P T d ⊎ ((weightAt T d ≡ missingNormalWeight) × (d ∈ cycle) × (isMissing H normal d ≡ true))
+          MissingInCycle T = Made H P T d ⊎ ((weight_at T d ≡ missing_normal_weight) × (d ∈ cycle) × (is_missing H normal d ≡ true))
 
           abbrev WalkInvariant : Walk → Type 0
           WalkInvariant k = (length k.tangents ≡ n * 4) × MissingInCycle k.tangents
 
-          flagged-in-cycle : (T : List Float) → d ∈ cycle → Flagged H P A normal in-quad T d → MissingInCycle T
-          flagged-in-cycle T l (inl k) = inl k
-          flagged-in-cycle T l (inr k) = inr (k.0, l, k.1)
+          flagged_in_cycle : (T : List Float) → d ∈ cycle → Flagged H P A normal in_quad T d → MissingInCycle T
+          flagged_in_cycle T l (inl k) = inl k
+          flagged_in_cycle T l (inr k) = inr (k.0, l, k.1)
 
-          step-keeps : (k : Walk) (x : ℕ) → x ∈ cycle → WalkInvariant k → WalkInvariant (step k x)
-          step-keeps k x l (w, i) = ((normal-writes H P A normal in-quad k x).same_length ∙ w, go (ℕ_discrete d x))
+          step_keeps : (k : Walk) (x : ℕ) → x ∈ cycle → WalkInvariant k → WalkInvariant (step k x)
+          step_keeps k x l (w, i) = ((normal_writes H P A normal in_quad k x).same_length ∙ w, go (ℕ_discrete d x))
             where
               go : Dec (d ≡ x) → MissingInCycle (step k x).tangents
-              go (yes q) = flagged-in-cycle (step k x).tangents (rw q l) (rw q (normal-flagged H P A normal in-quad k x (omega arith)))
-              go (no q) = rw ((normal-writes H P A normal in-quad k x).others d q) i
+              go (yes q) = flagged_in_cycle (step k x).tangents (rw q l) (rw q (normal_flagged H P A normal in_quad k x (omega arith)))
+              go (no q) = rw ((normal_writes H P A normal in_quad k x).others d q) i
 
-          after-made : MissingInCycle after.tangents
-          after-made = (list-keeps step WalkInvariant cycle step-keeps before (whole, inl made)).1
+          after_made : MissingInCycle after.tangents
+          after_made = (list_keeps step WalkInvariant cycle step_keeps before (whole, inl made)).1
 
-          -- one of the two normals that `isMissing` asks about
-          missing-one : d ∈ cycle → isMissing H normal d ≡ true → (y : ℕ) × (y ∈ cycle) × (isZeroAt y ≡ true)
-          unfolding isMissing
-          missing-one l q = go (either-true (isZeroAt d) (isZeroAt (nextAround H d)) q)
+          -- one of the two normals that `is_missing` asks about
+          missing_one : d ∈ cycle → is_missing H normal d ≡ true → (y : ℕ) × (y ∈ cycle) × (is_zero_at y ≡ true)
+          unfolding is_missing
+          missing_one l q = go (either_true (is_zero_at d) (is_zero_at (next_around H d)) q)
             where
-              go : (isZeroAt d ≡ true) ⊎ (isZeroAt (nextAround H d) ≡ true) → (y : ℕ) × (y ∈ cycle) × (isZeroAt y ≡ true)
+              go : (is_zero_at d ≡ true) ⊎ (is_zero_at (next_around H d) ≡ true) → (y : ℕ) × (y ∈ cycle) × (is_zero_at y ≡ true)
               go (inl z) = (d, l, z)
-              go (inr z) = (nextAround H d, next-in d l, z)
+              go (inr z) = (next_around H d, next_in d l, z)
 
-          abbrev lastAfter : Vec3
-          lastAfter = after.state.last_normal
+          abbrev last_after : Vec3
+          last_after = after.state.last_normal
 
           -- all normals are missing
-          vert-normal-all : (normal : Vec3) → Made H P (vertNormalWalk H P A n normal after.tangents h) d
-          unfolding vertNormalWalk
-          vert-normal-all normal =
-              loop-made H P n (vertNormalStep H P A normal) (λ T. T) (vert-normal-writes H P A normal) (vert-normal-made H P A normal) d b cycle after.tangents after-length (go after-made)
+          vert_normal_all : (normal : Vec3) → Made H P (vert_normal_walk H P A n normal after.tangents h) d
+          unfolding vert_normal_walk
+          vert_normal_all normal =
+              loop_made H P n (vert_normal_step H P A normal) (λ T. T) (vert_normal_writes H P A normal) (vert_normal_made H P A normal) d b cycle after.tangents after_length (go after_made)
             where
-              go : MissingInCycle after.tangents → Made H P after.tangents d ⊎ ((weightAt after.tangents d ≡ missingNormalWeight) × (d ∈ cycle))
+              go : MissingInCycle after.tangents → Made H P after.tangents d ⊎ ((weight_at after.tangents d ≡ missing_normal_weight) × (d ∈ cycle))
               go (inl k) = inl k
               go (inr k) = inr (k.0, k.1)
 
           -- a start was found
-          fill-all : (start : ℕ) → start ∈ cycle → Made H P (fillWalk H P A normal n lastAfter after.tangents start) d
-          unfolding fillWalk
-          fill-all start l =
-              loop-made H P n (fillStep H P A normal lastAfter) (λ k. k.tangents) (fill-writes H P A normal lastAfter) (fill-made H P A normal lastAfter) d b (vertexCycleBack H n start)
-              (fillOf after.tangents (normal (nextAround H start))) after-length (go after-made)
+          fill_all : (start : ℕ) → start ∈ cycle → Made H P (fill_walk H P A normal n last_after after.tangents start) d
+          unfolding fill_walk
+          fill_all start l =
+              loop_made H P n (fill_step H P A normal last_after) (λ k. k.tangents) (fill_writes H P A normal last_after) (fill_made H P A normal last_after) d b (vertex_cycle_back H n start)
+              (fill_of after.tangents (normal (next_around H start))) after_length (go after_made)
             where
-              go : MissingInCycle after.tangents → Made H P after.tangents d ⊎ ((weightAt after.tangents d ≡ missingNormalWeight) × (d ∈ vertexCycleBack H n start))
+              go : MissingInCycle after.tangents → Made H P after.tangents d ⊎ ((weight_at after.tangents d ≡ missing_normal_weight) × (d ∈ vertex_cycle_back H n start))
               go (inl k) = inl k
-              go (inr k) = inr (k.0, same-back start d l k.1)
+              go (inr k) = inr (k.0, same_back start d l k.1)
 
           -- No start was found, and not all normals are missing: none is. For if one is, the next one is too, and so on round the cycle.
-          no-start : isStart startAfter ≡ false → (someMissing startAfter && isZero lastAfter) ≡ false → Made H P after.tangents d
-          no-start s c = go after-made
+          no_start : is_start start_after ≡ false → (some_missing start_after && is_zero last_after) ≡ false → Made H P after.tangents d
+          no_start s c = go after_made
             where
-              next-missing : (x : ℕ) → x ∈ cycle → isZeroAt x ≡ true → isZeroAt (nextAround H x) ≡ true
-              next-missing x l z = by (isZeroAt (nextAround H x)) refl
+              next_missing : (x : ℕ) → x ∈ cycle → is_zero_at x ≡ true → is_zero_at (next_around H x) ≡ true
+              next_missing x l z = by (is_zero_at (next_around H x)) refl
                 where
-                  by : (v : Bool) → isZeroAt (nextAround H x) ≡ v → isZeroAt (nextAround H x) ≡ true
+                  by : (v : Bool) → is_zero_at (next_around H x) ≡ v → is_zero_at (next_around H x) ≡ true
                   by true e = e
-                  by false e = absurd (true≢false (sym (start-found x l z e) ∙ s))
+                  by false e = absurd (true≢false (sym (start_found x l z e) ∙ s))
 
               go : MissingInCycle after.tangents → Made H P after.tangents d
               go (inl k) = k
               go (inr k) =
-                  let y = missing-one k.1 k.2 in
-                  let last = last-zero (all-zero next-missing y.0 y.1 y.2) in
-                  absurd (true≢false (sym zero-normal ∙ ap isZero (sym last) ∙ rw (some-missing y.0 y.1 y.2) at c))
+                  let y = missing_one k.1 k.2 in
+                  let last = last_zero (all_zero next_missing y.0 y.1 y.2) in
+                  absurd (true≢false (sym zero_normal_lem ∙ ap is_zero (sym last) ∙ rw (some_missing_lem y.0 y.1 y.2) at c))
 
-          fill-missing : (start : StartHalfedge) → startAfter ≡ start → (someMissing startAfter && isZero lastAfter) ≡ false → Made H P (fillMissing H P A normal n lastAfter after.tangents start) d
-          unfolding fillMissing
-          fill-missing NoneMissing q c = no-start (ap isStart q) c
-          fill-missing SomeMissing q c = no-start (ap isStart q) c
-          fill-missing (StartAt start) q c = fill-all start (rw q at start-in)
+          fill_missing_lem : (start : StartHalfedge) → start_after ≡ start → (some_missing start_after && is_zero last_after) ≡ false → Made H P (fill_missing H P A normal n last_after after.tangents start) d
+          unfolding fill_missing
+          fill_missing_lem NoneMissing q c = no_start (ap is_start q) c
+          fill_missing_lem SomeMissing q c = no_start (ap is_start q) c
+          fill_missing_lem (StartAt start) q c = fill_all start (rw q at start_in)
 
-          finish-made : (N : List Float) (v : ℕ) → Made H P (finishVert H P N A normal n after v h).tangents d
-          unfolding finishVert
-          finish-made N v = go (someMissing startAfter && isZero lastAfter) refl
+          finish_made : (N : List Float) (v : ℕ) → Made H P (finish_vert H P N A normal n after v h).tangents d
+          unfolding finish_vert
+          finish_made N v = go (some_missing start_after && is_zero last_after) refl
             where
-              go : (c : Bool) → (someMissing startAfter && isZero lastAfter) ≡ c
-                  → Made H P (cond c (tangentsOf (vertNormalWalk H P A n (pointAt N v) after.tangents h) after.fixed)
-                  (alignFaceEdges H P (tangentsOf (fillMissing H P A normal n lastAfter after.tangents startAfter) after.fixed) after.state.face_edges)).tangents d
-              go true q = vert-normal-all (pointAt N v)
+              go : (c : Bool) → (some_missing start_after && is_zero last_after) ≡ c
+                  → Made H P (cond c (tangents_of (vert_normal_walk H P A n (point_at N v) after.tangents h) after.fixed)
+                  (align_face_edges H P (tangents_of (fill_missing H P A normal n last_after after.tangents start_after) after.fixed) after.state.face_edges)).tangents d
+              go true q = vert_normal_all (point_at N v)
               go false q =
-                  align-keeps H P (tangentsOf (fillMissing H P A normal n lastAfter after.tangents startAfter) after.fixed) after.state.face_edges d
-                  (omega (arith, fill-missing-length lastAfter startAfter)) (fill-missing startAfter refl q)
+                  align_keeps H P (tangents_of (fill_missing H P A normal n last_after after.tangents start_after) after.fixed) after.state.face_edges d
+                  (omega (arith, fill_missing_length last_after start_after)) (fill_missing_lem start_after refl q)
 
 -- ---- THE POINT
 
@@ -340,14 +340,14 @@ pub record AllMade (H : Halfedges) (P : List Float) (n : ℕ) (m : Tangents) : T
   pub whole : length m.tangents ≡ n * 4
   pub made : (d : ℕ) → d < n → Made H P m.tangents d
 
-module _ {H : Halfedges} {n p : ℕ} (S : Sound H n p) (P N A : List Float) (normal : ℕ → Vec3) (in-quad : ℕ → Bool) where
-  pub vert-keeps : (m : Tangents) (v : ℕ) → AllMade H P n m → AllMade H P n (normalsVert H P N A normal in-quad n m v)
-  unfolding normalsVert normalWalk
-  vert-keeps m v a = go (vertHalfedge H n v) (ltb (vertHalfedge H n v) n) refl
+module _ {H : Halfedges} {n p : ℕ} (S : Sound H n p) (P N A : List Float) (normal : ℕ → Vec3) (in_quad : ℕ → Bool) where
+  pub vert_keeps : (m : Tangents) (v : ℕ) → AllMade H P n m → AllMade H P n (normals_vert H P N A normal in_quad n m v)
+  unfolding normals_vert normal_walk
+  vert_keeps m v a = go (vert_halfedge H n v) (ltb (vert_halfedge H n v) n) refl
     where
-      go : (e : ℕ) (b : Bool) → ltb e n ≡ b → AllMade H P n (cond b (finishVert H P N A normal n (normalWalk H P A normal in-quad n m e) v e) m)
+      go : (e : ℕ) (b : Bool) → ltb e n ≡ b → AllMade H P n (cond b (finish_vert H P N A normal n (normal_walk H P A normal in_quad n m e) v e) m)
       go e true q = record {
-        whole = finish-length S e (ltb-true e n q) P A normal in-quad m a.whole N v;
-        made = λ d l. finish-made S e (ltb-true e n q) P A normal in-quad m a.whole d l (a.made d l) N v;
+        whole = finish_length S e (ltb-true e n q) P A normal in_quad m a.whole N v;
+        made = λ d l. finish_made S e (ltb-true e n q) P A normal in_quad m a.whole d l (a.made d l) N v;
       }
       go e false q = a

@@ -11,87 +11,87 @@ use lib.IntN.{ℤ}
 use lib.Ieee.{Float, nan, eq, neg, of_bits}
 use Rattle.float.specs.Ops.{zero}
 use Rattle.linalg.specs.declared.Vec3.{Vec3}
-use Rattle.mesh.specs.Mesh.{Halfedges, asHalfedges}
-use Rattle.mesh.specs.Questions.{signClear}
+use Rattle.mesh.specs.Mesh.{Halfedges, as_halfedges}
+use Rattle.mesh.specs.Questions.{sign_clear}
 use Rattle.mesh.specs.Sound.{Sound}
-use Rattle.common.proofs.Fold.{fold-keeps}
-use Rattle.smoothing.specs.Lists.{weightAt}
-use Rattle.smoothing.specs.Edges.{edgeVec, isInsideQuad}
-use Rattle.smoothing.proofs.Tangents.{weight-of}
+use Rattle.common.proofs.Fold.{fold_keeps}
+use Rattle.smoothing.specs.Lists.{weight_at}
+use Rattle.smoothing.specs.Edges.{edge_vec, is_inside_quad}
+use Rattle.smoothing.proofs.Tangents.{weight_of}
 use Rattle.distribute_spread.proofs.Own.{own}
-use Rattle.distribute_spread.proofs.Order.{order-free}
-use Rattle.create_shared.specs.Makings.{tangentsOf}
-use Rattle.normals_state.specs.State.{getNormal}
-use Rattle.normals_steps.specs.Steps.{insideQuadWeight, missingNormalWeight}
-use Rattle.normals_walks.specs.Walks.{normalsVert, normalsVerts}
-use Rattle.distribute_steps.specs.FloatSteps.{floatSteps}
+use Rattle.distribute_spread.proofs.Order.{order_free}
+use Rattle.create_shared.specs.Makings.{tangents_of}
+use Rattle.normals_state.specs.State.{get_normal}
+use Rattle.normals_steps.specs.Steps.{inside_quad_weight, missing_normal_weight}
+use Rattle.normals_walks.specs.Walks.{normals_vert, normals_verts}
+use Rattle.distribute_steps.specs.FloatSteps.{float_steps}
 use Rattle.distribute_walks.proofs.Lawful.{lawful}
-use Rattle.distribute.specs.Distribute.{spreadTangents}
-use Rattle.normals_core.specs.Core.{normalTangents, createTangentsFromNormals}
-use Rattle.create_from_normals.proofs.Accepted.{lists-of}
+use Rattle.distribute.specs.Distribute.{spread_tangents}
+use Rattle.normals_core.specs.Core.{normal_tangents, create_tangents_from_normals}
+use Rattle.create_from_normals.proofs.Accepted.{lists_of}
 use Rattle.normals_weights.specs.Weights.{MadeWeight, inside, further, circular, WeightsOf, WeightsAfter}
-use Rattle.normals_weights.proofs.Circular.{circular-clear}
-use Rattle.normals_weights.proofs.Verts.{AllMade, vert-keeps}
+use Rattle.normals_weights.proofs.Circular.{circular_clear}
+use Rattle.normals_weights.proofs.Verts.{AllMade, vert_keeps}
 
 -- ---- a made weight is no flag of a missing normal
 
-zero-clear : signClear zero ≡ true
-unfolding signClear of_bits
-zero-clear = refl
+zero_clear : sign_clear zero ≡ true
+unfolding sign_clear of_bits
+zero_clear = refl
 
-missing-unclear : signClear missingNormalWeight ≡ false
-unfolding signClear neg of_bits
-missing-unclear = refl
+missing_unclear : sign_clear missing_normal_weight ≡ false
+unfolding sign_clear neg of_bits
+missing_unclear = refl
 
-flags-differ : insideQuadWeight ≡ missingNormalWeight → ⊥
+flags_differ : inside_quad_weight ≡ missing_normal_weight → ⊥
 unfolding eq neg of_bits
-flags-differ q = true≢false (ap (λ (x : Float). eq x insideQuadWeight) q)
+flags_differ q = true≢false (ap (λ (x : Float). eq x inside_quad_weight) q)
 
-mark-or-clear : {H : Halfedges} {P : List Float} {e : ℕ} {w : Float} → MadeWeight H P e w → (w ≡ insideQuadWeight) ⊎ (signClear w ≡ true)
-mark-or-clear (inside q) = inl q
-mark-or-clear (further q) = inr (ap signClear q ∙ zero-clear)
-mark-or-clear {H} {P} {e} (circular dir q) = inr (ap signClear q ∙ circular-clear dir (edgeVec H P e))
+mark_or_clear : {H : Halfedges} {P : List Float} {e : ℕ} {w : Float} → MadeWeight H P e w → (w ≡ inside_quad_weight) ⊎ (sign_clear w ≡ true)
+mark_or_clear (inside q) = inl q
+mark_or_clear (further q) = inr (ap sign_clear q ∙ zero_clear)
+mark_or_clear {H} {P} {e} (circular dir q) = inr (ap sign_clear q ∙ circular_clear dir (edge_vec H P e))
 
-not-missing : {w : Float} → (w ≡ insideQuadWeight) ⊎ (signClear w ≡ true) → w ≡ missingNormalWeight → ⊥
-not-missing (inl q) r = flags-differ (sym q ∙ r)
-not-missing (inr q) r = true≢false (sym q ∙ ap signClear r ∙ missing-unclear)
+not_missing : {w : Float} → (w ≡ inside_quad_weight) ⊎ (sign_clear w ≡ true) → w ≡ missing_normal_weight → ⊥
+not_missing (inl q) r = flags_differ (sym q ∙ r)
+not_missing (inr q) r = true≢false (sym q ∙ ap sign_clear r ∙ missing_unclear)
 
 -- ---- the loop over the points, and spreading
 
-zero-weight : (n e : ℕ) → e < n → weightAt (replicate (n * 4) zero) e ≡ zero
-unfolding weightAt
-zero-weight n e h = get_or-replicate (n * 4) (e * 4 + 3) zero nan (omega arith)
+zero_weight : (n e : ℕ) → e < n → weight_at (replicate (n * 4) zero) e ≡ zero
+unfolding weight_at
+zero_weight n e h = get_or-replicate (n * 4) (e * 4 + 3) zero nan (omega arith)
 
 module _ {H : Halfedges} {n p : ℕ} (S : Sound H n p) (R : List ℤ) (P N A : List Float) (normal : ℕ → Vec3) (O : List Float) (old : Bool) where
-  before-spreading : AllMade H P n (normalTangents H P N A R normal O old n p)
-  unfolding normalTangents normalsVerts
-  before-spreading =
-      fold-keeps (normalsVert H P N A normal (isInsideQuad H R O old) n) (tangentsOf (replicate (n * 4) zero) (replicate n 0)) (AllMade H P n) p
-      (λ m v l a. vert-keeps S P N A normal (isInsideQuad H R O old) m v a)
-      (record { whole = length-replicate (n * 4) zero; made = λ e l. further (zero-weight n e l) }) p (le_refl p)
+  before_spreading : AllMade H P n (normal_tangents H P N A R normal O old n p)
+  unfolding normal_tangents normals_verts
+  before_spreading =
+      fold_keeps (normals_vert H P N A normal (is_inside_quad H R O old) n) (tangents_of (replicate (n * 4) zero) (replicate n 0)) (AllMade H P n) p
+      (λ m v l a. vert_keeps S P N A normal (is_inside_quad H R O old) m v a)
+      (record { whole = length-replicate (n * 4) zero; made = λ e l. further (zero_weight n e l) }) p (le_refl p)
 
   -- spreading keeps every weight
-  spreading-keeps : (X : List ℕ) (T : List Float) → length T ≡ n * 4 → (e : ℕ) → weightAt (spreadTangents H P N X T n).tangents e ≡ weightAt T e
-  spreading-keeps X T l e =
-      sym (weight-of (spreadTangents H P N X T n).tangents e)
-      ∙ (order-free (lawful S P N X) T l _ (own (floatSteps H P N X n))).weights-kept e
-      ∙ weight-of T e
+  spreading_keeps : (X : List ℕ) (T : List Float) → length T ≡ n * 4 → (e : ℕ) → weight_at (spread_tangents H P N X T n).tangents e ≡ weight_at T e
+  spreading_keeps X T l e =
+      sym (weight_of (spread_tangents H P N X T n).tangents e)
+      ∙ (order_free (lawful S P N X) T l _ (own (float_steps H P N X n))).weights_kept e
+      ∙ weight_of T e
 
-  made-weight : (e : ℕ) → e < n → MadeWeight H P e (weightAt (createTangentsFromNormals H P N A R normal O old n p) e)
-  unfolding createTangentsFromNormals
-  made-weight e l =
-      let m = normalTangents H P N A R normal O old n p in
-      rw (spreading-keeps m.fixed m.tangents before-spreading.whole e) (before-spreading.made e l)
+  made_weight : (e : ℕ) → e < n → MadeWeight H P e (weight_at (create_tangents_from_normals H P N A R normal O old n p) e)
+  unfolding create_tangents_from_normals
+  made_weight e l =
+      let m = normal_tangents H P N A R normal O old n p in
+      rw (spreading_keeps m.fixed m.tangents before_spreading.whole e) (before_spreading.made e l)
 
   pub weights : WeightsOf H P N A R normal O old n p
   weights = record {
-    made = made-weight;
-    mark-or-clear = λ e l. mark-or-clear (made-weight e l);
-    none-missing = λ e l. not-missing (mark-or-clear (made-weight e l));
+    made = made_weight;
+    mark_or_clear = λ e l. mark_or_clear (made_weight e l);
+    none_missing = λ e l. not_missing (mark_or_clear (made_weight e l));
   }
 
 -- so of a call that is accepted
-pub weights-after : (list : List ℤ) (P N A : List Float) (R : List ℤ) (G O : List Float) (X Q : List ℕ) (C D : List Float) (F : List ℕ) (old : Bool) (n p : ℕ) → WeightsAfter list P N A R G O X Q C D F old n p
-weights-after list P N A R G O X Q C D F old n p e =
-    let w = lists-of list P N A R G O X Q C D F n p e in
-    rw e (weights (subst (Sound (asHalfedges list) n) w.points w.lists.sound) R P N A (getNormal list G) O old)
+pub weights_after : (list : List ℤ) (P N A : List Float) (R : List ℤ) (G O : List Float) (X Q : List ℕ) (C D : List Float) (F : List ℕ) (old : Bool) (n p : ℕ) → WeightsAfter list P N A R G O X Q C D F old n p
+weights_after list P N A R G O X Q C D F old n p e =
+    let w = lists_of list P N A R G O X Q C D F n p e in
+    rw e (weights (subst (Sound (as_halfedges list) n) w.points w.lists.sound) R P N A (get_normal list G) O old)

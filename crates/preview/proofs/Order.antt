@@ -7,61 +7,61 @@ use Prim.Native.Nat.{ℕ, ◌<◌}
 use lib.ListN.{length, get_or}
 use lib.Ieee.{Float}
 use Rattle.mesh.specs.Mesh.{Halfedges}
-use Rattle.mesh.specs.Questions.{hasLength}
-use Rattle.mesh.specs.Check.{checkMesh, checkFlags}
+use Rattle.mesh.specs.Questions.{has_length}
+use Rattle.mesh.specs.Check.{check_mesh, check_flags}
 use Rattle.cycles.specs.Count.{count, ◌∈◌}
-use Rattle.cycles.proofs.Count.{zero-or-more}
+use Rattle.cycles.proofs.Count.{zero_or_more}
 use Rattle.distribute_spread.specs.Steps.{Steps, Lawful}
 use Rattle.distribute_spread.specs.Spread.{spread, pass}
 use Rattle.distribute_spread.specs.Order.{NamesFixed, WasTurned, OrderFree}
-use Rattle.distribute_spread.proofs.Order.{order-free}
+use Rattle.distribute_spread.proofs.Order.{order_free}
 use Rattle.distribute_walks.proofs.Lawful.{lawful}
 use Rattle.distribute.specs.Distribute as Distribute
-use Rattle.distribute.specs.Distribute.{listsFit, answerOf, spreadTangents}
+use Rattle.distribute.specs.Distribute.{lists_fit, answer_of, spread_tangents}
 use Rattle.distribute.specs.declared.Spreading.{Spreading}
-use Rattle.preview_walks.specs.Bytes.{turnedByte, turnedBytes}
-use Rattle.preview_walks.proofs.Bytes.{byte-one, byte-zero, bytes-at, bytes-same}
-use Rattle.preview.specs.Preview.{checkLists, previewTangents, bytesAfter, AsSpreading, PreviewFree, AnyOrder}
-use Rattle.preview.proofs.Accepted.{lists-of}
+use Rattle.preview_walks.specs.Bytes.{turned_byte, turned_bytes}
+use Rattle.preview_walks.proofs.Bytes.{byte_one, byte_zero, bytes_at, bytes_same}
+use Rattle.preview.specs.Preview.{check_lists, preview_tangents, bytes_after, AsSpreading, PreviewFree, AnyOrder}
+use Rattle.preview.proofs.Accepted.{lists_of}
 
-and-assoc : (a b c : Bool) → a && (b && c) ≡ (a && b) && c
-and-assoc true b c = refl
-and-assoc false b c = refl
+and_assoc : (a b c : Bool) → a && (b && c) ≡ (a && b) && c
+and_assoc true b c = refl
+and_assoc false b c = refl
 
 module _ {S : Steps} (L : Lawful S) (ts : S.Tangents) (whole : L.Whole ts) (starts : List ℕ) (names : NamesFixed S starts) where
   abbrev order : OrderFree S starts ts (pass S ts).tangents (pass S ts).looked (pass S ts).turned
-  order = order-free L ts whole starts names
+  order = order_free L ts whole starts names
 
-  same : turnedBytes S (pass S ts) ≡ turnedBytes S (spread S starts ts)
-  same = bytes-same S (pass S ts) (spread S starts ts) (λ e. sym (order.places-same e))
+  same : turned_bytes S (pass S ts) ≡ turned_bytes S (spread S starts ts)
+  same = bytes_same S (pass S ts) (spread S starts ts) (λ e. sym (order.places_same e))
 
-  byte : (e d : ℕ) → e < S.n → get_or (turnedBytes S (pass S ts)) e d ≡ turnedByte S (spread S starts ts) e
-  byte e d l = ap (λ (Y : List ℕ). get_or Y e d) same ∙ bytes-at S (spread S starts ts) e d l
+  byte : (e d : ℕ) → e < S.n → get_or (turned_bytes S (pass S ts)) e d ≡ turned_byte S (spread S starts ts) e
+  byte e d l = ap (λ (Y : List ℕ). get_or Y e d) same ∙ bytes_at S (spread S starts ts) e d l
 
   none : (e : ℕ) → ¬ WasTurned S (spread S starts ts) e → count e (spread S starts ts).places ≡ 0
-  none e h = go (zero-or-more (count e (spread S starts ts).places))
+  none e h = go (zero_or_more (count e (spread S starts ts).places))
     where
       go : (count e (spread S starts ts).places ≡ 0) ⊎ (e ∈ (spread S starts ts).places) → count e (spread S starts ts).places ≡ 0
       go (inl z) = z
       go (inr p) = absurd (h p)
 
-  preview-free : PreviewFree S starts ts (turnedBytes S (pass S ts)) (pass S ts).looked (pass S ts).turned
-  preview-free = record {
+  preview_free : PreviewFree S starts ts (turned_bytes S (pass S ts)) (pass S ts).looked (pass S ts).turned
+  preview_free = record {
     order = order;
-    bytes-same = same;
-    one-at-turned = λ e l h. byte e 0 l ∙ byte-one S (spread S starts ts) e h;
-    zero-elsewhere = λ e l h. byte e 1 l ∙ byte-zero S (spread S starts ts) e (none e h);
+    bytes_same = same;
+    one_at_turned = λ e l h. byte e 0 l ∙ byte_one S (spread S starts ts) e h;
+    zero_elsewhere = λ e l h. byte e 1 l ∙ byte_zero S (spread S starts ts) e (none e h);
   }
 
 module _ (H : Halfedges) (P N : List Float) (X : List ℕ) (T : List Float) (Y : List ℕ) (n p : ℕ) where
-  pub any-order : {Z : List ℕ} {r : Spreading} → r ≡ previewTangents H P N X T Y n p → Z ≡ bytesAfter H P N X T Y n p → AnyOrder H P N X T Y n p Z r
-  any-order er ez acc starts names =
-      let l = (lists-of H P N X T Y n p acc).0 in
-      rw (er, ez, acc) (preview-free (lawful l.sound P N X) T l.tangents starts names)
+  pub any_order : {Z : List ℕ} {r : Spreading} → r ≡ preview_tangents H P N X T Y n p → Z ≡ bytes_after H P N X T Y n p → AnyOrder H P N X T Y n p Z r
+  any_order er ez acc starts names =
+      let l = (lists_of H P N X T Y n p acc).0 in
+      rw (er, ez, acc) (preview_free (lawful l.sound P N X) T l.tangents starts names)
 
-  pub as-spreading : {r : Spreading} → r ≡ previewTangents H P N X T Y n p → AsSpreading H P N X T Y n p r
-  unfolding checkLists Distribute.checkLists
-  as-spreading er C D e = er ∙ ap answer (ap (λ (b : Bool). listsFit H P N X T n p && b) (sym e) ∙ and-assoc (listsFit H P N X T n p) (hasLength (length C) n 1) (hasLength (length D) n 1))
+  pub as_spreading : {r : Spreading} → r ≡ preview_tangents H P N X T Y n p → AsSpreading H P N X T Y n p r
+  unfolding check_lists Distribute.check_lists
+  as_spreading er C D e = er ∙ ap answer (ap (λ (b : Bool). lists_fit H P N X T n p && b) (sym e) ∙ and_assoc (lists_fit H P N X T n p) (has_length (length C) n 1) (has_length (length D) n 1))
     where
       answer : Bool → Spreading
-      answer b = answerOf (checkFlags (checkMesh H n p b) X n) (spreadTangents H P N X T n).looked (spreadTangents H P N X T n).turned
+      answer b = answer_of (check_flags (check_mesh H n p b) X n) (spread_tangents H P N X T n).looked (spread_tangents H P N X T n).turned

@@ -3,11 +3,11 @@
 #![tactic(auto)]
 
 ghost use Rattle.std.specs.Prelude.{◌≡◌, List, length, Float};
-ghost use Rattle.mesh.specs.Mesh.{asHalfedges};
-ghost use Rattle.distribute_steps.specs.FloatSteps.{floatSteps};
-ghost use Rattle.distribute.specs.Distribute.{spreadTangents, Values};
+ghost use Rattle.mesh.specs.Mesh.{as_halfedges};
+ghost use Rattle.distribute_steps.specs.FloatSteps.{float_steps};
+ghost use Rattle.distribute.specs.Distribute.{spread_tangents, Values};
 ghost use Rattle.preview_walks.specs.Walks.{Lists, Shows};
-ghost use Rattle.preview.specs.Preview.{checkLists, previewTangents, bytesAfter, AsSpreading, AnyOrder};
+ghost use Rattle.preview.specs.Preview.{check_lists, preview_tangents, bytes_after, AsSpreading, AnyOrder};
 
 use distribute::Spreading;
 use distribute_walks::Counts;
@@ -15,8 +15,8 @@ use mesh::Checked;
 
 // The loop over the halfedges of an accepted mesh, after zeros in all bytes.
 fn preview_all(n: usize, p: usize, h: &[i32], fixed: &[u8], t: &[f64], bytes: &mut [u8]) -> Counts
-    requires { Lists (asHalfedges h.now) fixed.now t.now n p × (length bytes.old ≡ n) }
-    ensures { (P N : List Float) → Shows (floatSteps (asHalfedges h.now) P N fixed.now n) (spreadTangents (asHalfedges h.now) P N fixed.now t.now n) bytes.new result }
+    requires { Lists (as_halfedges h.now) fixed.now t.now n p × (length bytes.old ≡ n) }
+    ensures { (P N : List Float) → Shows (float_steps (as_halfedges h.now) P N fixed.now n) (spread_tangents (as_halfedges h.now) P N fixed.now t.now n) bytes.new result }
 {
     common::fill_bytes(bytes, 0);
     let mut counts = Counts {
@@ -40,7 +40,7 @@ fn check_lists(
     t: &[f64],
     bytes: &[u8],
 ) -> Checked
-    ensures { result ≡ checkLists (asHalfedges h.now) pos.now normals.now fixed.now t.now bytes.now n p }
+    ensures { result ≡ check_lists (as_halfedges h.now) pos.now normals.now fixed.now t.now bytes.now n p }
 {
     let lists = distribute::lists_fit(n, p, h, pos, normals, fixed, t);
     let lengths = common::both(lists, mesh::has_length(bytes.len(), n, 1));
@@ -60,11 +60,11 @@ pub fn preview_tangents(
     t: &[f64],
     bytes: &mut [u8],
 ) -> Spreading
-    ensures answer { result ≡ previewTangents (asHalfedges h.now) pos.now normals.now fixed.now t.now bytes.old n p }
-    ensures bytes { bytes.new ≡ bytesAfter (asHalfedges h.now) pos.now normals.now fixed.now t.now bytes.old n p }
-    ensures spreading { AsSpreading (asHalfedges h.now) pos.now normals.now fixed.now t.now bytes.old n p result }
-    ensures order { AnyOrder (asHalfedges h.now) pos.now normals.now fixed.now t.now bytes.old n p bytes.new result }
-    ensures values { Values (checkLists (asHalfedges h.now) pos.now normals.now fixed.now t.now bytes.old n p) (floatSteps (asHalfedges h.now) pos.now normals.now fixed.now n) (spreadTangents (asHalfedges h.now) pos.now normals.now fixed.now t.now n) result }
+    ensures answer { result ≡ preview_tangents (as_halfedges h.now) pos.now normals.now fixed.now t.now bytes.old n p }
+    ensures bytes { bytes.new ≡ bytes_after (as_halfedges h.now) pos.now normals.now fixed.now t.now bytes.old n p }
+    ensures spreading { AsSpreading (as_halfedges h.now) pos.now normals.now fixed.now t.now bytes.old n p result }
+    ensures order { AnyOrder (as_halfedges h.now) pos.now normals.now fixed.now t.now bytes.old n p bytes.new result }
+    ensures values { Values (check_lists (as_halfedges h.now) pos.now normals.now fixed.now t.now bytes.old n p) (float_steps (as_halfedges h.now) pos.now normals.now fixed.now n) (spread_tangents (as_halfedges h.now) pos.now normals.now fixed.now t.now n) result }
 {
     let checked = check_lists(n, p, h, pos, normals, fixed, t, bytes);
     let Checked::Accepted = checked else {

@@ -9,79 +9,79 @@ use Rattle.float.specs.Ops.{zero}
 use Rattle.linalg.specs.declared.Vec3.{Vec3}
 use Rattle.mesh.specs.Mesh.{Halfedges}
 use Rattle.mesh.specs.Sound.{Sound}
-use Rattle.cycles.specs.Cycles.{nextAround}
-use Rattle.smoothing.specs.Lists.{tangentAt}
+use Rattle.cycles.specs.Cycles.{next_around}
+use Rattle.smoothing.specs.Lists.{tangent_at}
 use Rattle.distribute_spread.specs.Spread.{Found}
-use Rattle.distribute_spread.proofs.Loops.{firstLeft, first-below}
-use Rattle.distribute_spread.proofs.Bodies.{FirstGoing, first-going, first-room, first-next, first-less, first-over}
-use Rattle.distribute_steps.specs.FloatSteps.{Gathered, isMark, isStart, tangentDirection, begin, gather, gatherEdge, floatSteps}
-use Rattle.distribute_walks.specs.Walks.{firstFrom}
+use Rattle.distribute_spread.proofs.Loops.{first_left, first_below}
+use Rattle.distribute_spread.proofs.Bodies.{FirstGoing, first_going, first_room, first_next, first_less, first_over}
+use Rattle.distribute_steps.specs.FloatSteps.{Gathered, is_mark, is_start, tangent_direction, begin, gather, gather_edge, float_steps}
+use Rattle.distribute_walks.specs.Walks.{first_from}
 use Rattle.distribute_walks.proofs.Lawful.{lawful}
-use Rattle.preview_walks.specs.Walks.{summedOf, addTangent}
+use Rattle.preview_walks.specs.Walks.{summed_of, add_tangent}
 use Rattle.preview_walks.specs.declared.Summed.{Summed}
 
 -- what is gathered of one halfedge more, summed
-summed-more : (H : Halfedges) (P N : List Float) (T : List Float) (start y : ℕ) (s : Summed) (g : Gathered) → s ≡ summedOf g
-    → addTangent (tangentDirection (tangentAt T y)) s ≡ summedOf (gather H P N start y (tangentAt T y) g)
-unfolding addTangent gatherEdge
-summed-more H P N T start y s g e = rw e (rw (length-append g.currentAngle _) refl)
+summed_more : (H : Halfedges) (P N : List Float) (T : List Float) (start y : ℕ) (s : Summed) (g : Gathered) → s ≡ summed_of g
+    → add_tangent (tangent_direction (tangent_at T y)) s ≡ summed_of (gather H P N start y (tangent_at T y) g)
+unfolding add_tangent gather_edge
+summed_more H P N T start y s g e = rw e (rw (length-append g.current_angle _) refl)
 
 module _ {H : Halfedges} {n p : ℕ} (sound : Sound H n p) (P N : List Float) (X : List ℕ) (T : List Float) (start looked₀ : ℕ) where
   -- the walk has come to x, with s summed of what spreading's has gathered
   pub record Summing (x looked : ℕ) (s : Summed) : Type 0 where
     pub gathered : Gathered
-    pub going : FirstGoing (floatSteps H P N X n) T start looked₀ (begin H P start (tangentAt T start)) x looked s.count gathered
-    pub sums : s ≡ summedOf gathered
+    pub going : FirstGoing (float_steps H P N X n) T start looked₀ (begin H P start (tangent_at T start)) x looked s.count gathered
+    pub sums : s ≡ summed_of gathered
 
-  pub summing-begin : start < n → isStart X T start ≡ true → (first : Vec3) → first ≡ tangentDirection (tangentAt T start)
+  pub summing_begin : start < n → is_start X T start ≡ true → (first : Vec3) → first ≡ tangent_direction (tangent_at T start)
       → Summing start looked₀ (record { count = 0; normal = record { x = zero; y = zero; z = zero }; last_tangent = first })
   unfolding begin
-  summing-begin b d first e = record { gathered = begin H P start (tangentAt T start); going = first-going (lawful sound P N X) b d refl refl; sums = rw e }
+  summing_begin b d first e = record { gathered = begin H P start (tangent_at T start); going = first_going (lawful sound P N X) b d refl refl; sums = rw e }
 
   module _ {x looked : ℕ} {s : Summed} (w : Summing x looked s) where
-    pub summing-room : (s.count < n) × (looked < looked₀ + n)
-    summing-room = first-room (lawful sound P N X) w.going
+    pub summing_room : (s.count < n) × (looked < looked₀ + n)
+    summing_room = first_room (lawful sound P N X) w.going
 
-    module _ {y : ℕ} (e : y ≡ nextAround H x) where
-      pub summing-below : y < n
-      summing-below = first-below (lawful sound P N X) w.going.at e
+    module _ {y : ℕ} (e : y ≡ next_around H x) where
+      pub summing_below : y < n
+      summing_below = first_below (lawful sound P N X) w.going.at e
 
-      module _ {s' : Summed} (es : s' ≡ cond (isMark (tangentAt T y).w) s (addTangent (tangentDirection (tangentAt T y)) s)) where
+      module _ {s' : Summed} (es : s' ≡ cond (is_mark (tangent_at T y).w) s (add_tangent (tangent_direction (tangent_at T y)) s)) where
         gathered' : Gathered
-        gathered' = cond (isMark (tangentAt T y).w) w.gathered (gather H P N start y (tangentAt T y) w.gathered)
+        gathered' = cond (is_mark (tangent_at T y).w) w.gathered (gather H P N start y (tangent_at T y) w.gathered)
 
-        count-is : s'.count ≡ cond (isMark (tangentAt T y).w) s.count (s.count + 1)
-        unfolding addTangent
-        count-is = go (isMark (tangentAt T y).w) es
+        count_is : s'.count ≡ cond (is_mark (tangent_at T y).w) s.count (s.count + 1)
+        unfolding add_tangent
+        count_is = go (is_mark (tangent_at T y).w) es
           where
-            go : (b : Bool) → s' ≡ cond b s (addTangent (tangentDirection (tangentAt T y)) s) → s'.count ≡ cond b s.count (s.count + 1)
+            go : (b : Bool) → s' ≡ cond b s (add_tangent (tangent_direction (tangent_at T y)) s) → s'.count ≡ cond b s.count (s.count + 1)
             go true q = ap (λ (z : Summed). z.count) q
             go false q = ap (λ (z : Summed). z.count) q
 
-        sums-are : s' ≡ summedOf gathered'
+        sums_are : s' ≡ summed_of gathered'
         unfolding gathered'
-        sums-are = es ∙ go (isMark (tangentAt T y).w)
+        sums_are = es ∙ go (is_mark (tangent_at T y).w)
           where
             go : (b : Bool)
-                → cond b s (addTangent (tangentDirection (tangentAt T y)) s) ≡ summedOf (cond b w.gathered (gather H P N start y (tangentAt T y) w.gathered))
+                → cond b s (add_tangent (tangent_direction (tangent_at T y)) s) ≡ summed_of (cond b w.gathered (gather H P N start y (tangent_at T y) w.gathered))
             go true = w.sums
-            go false = summed-more H P N T start y s w.gathered w.sums
+            go false = summed_more H P N T start y s w.gathered w.sums
 
-        pub summing-next : isStart X T y ≡ false → Summing y (looked + 1) s'
+        pub summing_next : is_start X T y ≡ false → Summing y (looked + 1) s'
         unfolding gathered'
-        summing-next d = record { gathered = gathered'; going = first-next (lawful sound P N X) w.going e refl count-is d; sums = sums-are }
+        summing_next d = record { gathered = gathered'; going = first_next (lawful sound P N X) w.going e refl count_is d; sums = sums_are }
 
-        pub summing-less : isStart X T y ≡ false → firstLeft (floatSteps H P N X n) T y < firstLeft (floatSteps H P N X n) T x
+        pub summing_less : is_start X T y ≡ false → first_left (float_steps H P N X n) T y < first_left (float_steps H P N X n) T x
         unfolding gathered'
-        summing-less d = first-less (lawful sound P N X) w.going e {g' = gathered'} refl count-is d
+        summing_less d = first_less (lawful sound P N X) w.going e {g' = gathered'} refl count_is d
 
         -- it ends at y
-        pub summing-over : isStart X T y ≡ true
-            → (looked + 1 ≡ (firstFrom H P N X n T start looked₀).looked) × (s' ≡ summedOf (firstFrom H P N X n T start looked₀).gathered) × (looked + 1 ≤ looked₀ + n)
+        pub summing_over : is_start X T y ≡ true
+            → (looked + 1 ≡ (first_from H P N X n T start looked₀).looked) × (s' ≡ summed_of (first_from H P N X n T start looked₀).gathered) × (looked + 1 ≤ looked₀ + n)
         unfolding gathered'
-        summing-over d =
-            let o = first-over (lawful sound P N X) w.going e {g' = gathered'} refl count-is d in (
-              ap (λ (f : Found (floatSteps H P N X n)). f.looked) o.found,
-              sums-are ∙ ap (λ (f : Found (floatSteps H P N X n)). summedOf f.gathered) o.found,
+        summing_over d =
+            let o = first_over (lawful sound P N X) w.going e {g' = gathered'} refl count_is d in (
+              ap (λ (f : Found (float_steps H P N X n)). f.looked) o.found,
+              sums_are ∙ ap (λ (f : Found (float_steps H P N X n)). summed_of f.gathered) o.found,
               o.few,
             )

@@ -9,23 +9,23 @@ use lib.Seq.{get_or-append_seam, ext_get_or}
 use Rattle.preview_walks.specs.Bytes.{tabulate}
 
 module _ {A : Type 0} (f : ℕ → A) where
-  pub length-tabulate : (n : ℕ) → length (tabulate f n) ≡ n
+  pub length_tabulate : (n : ℕ) → length (tabulate f n) ≡ n
   unfolding tabulate
-  length-tabulate zero = refl
-  length-tabulate (suc n) = simp length-append (omega (arith, length-tabulate n))
+  length_tabulate zero = refl
+  length_tabulate (suc n) = simp length-append (omega (arith, length_tabulate n))
 
-  pub getD-tabulate : (n i : ℕ) (d : A) → i < n → get_or (tabulate f n) i d ≡ f i
+  pub get_d_tabulate : (n i : ℕ) (d : A) → i < n → get_or (tabulate f n) i d ≡ f i
   unfolding tabulate
-  getD-tabulate zero i d l = absurd (omega arith)
-  getD-tabulate (suc n) i d l = go (ℕ_discrete i n) (getD-tabulate n i d)
+  get_d_tabulate zero i d l = absurd (omega arith)
+  get_d_tabulate (suc n) i d l = go (ℕ_discrete i n) (get_d_tabulate n i d)
     where
       go : Dec (i ≡ n) → (i < n → get_or (tabulate f n) i d ≡ f i) → get_or (tabulate f n ++ (f n ∷ [])) i d ≡ f i
       go (yes q) ih =
-          let k : i ≡ length (tabulate f n) = q ∙ sym (length-tabulate n) in
+          let k : i ≡ length (tabulate f n) = q ∙ sym (length_tabulate n) in
           ap (λ (j : ℕ). get_or (tabulate f n ++ (f n ∷ [])) j d) k ∙ get_or-append_seam (tabulate f n) (f n) [] d ∙ ap f (sym q)
       go (no q) ih =
           let below : i < n = omega arith in
-          get_or-append (tabulate f n) (f n ∷ []) d i (omega (arith, length-tabulate n)) ∙ ih below
+          get_or-append (tabulate f n) (f n ∷ []) d i (omega (arith, length_tabulate n)) ∙ ih below
 
   pub tabulated : (l : List A) (n : ℕ) (d : A) → length l ≡ n → ((i : ℕ) → i < n → get_or l i d ≡ f i) → l ≡ tabulate f n
-  tabulated l n d e h = ext_get_or d l (tabulate f n) (e ∙ sym (length-tabulate n)) (λ i b. let below : i < n = omega arith in h i below ∙ sym (getD-tabulate n i d below))
+  tabulated l n d e h = ext_get_or d l (tabulate f n) (e ∙ sym (length_tabulate n)) (λ i b. let below : i < n = omega arith in h i below ∙ sym (get_d_tabulate n i d below))

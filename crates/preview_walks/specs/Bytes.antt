@@ -10,9 +10,9 @@ tabulate f zero = []
 tabulate f (suc k) = tabulate f k ++ (f k ∷ [])
 
 -- 1 if the halfedge e was turned, else 0
-abbrev pub turnedByte : (S : Steps) → State S → ℕ → ℕ
-turnedByte S st e = cond (eqb (count e st.places) 0) 0 1
+abbrev pub turned_byte : (S : Steps) → State S → ℕ → ℕ
+turned_byte S st e = cond (eqb (count e st.places) 0) 0 1
 
 -- one byte for each halfedge
-abbrev pub turnedBytes : (S : Steps) → State S → List ℕ
-turnedBytes S st = tabulate (turnedByte S st) S.n
+abbrev pub turned_bytes : (S : Steps) → State S → List ℕ
+turned_bytes S st = tabulate (turned_byte S st) S.n

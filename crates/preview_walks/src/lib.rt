@@ -3,13 +3,13 @@
 #![tactic(auto)]
 
 ghost use Rattle.std.specs.Prelude.{◌≡◌, true, cond, List, suc, ◌+◌, ◌*◌, ◌^◌, ◌≤◌, ◌<◌, length, set, Float};
-ghost use Rattle.mesh.specs.Mesh.{asHalfedges};
-ghost use Rattle.smoothing.specs.Lists.{tangentAt};
-ghost use Rattle.distribute_spread.specs.Spread.{secondWalk, spreadAt};
-ghost use Rattle.distribute_steps.specs.FloatSteps.{Plan, isMark, isStart, tangentDirection, floatSteps};
-ghost use Rattle.distribute_walks.specs.Walks.{Room, moreTurned};
+ghost use Rattle.mesh.specs.Mesh.{as_halfedges};
+ghost use Rattle.smoothing.specs.Lists.{tangent_at};
+ghost use Rattle.distribute_spread.specs.Spread.{second_walk, spread_at};
+ghost use Rattle.distribute_steps.specs.FloatSteps.{Plan, is_mark, is_start, tangent_direction, float_steps};
+ghost use Rattle.distribute_walks.specs.Walks.{Room, more_turned};
 ghost use Rattle.distribute_walks.specs.declared.Counts.{Counts};
-ghost use Rattle.preview_walks.specs.Walks.{Lists, addTangent, CanAdd, Sums, Previews};
+ghost use Rattle.preview_walks.specs.Walks.{Lists, add_tangent, CanAdd, Sums, Previews};
 
 use distribute_walks::Counts;
 use linalg::Vec3;
@@ -32,8 +32,8 @@ pub struct Seen {
 
 // The direction of the tangent of halfedge e. Back at its start, a walk uses the one that it set out with, `first`.
 fn direction_at(t: &[f64], start: usize, e: usize, first: Vec3) -> Vec3
-    requires { (e * 4 + 4 ≤ length t.now) × (first ≡ tangentDirection (tangentAt t.now start)) }
-    ensures { result ≡ tangentDirection (tangentAt t.now e) }
+    requires { (e * 4 + 4 ≤ length t.now) × (first ≡ tangent_direction (tangent_at t.now start)) }
+    ensures { result ≡ tangent_direction (tangent_at t.now e) }
 {
     if e == start {
         return first;
@@ -44,7 +44,7 @@ fn direction_at(t: &[f64], start: usize, e: usize, first: Vec3) -> Vec3
 // One step of the first walk, onto halfedge e: a marked one gathers nothing.
 fn add_tangent(t: &[f64], start: usize, e: usize, first: Vec3, s: Summed) -> Summed
     requires { CanAdd t.now start e first s }
-    ensures { result ≡ cond (isMark (tangentAt t.now e).w) s (addTangent (tangentDirection (tangentAt t.now e)) s) }
+    ensures { result ≡ cond (is_mark (tangent_at t.now e).w) s (add_tangent (tangent_direction (tangent_at t.now e)) s) }
 {
     if distribute_steps::is_marked(t, e) {
         return s;
@@ -67,9 +67,9 @@ fn first_walk(
     start: usize,
     counts: Counts,
 ) -> Seen
-    requires lists { Lists (asHalfedges h.now) fixed.now t.now n p }
-    requires start_lt_n { (start < n) × (isStart fixed.now t.now start ≡ true) × Room n counts }
-    ensures sums { Sums (asHalfedges h.now) fixed.now t.now n start counts.looked result }
+    requires lists { Lists (as_halfedges h.now) fixed.now t.now n p }
+    requires start_lt_n { (start < n) × (is_start fixed.now t.now start ≡ true) × Room n counts }
+    ensures sums { Sums (as_halfedges h.now) fixed.now t.now n start counts.looked result }
     ensures looked_bound { result.looked ≤ counts.looked + n }
 {
     let first = distribute_steps::tangent_direction(smoothing::tangent_at(t, start));
@@ -99,8 +99,8 @@ fn first_walk(
 // One step of the second walk, onto halfedge e, with i turned before: a marked one would stay as it is.
 fn show_unmarked(t: &[f64], bytes: &mut [u8], i: usize, e: usize) -> usize
     requires { (e * 4 + 4 ≤ length t.now) × (e < length bytes.old) × (i + 1 < 2 ^ 64) }
-    ensures bytes_after { bytes.new ≡ cond (isMark (tangentAt t.now e).w) bytes.old (set bytes.old e 1) }
-    ensures value { result ≡ cond (isMark (tangentAt t.now e).w) i (i + 1) }
+    ensures bytes_after { bytes.new ≡ cond (is_mark (tangent_at t.now e).w) bytes.old (set bytes.old e 1) }
+    ensures value { result ≡ cond (is_mark (tangent_at t.now e).w) i (i + 1) }
 {
     if distribute_steps::is_marked(t, e) {
         return i;
@@ -119,9 +119,9 @@ fn second_walk(
     bytes: &mut [u8],
     start: usize,
 ) -> usize
-    requires lists { Lists (asHalfedges h.now) fixed.now t.now n p × (length bytes.old ≡ n) }
-    requires start_lt_n { (start < n) × (isStart fixed.now t.now start ≡ true) }
-    ensures { ((P N : List Float) (by : Plan) (k : Counts) → Previews (floatSteps (asHalfedges h.now) P N fixed.now n) (secondWalk (floatSteps (asHalfedges h.now) P N fixed.now n) (suc n) start start by) t.now bytes.old k bytes.new (moreTurned k result)) × (result ≤ n) }
+    requires lists { Lists (as_halfedges h.now) fixed.now t.now n p × (length bytes.old ≡ n) }
+    requires start_lt_n { (start < n) × (is_start fixed.now t.now start ≡ true) }
+    ensures { ((P N : List Float) (by : Plan) (k : Counts) → Previews (float_steps (as_halfedges h.now) P N fixed.now n) (second_walk (float_steps (as_halfedges h.now) P N fixed.now n) (suc n) start start by) t.now bytes.old k bytes.new (more_turned k result)) × (result ≤ n) }
 {
     let mut here = start;
     let mut i: usize = 0;
@@ -150,9 +150,9 @@ pub fn preview_at(
     start: usize,
     counts: Counts,
 ) -> Counts
-    requires lists { Lists (asHalfedges h.now) fixed.now t.now n p × (length bytes.old ≡ n) }
+    requires lists { Lists (as_halfedges h.now) fixed.now t.now n p × (length bytes.old ≡ n) }
     requires start_lt_n { (start < n) × Room n counts }
-    ensures previews { (P N : List Float) → Previews (floatSteps (asHalfedges h.now) P N fixed.now n) (spreadAt (floatSteps (asHalfedges h.now) P N fixed.now n) start) t.now bytes.old counts bytes.new result }
+    ensures previews { (P N : List Float) → Previews (float_steps (as_halfedges h.now) P N fixed.now n) (spread_at (float_steps (as_halfedges h.now) P N fixed.now n) start) t.now bytes.old counts bytes.new result }
     ensures looked_bound { (result.looked ≤ counts.looked + n) × (result.turned ≤ counts.turned + n) }
 {
     if !distribute_steps::is_start(fixed, t, start) {

@@ -1,4 +1,4 @@
--- The program reads no row: each operation takes the halfedges as `asHalfedges` has them. Assumes nothing.
+-- The program reads no row: each operation takes the halfedges as `as_halfedges` has them. Assumes nothing.
 use Prim.Native.Nat.{ℕ, ◌*◌}
 use mathlib.Core.Path.{◌≡◌, refl, sym, ap, ◌∙◌}
 use mathlib.Core.Bool.{true, cond}
@@ -7,74 +7,74 @@ use borrow.Author.Tests.{eqb-true}
 use lib.Dec.{eqb}
 use lib.ListN.{drop}
 use lib.Ieee.{Float}
-use Rattle.mesh.specs.Mesh.{asHalfedges}
-use Rattle.mesh.proofs.Rows.{same-halfedges}
-use Rattle.records.specs.Records.{parseInput}
+use Rattle.mesh.specs.Mesh.{as_halfedges}
+use Rattle.mesh.proofs.Rows.{same_halfedges}
+use Rattle.records.specs.Records.{parse_input}
 use Rattle.records.specs.declared.Parsed.{Parsed}
 use Rattle.records.specs.declared.Parsed.TheVariants.{Input, Refused as InputRefused}
-use Rattle.program_operations.specs.Operations.{straightenLines, spreadLines, operationLines, straightenTangents, spreadTangents, operationTangents, spreadScratch, operationScratch}
-use Rattle.program.specs.Program.{positionsOf, halfedgesOf, tangentsOf, normalsOf, flagsOf, linesFor, outputOf, tangentsAfter, scratchAfter}
+use Rattle.program_operations.specs.Operations.{straighten_lines, spread_lines, operation_lines, straighten_tangents, spread_tangents, operation_tangents, spread_scratch, operation_scratch}
+use Rattle.program.specs.Program.{positions_of, halfedges_of, tangents_of, normals_of, flags_of, lines_for, output_of, tangents_after, scratch_after}
 use Rattle.program.specs.Rows.{SameLists, SameInputs, RowsUnread}
-use Rattle.program.proofs.Inputs.{only-spread}
+use Rattle.program.proofs.Inputs.{only_spread}
 
 -- ---- one operation
 
 module _ (s s' : List ℕ) (o p n : ℕ) (h : SameLists s s' o p n) where
-  same-mesh : asHalfedges (halfedgesOf s p n) ≡ asHalfedges (halfedgesOf s' p n)
-  same-mesh = same-halfedges (halfedgesOf s p n) (halfedgesOf s' p n) n h.halfedges
+  same_mesh : as_halfedges (halfedges_of s p n) ≡ as_halfedges (halfedges_of s' p n)
+  same_mesh = same_halfedges (halfedges_of s p n) (halfedges_of s' p n) n h.halfedges
 
-  spread-lists : eqb o 2 ≡ true → (normalsOf s p n ≡ normalsOf s' p n) × (flagsOf s p n ≡ flagsOf s' p n)
-  spread-lists e = let two = eqb-true o 2 e in (h.normals two, h.flags two)
+  spread_lists : eqb o 2 ≡ true → (normals_of s p n ≡ normals_of s' p n) × (flags_of s p n ≡ flags_of s' p n)
+  spread_lists e = let two = eqb-true o 2 e in (h.normals two, h.flags two)
 
-  same-lines : linesFor s (Input o p n) ≡ linesFor s' (Input o p n)
-  unfolding operationLines
-  same-lines =
-      rw (same-mesh, h.positions, h.tangents)
-      (ap (cond (eqb o 1) (straightenLines (asHalfedges (halfedgesOf s' p n)) (positionsOf s' p n) (tangentsOf s' p n) n p))
-      (only-spread o (λ N X. spreadLines (asHalfedges (halfedgesOf s' p n)) (positionsOf s' p n) N X (tangentsOf s' p n) n p) _ _ (normalsOf s' p n) _ (flagsOf s' p n) (eqb o 2) refl spread-lists))
+  same_lines : lines_for s (Input o p n) ≡ lines_for s' (Input o p n)
+  unfolding operation_lines
+  same_lines =
+      rw (same_mesh, h.positions, h.tangents)
+      (ap (cond (eqb o 1) (straighten_lines (as_halfedges (halfedges_of s' p n)) (positions_of s' p n) (tangents_of s' p n) n p))
+      (only_spread o (λ N X. spread_lines (as_halfedges (halfedges_of s' p n)) (positions_of s' p n) N X (tangents_of s' p n) n p) _ _ (normals_of s' p n) _ (flags_of s' p n) (eqb o 2) refl spread_lists))
 
-  same-tangents : (lent : List Float) →
-      operationTangents o (asHalfedges (halfedgesOf s p n)) (positionsOf s p n) (normalsOf s p n) (flagsOf s p n) (tangentsOf s p n) n p ++ drop (4 * n) lent
-      ≡ operationTangents o (asHalfedges (halfedgesOf s' p n)) (positionsOf s' p n) (normalsOf s' p n) (flagsOf s' p n) (tangentsOf s' p n) n p ++ drop (4 * n) lent
-  unfolding operationTangents
-  same-tangents lent =
-      rw (same-mesh, h.positions, h.tangents)
-      (ap (λ (after : List Float). cond (eqb o 1) (straightenTangents (asHalfedges (halfedgesOf s' p n)) (positionsOf s' p n) (tangentsOf s' p n) n p) after ++ drop (4 * n) lent)
-      (only-spread o (λ N X. spreadTangents (asHalfedges (halfedgesOf s' p n)) (positionsOf s' p n) N X (tangentsOf s' p n) n p) _ _ (normalsOf s' p n) _ (flagsOf s' p n) (eqb o 2) refl spread-lists))
+  same_tangents : (lent : List Float) →
+      operation_tangents o (as_halfedges (halfedges_of s p n)) (positions_of s p n) (normals_of s p n) (flags_of s p n) (tangents_of s p n) n p ++ drop (4 * n) lent
+      ≡ operation_tangents o (as_halfedges (halfedges_of s' p n)) (positions_of s' p n) (normals_of s' p n) (flags_of s' p n) (tangents_of s' p n) n p ++ drop (4 * n) lent
+  unfolding operation_tangents
+  same_tangents lent =
+      rw (same_mesh, h.positions, h.tangents)
+      (ap (λ (after : List Float). cond (eqb o 1) (straighten_tangents (as_halfedges (halfedges_of s' p n)) (positions_of s' p n) (tangents_of s' p n) n p) after ++ drop (4 * n) lent)
+      (only_spread o (λ N X. spread_tangents (as_halfedges (halfedges_of s' p n)) (positions_of s' p n) N X (tangents_of s' p n) n p) _ _ (normals_of s' p n) _ (flags_of s' p n) (eqb o 2) refl spread_lists))
 
-  same-scratch : (lent : List Float) →
-      operationScratch o (asHalfedges (halfedgesOf s p n)) (positionsOf s p n) (normalsOf s p n) (flagsOf s p n) (tangentsOf s p n) n p lent
-      ≡ operationScratch o (asHalfedges (halfedgesOf s' p n)) (positionsOf s' p n) (normalsOf s' p n) (flagsOf s' p n) (tangentsOf s' p n) n p lent
-  unfolding operationScratch
-  same-scratch lent =
-      rw (same-mesh, h.positions, h.tangents)
-      (only-spread o (λ N X. spreadScratch (asHalfedges (halfedgesOf s' p n)) (positionsOf s' p n) N X (tangentsOf s' p n) n p lent) lent _ (normalsOf s' p n) _ (flagsOf s' p n) (eqb o 2) refl spread-lists)
+  same_scratch : (lent : List Float) →
+      operation_scratch o (as_halfedges (halfedges_of s p n)) (positions_of s p n) (normals_of s p n) (flags_of s p n) (tangents_of s p n) n p lent
+      ≡ operation_scratch o (as_halfedges (halfedges_of s' p n)) (positions_of s' p n) (normals_of s' p n) (flags_of s' p n) (tangents_of s' p n) n p lent
+  unfolding operation_scratch
+  same_scratch lent =
+      rw (same_mesh, h.positions, h.tangents)
+      (only_spread o (λ N X. spread_scratch (as_halfedges (halfedges_of s' p n)) (positions_of s' p n) N X (tangents_of s' p n) n p lent) lent _ (normals_of s' p n) _ (flags_of s' p n) (eqb o 2) refl spread_lists)
 
 -- ---- the program
 
 module _ (s s' : List ℕ) (h : SameInputs s s') where
-  both : (q : Parsed) → parseInput s ≡ q → parseInput s' ≡ q
+  both : (q : Parsed) → parse_input s ≡ q → parse_input s' ≡ q
   both q e = sym h.parsed ∙ e
 
-  output : (q : Parsed) → parseInput s ≡ q → outputOf s ≡ outputOf s'
-  unfolding outputOf
+  output : (q : Parsed) → parse_input s ≡ q → output_of s ≡ output_of s'
+  unfolding output_of
   output (InputRefused number place) e = rw (e, both _ e)
-  output (Input o p n) e = rw (e, both _ e) (same-lines s s' o p n (h.lists o p n e))
+  output (Input o p n) e = rw (e, both _ e) (same_lines s s' o p n (h.lists o p n e))
 
-  tangents : (lent : List Float) (q : Parsed) → parseInput s ≡ q → tangentsAfter s lent ≡ tangentsAfter s' lent
-  unfolding tangentsAfter
+  tangents : (lent : List Float) (q : Parsed) → parse_input s ≡ q → tangents_after s lent ≡ tangents_after s' lent
+  unfolding tangents_after
   tangents lent (InputRefused number place) e = rw (e, both _ e)
-  tangents lent (Input o p n) e = rw (e, both _ e) (same-tangents s s' o p n (h.lists o p n e) lent)
+  tangents lent (Input o p n) e = rw (e, both _ e) (same_tangents s s' o p n (h.lists o p n e) lent)
 
-  scratch : (lent : List Float) (q : Parsed) → parseInput s ≡ q → scratchAfter s lent ≡ scratchAfter s' lent
-  unfolding scratchAfter
+  scratch : (lent : List Float) (q : Parsed) → parse_input s ≡ q → scratch_after s lent ≡ scratch_after s' lent
+  unfolding scratch_after
   scratch lent (InputRefused number place) e = rw (e, both _ e)
-  scratch lent (Input o p n) e = rw (e, both _ e) (same-scratch s s' o p n (h.lists o p n e) lent)
+  scratch lent (Input o p n) e = rw (e, both _ e) (same_scratch s s' o p n (h.lists o p n e) lent)
 
-pub rows-unread : (s s' : List ℕ) → RowsUnread s s'
-rows-unread s s' h =
+pub rows_unread : (s s' : List ℕ) → RowsUnread s s'
+rows_unread s s' h =
     record {
-      output = output s s' h (parseInput s) refl;
-      tangents = λ lent. tangents s s' h lent (parseInput s) refl;
-      scratch = λ lent. scratch s s' h lent (parseInput s) refl;
+      output = output s s' h (parse_input s) refl;
+      tangents = λ lent. tangents s s' h lent (parse_input s) refl;
+      scratch = λ lent. scratch s s' h lent (parse_input s) refl;
     }

@@ -5,7 +5,7 @@
 ghost use Rattle.std.specs.Prelude.{◌≡◌, cond, [], length};
 ghost use Rattle.program_lines.specs.Text.{Put};
 ghost use Rattle.program_operations.specs.Operations.{Shows};
-ghost use Rattle.program.specs.Program.{outputOf, positionsAfter, halfedgesAfter, tangentsAfter, normalsAfter, flagsAfter, scratchAfter, hasRoom, listsHaveRoom, Room};
+ghost use Rattle.program.specs.Program.{output_of, positions_after, halfedges_after, tangents_after, normals_after, flags_after, scratch_after, has_room, lists_have_room, Room};
 
 use program_lines::Output;
 use records::Parsed;
@@ -34,14 +34,14 @@ fn respond(
     desired: &mut [f64],
 ) -> Output
     requires { Room (length pos.old) (length h.old) (length t.old) (length normals.old) (length flags.old) (length current.old) (length desired.old) }
-    ensures output { Shows (outputOf input.now) 1364 result t.new }
-    ensures positions { pos.new ≡ positionsAfter input.now pos.old }
-    ensures halfedges { h.new ≡ halfedgesAfter input.now h.old }
-    ensures tangents { t.new ≡ tangentsAfter input.now t.old }
-    ensures normals { normals.new ≡ normalsAfter input.now normals.old }
-    ensures flags { flags.new ≡ flagsAfter input.now flags.old }
-    ensures current { current.new ≡ scratchAfter input.now current.old }
-    ensures desired { desired.new ≡ scratchAfter input.now desired.old }
+    ensures output { Shows (output_of input.now) 1364 result t.new }
+    ensures positions { pos.new ≡ positions_after input.now pos.old }
+    ensures halfedges { h.new ≡ halfedges_after input.now h.old }
+    ensures tangents { t.new ≡ tangents_after input.now t.old }
+    ensures normals { normals.new ≡ normals_after input.now normals.old }
+    ensures flags { flags.new ≡ flags_after input.now flags.old }
+    ensures current { current.new ≡ scratch_after input.now current.old }
+    ensures desired { desired.new ≡ scratch_after input.now desired.old }
 {
     match records::read_input(input, pos, h, t, normals, flags) {
         Parsed::Input {
@@ -66,7 +66,7 @@ fn has_room(
     desired: usize,
     out: usize,
 ) -> bool
-    ensures { result ≡ hasRoom positions halfedges tangents normals flags current desired out }
+    ensures { result ≡ has_room positions halfedges tangents normals flags current desired out }
 {
     if positions < POSITION_ROOM {
         return false;
@@ -107,14 +107,14 @@ pub fn answer(
     desired: &mut [f64],
     out: &mut [u8],
 ) -> usize
-    ensures output { Put out.old 0 (cond (listsHaveRoom pos.old h.old t.old normals.old flags.old current.old desired.old out.old) (outputOf input.now) []) out.new result }
-    ensures positions { pos.new ≡ cond (listsHaveRoom pos.old h.old t.old normals.old flags.old current.old desired.old out.old) (positionsAfter input.now pos.old) pos.old }
-    ensures halfedges { h.new ≡ cond (listsHaveRoom pos.old h.old t.old normals.old flags.old current.old desired.old out.old) (halfedgesAfter input.now h.old) h.old }
-    ensures tangents { t.new ≡ cond (listsHaveRoom pos.old h.old t.old normals.old flags.old current.old desired.old out.old) (tangentsAfter input.now t.old) t.old }
-    ensures normals { normals.new ≡ cond (listsHaveRoom pos.old h.old t.old normals.old flags.old current.old desired.old out.old) (normalsAfter input.now normals.old) normals.old }
-    ensures flags { flags.new ≡ cond (listsHaveRoom pos.old h.old t.old normals.old flags.old current.old desired.old out.old) (flagsAfter input.now flags.old) flags.old }
-    ensures current { current.new ≡ cond (listsHaveRoom pos.old h.old t.old normals.old flags.old current.old desired.old out.old) (scratchAfter input.now current.old) current.old }
-    ensures desired { desired.new ≡ cond (listsHaveRoom pos.old h.old t.old normals.old flags.old current.old desired.old out.old) (scratchAfter input.now desired.old) desired.old }
+    ensures output { Put out.old 0 (cond (lists_have_room pos.old h.old t.old normals.old flags.old current.old desired.old out.old) (output_of input.now) []) out.new result }
+    ensures positions { pos.new ≡ cond (lists_have_room pos.old h.old t.old normals.old flags.old current.old desired.old out.old) (positions_after input.now pos.old) pos.old }
+    ensures halfedges { h.new ≡ cond (lists_have_room pos.old h.old t.old normals.old flags.old current.old desired.old out.old) (halfedges_after input.now h.old) h.old }
+    ensures tangents { t.new ≡ cond (lists_have_room pos.old h.old t.old normals.old flags.old current.old desired.old out.old) (tangents_after input.now t.old) t.old }
+    ensures normals { normals.new ≡ cond (lists_have_room pos.old h.old t.old normals.old flags.old current.old desired.old out.old) (normals_after input.now normals.old) normals.old }
+    ensures flags { flags.new ≡ cond (lists_have_room pos.old h.old t.old normals.old flags.old current.old desired.old out.old) (flags_after input.now flags.old) flags.old }
+    ensures current { current.new ≡ cond (lists_have_room pos.old h.old t.old normals.old flags.old current.old desired.old out.old) (scratch_after input.now current.old) current.old }
+    ensures desired { desired.new ≡ cond (lists_have_room pos.old h.old t.old normals.old flags.old current.old desired.old out.old) (scratch_after input.now desired.old) desired.old }
 {
     let room = has_room(
         pos.len(),

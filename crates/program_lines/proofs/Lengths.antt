@@ -9,77 +9,77 @@ use borrow.Author.Tests.{le-leb, lt-leb, leb-true, leb-false}
 use lib.Dec.{leb}
 use lib.ListN.{length, length-append}
 use lib.Ieee.{Float}
-use Rattle.common.proofs.Tests.{and-true}
+use Rattle.common.proofs.Tests.{and_true}
 use Rattle.program_lines.specs.Text.{ascii}
-use Rattle.program_lines.specs.Lines.{numberLine, bitsField, tangentLine, tangentLines, tangentsLines, linesOf, halfedgesIn, hasRoom, rendered}
+use Rattle.program_lines.specs.Lines.{number_line, bits_field, tangent_line, tangent_lines, tangents_lines, lines_of, halfedges_in, has_room, rendered}
 use Rattle.program_lines.specs.declared.Output.{Output}
-use Rattle.program_lines.proofs.Digits.{decimal-length, hex-length}
+use Rattle.program_lines.proofs.Digits.{decimal_length, hex_length}
 
-pub field-length : (T : List Float) (i : ℕ) → length (bitsField T i) ≤ 17
-unfolding bitsField ascii
-field-length T i = rw (length-append, hex-length) (omega arith)
+pub field_length : (T : List Float) (i : ℕ) → length (bits_field T i) ≤ 17
+unfolding bits_field ascii
+field_length T i = rw (length-append, hex_length) (omega arith)
 
-pub number-line-length : (text : List ℕ) (n : ℕ) → length text ≤ 16 → length (numberLine text n) ≤ 48
-unfolding numberLine ascii
-number-line-length text n h = rw (length-append, length-append) (omega (arith, decimal-length n))
+pub number_line_length : (text : List ℕ) (n : ℕ) → length text ≤ 16 → length (number_line text n) ≤ 48
+unfolding number_line ascii
+number_line_length text n h = rw (length-append, length-append) (omega (arith, decimal_length n))
 
-pub tangent-line-length : (T : List Float) (e : ℕ) → length (tangentLine T e) ≤ 96
-unfolding tangentLine ascii
-tangent-line-length T e =
+pub tangent_line_length : (T : List Float) (e : ℕ) → length (tangent_line T e) ≤ 96
+unfolding tangent_line ascii
+tangent_line_length T e =
     simp length-append
-    (omega (arith, decimal-length e, field-length T (4 * e), field-length T (4 * e + 1), field-length T (4 * e + 2), field-length T (4 * e + 3)))
+    (omega (arith, decimal_length e, field_length T (4 * e), field_length T (4 * e + 1), field_length T (4 * e + 2), field_length T (4 * e + 3)))
 
-pub tangent-lines-length : (T : List Float) (n : ℕ) → length (tangentLines T n) ≤ 96 * n
-unfolding tangentLines
-tangent-lines-length T zero = omega arith
-tangent-lines-length T (suc n) = rw length-append (omega (arith, tangent-lines-length T n, tangent-line-length T n))
+pub tangent_lines_length : (T : List Float) (n : ℕ) → length (tangent_lines T n) ≤ 96 * n
+unfolding tangent_lines
+tangent_lines_length T zero = omega arith
+tangent_lines_length T (suc n) = rw length-append (omega (arith, tangent_lines_length T n, tangent_line_length T n))
 
-pub tangents-length : (T : List Float) (n : ℕ) → length (tangentsLines T n) ≤ 96 * (n + 1)
-unfolding tangentsLines ascii
-tangents-length T n = rw length-append (omega (arith, tangent-lines-length T n, number-line-length (ascii "tangents ") n (omega arith)))
+pub tangents_length : (T : List Float) (n : ℕ) → length (tangents_lines T n) ≤ 96 * (n + 1)
+unfolding tangents_lines ascii
+tangents_length T n = rw length-append (omega (arith, tangent_lines_length T n, number_line_length (ascii "tangents ") n (omega arith)))
 
 -- ---- the room
 
 module _ (n numbers room : ℕ) where
-  pub few-numbers : numbers / 4 < n → false ≡ hasRoom n numbers room
-  unfolding hasRoom
-  few-numbers h = rw (lt-leb (4 * n) numbers (omega arith))
+  pub few_numbers : numbers / 4 < n → false ≡ has_room n numbers room
+  unfolding has_room
+  few_numbers h = rw (lt-leb (4 * n) numbers (omega arith))
 
   module _ (h : n ≤ numbers / 4) where
-    pub no-lines : room / 96 < 2 → false ≡ hasRoom n numbers room
-    unfolding hasRoom
-    no-lines l = rw (le-leb (4 * n) numbers (omega arith), lt-leb (96 * (n + 2)) room (omega arith))
+    pub no_lines : room / 96 < 2 → false ≡ has_room n numbers room
+    unfolding has_room
+    no_lines l = rw (le-leb (4 * n) numbers (omega arith), lt-leb (96 * (n + 2)) room (omega arith))
 
-    pub lines-room : 2 ≤ room / 96 → leb n (room / 96 - 2) ≡ hasRoom n numbers room
-    unfolding hasRoom
-    lines-room l = rw (le-leb (4 * n) numbers (omega arith)) (same-test (leb n (room / 96 - 2)) refl)
+    pub lines_room : 2 ≤ room / 96 → leb n (room / 96 - 2) ≡ has_room n numbers room
+    unfolding has_room
+    lines_room l = rw (le-leb (4 * n) numbers (omega arith)) (same_test (leb n (room / 96 - 2)) refl)
       where
-        same-test : (b : Bool) → leb n (room / 96 - 2) ≡ b → b ≡ leb (96 * (n + 2)) room
-        same-test true e = sym (le-leb (96 * (n + 2)) room (omega (arith, leb-true n (room / 96 - 2) e)))
-        same-test false e = sym (lt-leb (96 * (n + 2)) room (omega (arith, leb-false n (room / 96 - 2) e)))
+        same_test : (b : Bool) → leb n (room / 96 - 2) ≡ b → b ≡ leb (96 * (n + 2)) room
+        same_test true e = sym (le-leb (96 * (n + 2)) room (omega (arith, leb-true n (room / 96 - 2) e)))
+        same_test false e = sym (lt-leb (96 * (n + 2)) room (omega (arith, leb-false n (room / 96 - 2) e)))
 
-pub room-for : (n numbers room : ℕ) → hasRoom n numbers room ≡ true → (4 * n ≤ numbers) × (96 * (n + 2) ≤ room)
-unfolding hasRoom
-room-for n numbers room e =
-    let p = and-true (leb (4 * n) numbers) (leb (96 * (n + 2)) room) e in
+pub room_for : (n numbers room : ℕ) → has_room n numbers room ≡ true → (4 * n ≤ numbers) × (96 * (n + 2) ≤ room)
+unfolding has_room
+room_for n numbers room e =
+    let p = and_true (leb (4 * n) numbers) (leb (96 * (n + 2)) room) e in
     (leb-true (4 * n) numbers p.0, leb-true (96 * (n + 2)) room p.1)
 
 -- ---- what is rendered
 
-module _ (output : Output) (T : List Float) (room n : ℕ) (b : Bool) (e : n ≡ halfedgesIn output) (h : b ≡ hasRoom n (length T) room) where
+module _ (output : Output) (T : List Float) (room n : ℕ) (b : Bool) (e : n ≡ halfedges_in output) (h : b ≡ has_room n (length T) room) where
   pub nothing : b ≡ false → [] ≡ rendered output T room
   unfolding rendered
   nothing f = rw (← e, ← h, f)
 
   module _ (f : b ≡ true) where
-    pub everything : (o : Output) → output ≡ o → linesOf o T ≡ rendered output T room
+    pub everything : (o : Output) → output ≡ o → lines_of o T ≡ rendered output T room
     unfolding rendered
     everything o g = rw (← e, ← h, f, g)
 
-    pub enough-room : (o : Output) → output ≡ o → (4 * halfedgesIn o ≤ length T) × (96 * (halfedgesIn o + 2) ≤ room)
-    enough-room o g = rw (← g, ← e) (room-for n (length T) room (sym h ∙ f))
+    pub enough_room : (o : Output) → output ≡ o → (4 * halfedges_in o ≤ length T) × (96 * (halfedges_in o + 2) ≤ room)
+    enough_room o g = rw (← g, ← e) (room_for n (length T) room (sym h ∙ f))
 
 -- a bool as the code casts it
-pub as-number : (b : Bool) → bool_byte b ≡ cond b 1 0
-as-number true = refl
-as-number false = refl
+pub as_number : (b : Bool) → bool_byte b ≡ cond b 1 0
+as_number true = refl
+as_number false = refl

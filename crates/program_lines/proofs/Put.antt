@@ -8,30 +8,30 @@ use lib.ListN.{length, set, length-append}
 use lib.Seq.{sets, length-sets}
 use Rattle.program_lines.specs.Text.{byte, Put}
 
-sets-append : (l : List ℕ) (i : ℕ) (xs ys : List ℕ) → sets (sets l i xs) (i + length xs) ys ≡ sets l i (xs ++ ys)
-sets-append l i [] ys = rw add-zero
-sets-append l i (x ∷ xs) ys = rw (add-suc, ← suc-add) (sets-append (set l i x) (suc i) xs ys)
+sets_append : (l : List ℕ) (i : ℕ) (xs ys : List ℕ) → sets (sets l i xs) (i + length xs) ys ≡ sets l i (xs ++ ys)
+sets_append l i [] ys = rw add-zero
+sets_append l i (x ∷ xs) ys = rw (add-suc, ← suc-add) (sets_append (set l i x) (suc i) xs ys)
 
-pub put-none : {a : List ℕ} {i : ℕ} → i ≤ length a → Put a i [] a i
-put-none {a} {i} h = record { stored = refl; ends = sym (add-zero i); within = h }
+pub put_none : {a : List ℕ} {i : ℕ} → i ≤ length a → Put a i [] a i
+put_none {a} {i} h = record { stored = refl; ends = sym (add-zero i); within = h }
 
-pub put-length : {a b xs : List ℕ} {i m : ℕ} → Put a i xs b m → length b ≡ length a
-put-length {a} {b} {xs} {i} p = ap length p.stored ∙ length-sets a i xs
+pub put_length : {a b xs : List ℕ} {i m : ℕ} → Put a i xs b m → length b ≡ length a
+put_length {a} {b} {xs} {i} p = ap length p.stored ∙ length-sets a i xs
 
-pub put-then : {a b c xs ys : List ℕ} {i m k : ℕ} → Put a i xs b m → Put b m ys c k → Put a i (xs ++ ys) c k
-put-then {a} {b} {c} {xs} {ys} {i} {m} {k} p q =
+pub put_then : {a b c xs ys : List ℕ} {i m k : ℕ} → Put a i xs b m → Put b m ys c k → Put a i (xs ++ ys) c k
+put_then {a} {b} {c} {xs} {ys} {i} {m} {k} p q =
     record {
-      stored = q.stored ∙ rw (p.stored, p.ends) (sets-append a i xs ys);
+      stored = q.stored ∙ rw (p.stored, p.ends) (sets_append a i xs ys);
       ends = q.ends ∙ rw (p.ends, length-append) (add_assoc i (length xs) (length ys));
-      within = omega (arith, q.within, put-length p);
+      within = omega (arith, q.within, put_length p);
     }
 
 -- one turn of a loop that stores
-pub put-more : {a b xs : List ℕ} {i : ℕ} (k v : ℕ) (ys : List ℕ) → Put a i xs b (i + k) → i + k < length a → xs ++ byte v ≡ ys → Put a i ys (set b (i + k) v) (i + (k + 1))
-put-more {a} {b} {xs} {i} k v ys p h e =
-    let q : Put b (i + k) (byte v) (set b (i + k) v) (i + (k + 1)) = record { stored = refl; ends = sym (add_assoc i k 1); within = omega (arith, put-length p) } in
-    rw (← e) (put-then p q)
+pub put_more : {a b xs : List ℕ} {i : ℕ} (k v : ℕ) (ys : List ℕ) → Put a i xs b (i + k) → i + k < length a → xs ++ byte v ≡ ys → Put a i ys (set b (i + k) v) (i + (k + 1))
+put_more {a} {b} {xs} {i} k v ys p h e =
+    let q : Put b (i + k) (byte v) (set b (i + k) v) (i + (k + 1)) = record { stored = refl; ends = sym (add_assoc i k 1); within = omega (arith, put_length p) } in
+    rw (← e) (put_then p q)
 
 -- what a caller needs to know of the room that is left
-pub put-within : {a b xs : List ℕ} {i m : ℕ} (k : ℕ) → length xs ≤ k → Put a i xs b m → (m ≤ i + k) × (length b ≡ length a)
-put-within k h p = let e = p.ends in (omega arith, put-length p)
+pub put_within : {a b xs : List ℕ} {i m : ℕ} (k : ℕ) → length xs ≤ k → Put a i xs b m → (m ≤ i + k) × (length b ≡ length a)
+put_within k h p = let e = p.ends in (omega arith, put_length p)

@@ -5,9 +5,9 @@ use mathlib.Core.List.{List}
 use borrow.Author.Tests.{le-leb}
 use lib.ListN.{length}
 use lib.Ieee.{Float}
-use Rattle.program_lines.specs.Lines.{linesOf, halfedgesIn, lineBytes, hasRoom, rendered}
+use Rattle.program_lines.specs.Lines.{lines_of, halfedges_in, line_bytes, has_room, rendered}
 use Rattle.program_lines.specs.declared.Output.{Output}
 
-pub whole : (output : Output) (T : List Float) (room : ℕ) → 4 * halfedgesIn output ≤ length T → lineBytes * (halfedgesIn output + 2) ≤ room → rendered output T room ≡ linesOf output T
-unfolding rendered hasRoom
-whole output T room h l = rw (le-leb (4 * halfedgesIn output) (length T) h, le-leb (lineBytes * (halfedgesIn output + 2)) room l)
+pub whole : (output : Output) (T : List Float) (room : ℕ) → 4 * halfedges_in output ≤ length T → line_bytes * (halfedges_in output + 2) ≤ room → rendered output T room ≡ lines_of output T
+unfolding rendered has_room
+whole output T room h l = rw (le-leb (4 * halfedges_in output) (length T) h, le-leb (line_bytes * (halfedges_in output + 2)) room l)

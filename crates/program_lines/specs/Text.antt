@@ -14,25 +14,25 @@ abbrev pub byte : ℕ → List ℕ
 byte b = List.◌∷◌ b List.[]
 
 -- a number in decimal, with no zero in front, as long as it has at most so many digits
-unfoldable pub decimalUpTo : ℕ → ℕ → List ℕ
-decimalUpTo zero n = List.[]
-decimalUpTo (suc k) n = elim (ltb n 10) [ true ↦ byte (48 + n) | false ↦ decimalUpTo k (n / 10) ++ byte (48 + n % 10) ]
+unfoldable pub decimal_up_to : ℕ → ℕ → List ℕ
+decimal_up_to zero n = List.[]
+decimal_up_to (suc k) n = elim (ltb n 10) [ true ↦ byte (48 + n) | false ↦ decimal_up_to k (n / 10) ++ byte (48 + n % 10) ]
 
 -- a u64 has at most 20 digits
 unfoldable pub decimal : ℕ → List ℕ
-decimal n = decimalUpTo 20 n
+decimal n = decimal_up_to 20 n
 
 -- a hexadecimal digit, in lower case
-unfoldable pub hexDigit : ℕ → ℕ
-hexDigit d = cond (ltb d 10) (48 + d) (87 + d)
+unfoldable pub hex_digit : ℕ → ℕ
+hex_digit d = cond (ltb d 10) (48 + d) (87 + d)
 
 -- the first k of the 16 hexadecimal digits of a u64, the highest first
-unfoldable pub hexUpTo : ℕ → ℕ → List ℕ
-hexUpTo n zero = List.[]
-hexUpTo n (suc k) = hexUpTo n k ++ byte (hexDigit (n / 2 ^ (60 - 4 * k) % 16))
+unfoldable pub hex_up_to : ℕ → ℕ → List ℕ
+hex_up_to n zero = List.[]
+hex_up_to n (suc k) = hex_up_to n k ++ byte (hex_digit (n / 2 ^ (60 - 4 * k) % 16))
 
 unfoldable pub hex : ℕ → List ℕ
-hex n = hexUpTo n 16
+hex n = hex_up_to n 16
 
 -- These bytes were stored one after the other from `at` on, up to `end`, all within the buffer, of which nothing else changed.
 pub record Put (before : List ℕ) (at : ℕ) (bytes : List ℕ) (after : List ℕ) (end : ℕ) : Type 0 where

@@ -2,8 +2,8 @@
 #![tactic(auto)]
 
 ghost use Rattle.std.specs.Prelude.{◌≡◌, ◌+◌, ◌*◌, ◌<◌, ◌≤◌, length};
-ghost use Rattle.program_lines.specs.Text.{byte, decimal, hexDigit, hex, Put};
-ghost use Rattle.program_lines.specs.Lines.{numberLine, numbersLine, bitsField, tangentLine, tangentLines, tangentsLines, linesOf, halfedgesIn, hasRoom, rendered};
+ghost use Rattle.program_lines.specs.Text.{byte, decimal, hex_digit, hex, Put};
+ghost use Rattle.program_lines.specs.Lines.{number_line, numbers_line, bits_field, tangent_line, tangent_lines, tangents_lines, lines_of, halfedges_in, has_room, rendered};
 
 // Room for a line: no line has more bytes.
 pub const LINE_BYTES: usize = 96;
@@ -62,7 +62,7 @@ fn put_decimal(out: &mut [u8], at: usize, n: u64) -> usize
 
 fn hex_digit(d: u8) -> u8
     requires { d < 16 }
-    ensures { result ≡ hexDigit d }
+    ensures { result ≡ hex_digit d }
 {
     if d < 10 { 48 + d } else { 87 + d }
 }
@@ -80,7 +80,7 @@ fn put_hex(out: &mut [u8], at: usize, n: u64) -> usize
 
 fn put_number_line(out: &mut [u8], at: usize, text: &[u8], n: usize) -> usize
     requires { (at + 48 ≤ length out.old) × (length text.now ≤ 16) }
-    ensures { Put out.old at (numberLine text.now n) out.new result }
+    ensures { Put out.old at (number_line text.now n) out.new result }
 {
     let number = put_text(out, at, text);
     let end = put_decimal(out, number, n as u64);
@@ -96,7 +96,7 @@ fn put_numbers_line(
     m: usize,
 ) -> usize
     requires { (at + 96 ≤ length out.old) × (length text.now ≤ 16) × (length text2.now ≤ 16) }
-    ensures { Put out.old at (numbersLine text.now n text2.now m) out.new result }
+    ensures { Put out.old at (numbers_line text.now n text2.now m) out.new result }
 {
     let number = put_text(out, at, text);
     let end = put_decimal(out, number, n as u64);
@@ -105,7 +105,7 @@ fn put_numbers_line(
 
 fn put_bits_field(t: &[f64], i: usize, out: &mut [u8], at: usize) -> usize
     requires { (i < length t.now) × (at + 17 ≤ length out.old) }
-    ensures { Put out.old at (bitsField t.now i) out.new result }
+    ensures { Put out.old at (bits_field t.now i) out.new result }
 {
     let digits = put_byte(out, at, b' ');
     put_hex(out, digits, float::bits(t[i]))
@@ -113,7 +113,7 @@ fn put_bits_field(t: &[f64], i: usize, out: &mut [u8], at: usize) -> usize
 
 fn put_tangent_line(t: &[f64], e: usize, out: &mut [u8], at: usize) -> usize
     requires { (4 * e + 4 ≤ length t.now) × (at + 96 ≤ length out.old) }
-    ensures { Put out.old at (tangentLine t.now e) out.new result }
+    ensures { Put out.old at (tangent_line t.now e) out.new result }
 {
     let x = put_decimal(out, at, e as u64);
     let y = put_bits_field(t, 4 * e, out, x);
@@ -126,7 +126,7 @@ fn put_tangent_line(t: &[f64], e: usize, out: &mut [u8], at: usize) -> usize
 // The lines of the halfedges below n.
 fn put_tangent_lines(t: &[f64], n: usize, out: &mut [u8], at: usize) -> usize
     requires { (4 * n ≤ length t.now) × (at + 96 * n ≤ length out.old) }
-    ensures { Put out.old at (tangentLines t.now n) out.new result }
+    ensures { Put out.old at (tangent_lines t.now n) out.new result }
 {
     let mut end = at;
     for e in 0..n {
@@ -137,7 +137,7 @@ fn put_tangent_lines(t: &[f64], n: usize, out: &mut [u8], at: usize) -> usize
 
 fn put_tangents(t: &[f64], n: usize, out: &mut [u8]) -> usize
     requires { (4 * n ≤ length t.now) × (96 * (n + 1) ≤ length out.old) }
-    ensures { Put out.old 0 (tangentsLines t.now n) out.new result }
+    ensures { Put out.old 0 (tangents_lines t.now n) out.new result }
 {
     let at = put_number_line(out, 0, b"tangents ", n);
     put_tangent_lines(t, n, out, at)
@@ -145,7 +145,7 @@ fn put_tangents(t: &[f64], n: usize, out: &mut [u8]) -> usize
 
 fn put_spread(t: &[f64], n: usize, looked: usize, turned: usize, out: &mut [u8]) -> usize
     requires { (4 * n ≤ length t.now) × (96 * (n + 2) ≤ length out.old) }
-    ensures { Put out.old 0 (linesOf (Output.Spread n looked turned) t.now) out.new result }
+    ensures { Put out.old 0 (lines_of (Output.Spread n looked turned) t.now) out.new result }
 {
     let at = put_tangents(t, n, out);
     put_numbers_line(out, at, b"looked ", looked, b" turned ", turned)
@@ -153,7 +153,7 @@ fn put_spread(t: &[f64], n: usize, looked: usize, turned: usize, out: &mut [u8])
 
 // Are there four numbers for each halfedge, and room for a line of each and two more?
 fn has_room(n: usize, numbers: usize, room: usize) -> bool
-    ensures { result ≡ hasRoom n numbers room }
+    ensures { result ≡ has_room n numbers room }
 {
     if numbers / 4 < n {
         return false;
@@ -165,7 +165,7 @@ fn has_room(n: usize, numbers: usize, room: usize) -> bool
 }
 
 fn halfedges_in(output: Output) -> usize
-    ensures { result ≡ halfedgesIn output }
+    ensures { result ≡ halfedges_in output }
 {
     match output {
         Output::Tangents { halfedges } => halfedges,

@@ -6,113 +6,113 @@ use mathlib.Core.List.{List, ◌++◌}
 use lib.ListN.{length, take, drop, replicate, get_or-append, length-replicate, take-append-drop}
 use lib.Ieee.{Float, nan}
 use Rattle.float.specs.Ops.{zero as 0f}
-use Rattle.program_lines.specs.Lines.{bitsField, tangentLine, tangentLines, tangentsLines, linesOf, halfedgesIn}
+use Rattle.program_lines.specs.Lines.{bits_field, tangent_line, tangent_lines, tangents_lines, lines_of, halfedges_in}
 use Rattle.program_lines.specs.declared.Output.{Output}
 use Rattle.program_lines.specs.declared.Output.TheVariants.{Tangents, Spread, Valid, Refused}
 use Rattle.mesh.specs.Mesh.{Halfedges}
-use Rattle.mesh.specs.Check.{whenAccepted}
+use Rattle.mesh.specs.Check.{when_accepted}
 use Rattle.mesh.specs.declared.Checked.{Checked}
 use Rattle.mesh.specs.declared.Checked.TheVariants.{Accepted, Refused as MeshRefused}
-use Rattle.linearize.specs.Linearize.{linearizeAnswer, tangentsAfter as straightened}
-use Rattle.validate.specs.Validate.{validAnswer}
+use Rattle.linearize.specs.Linearize.{linearize_answer, tangents_after as straightened}
+use Rattle.validate.specs.Validate.{valid_answer}
 use Rattle.validate.specs.declared.Validity.{Validity}
 use Rattle.validate.specs.declared.Validity.TheVariants.{Valid as MarksValid, Refused as MarksRefused}
-use Rattle.distribute.specs.Distribute.{checkLists, distributeTangents, tangentsAfter as spread, scratchAfter}
+use Rattle.distribute.specs.Distribute.{check_lists, distribute_tangents, tangents_after as spread, scratch_after}
 use Rattle.distribute.specs.declared.Spreading.{Spreading}
 use Rattle.distribute.specs.declared.Spreading.TheVariants.{Spread as Spreads, Refused as SpreadRefused}
-use Rattle.program_operations.specs.Operations.{straightenOutput, straightenLines, spreadOutput, spreadLines, spreadTangents, spreadScratch, checkOutput, checkLines, Shows}
+use Rattle.program_operations.specs.Operations.{straighten_output, straighten_lines, spread_output, spread_lines, spread_tangents, spread_scratch, check_output, check_lines, Shows}
 
 -- ---- the front of the tangents
 
 module _ (T rest : List Float) where
-  field-front : (i : ℕ) → i < length T → bitsField (T ++ rest) i ≡ bitsField T i
-  unfolding bitsField
-  field-front i h = rw (get_or-append T rest nan i h)
+  field_front : (i : ℕ) → i < length T → bits_field (T ++ rest) i ≡ bits_field T i
+  unfolding bits_field
+  field_front i h = rw (get_or-append T rest nan i h)
 
-  line-front : (e : ℕ) → 4 * suc e ≤ length T → tangentLine (T ++ rest) e ≡ tangentLine T e
-  unfolding tangentLine
-  line-front e h =
-      rw (field-front (4 * e) (omega arith), field-front (4 * e + 1) (omega arith), field-front (4 * e + 2) (omega arith), field-front (4 * e + 3) (omega arith))
+  line_front : (e : ℕ) → 4 * suc e ≤ length T → tangent_line (T ++ rest) e ≡ tangent_line T e
+  unfolding tangent_line
+  line_front e h =
+      rw (field_front (4 * e) (omega arith), field_front (4 * e + 1) (omega arith), field_front (4 * e + 2) (omega arith), field_front (4 * e + 3) (omega arith))
 
-  lines-front : (n : ℕ) → 4 * n ≤ length T → tangentLines (T ++ rest) n ≡ tangentLines T n
-  unfolding tangentLines
-  lines-front zero h = refl
-  lines-front (suc e) h = rw (lines-front e (omega arith), line-front e h)
+  lines_front : (n : ℕ) → 4 * n ≤ length T → tangent_lines (T ++ rest) n ≡ tangent_lines T n
+  unfolding tangent_lines
+  lines_front zero h = refl
+  lines_front (suc e) h = rw (lines_front e (omega arith), line_front e h)
 
-  output-front : (o : Output) → 4 * halfedgesIn o ≤ length T → linesOf o (T ++ rest) ≡ linesOf o T
-  unfolding linesOf tangentsLines
-  output-front (Tangents n) h = rw (lines-front n h)
-  output-front (Spread n looked turned) h = rw (lines-front n h)
-  output-front (Valid valid) h = refl
-  output-front (Refused number place) h = refl
+  output_front : (o : Output) → 4 * halfedges_in o ≤ length T → lines_of o (T ++ rest) ≡ lines_of o T
+  unfolding lines_of tangents_lines
+  output_front (Tangents n) h = rw (lines_front n h)
+  output_front (Spread n looked turned) h = rw (lines_front n h)
+  output_front (Valid valid) h = refl
+  output_front (Refused number place) h = refl
 
   -- lines over a front of 4 numbers for each of n halfedges
-  shows-front : (lines : List ℕ) (n : ℕ) (o : Output) → length T ≡ 4 * n → halfedgesIn o ≤ n → linesOf o T ≡ lines → Shows lines n o (T ++ rest)
-  shows-front lines n o l h e = record { shown = output-front o (omega arith) ∙ e; halfedges-few = h }
+  shows_front : (lines : List ℕ) (n : ℕ) (o : Output) → length T ≡ 4 * n → halfedges_in o ≤ n → lines_of o T ≡ lines → Shows lines n o (T ++ rest)
+  shows_front lines n o l h e = record { shown = output_front o (omega arith) ∙ e; halfedges_few = h }
 
 -- ---- the operations
 
-straighten-few : (r : Checked) (n : ℕ) → halfedgesIn (straightenOutput r n) ≤ n
-straighten-few Accepted n = omega arith
-straighten-few (MeshRefused number place) n = omega arith
+straighten_few : (r : Checked) (n : ℕ) → halfedges_in (straighten_output r n) ≤ n
+straighten_few Accepted n = omega arith
+straighten_few (MeshRefused number place) n = omega arith
 
-pub straighten-shows : (H : Halfedges) (P T : List Float) (n p : ℕ) (r : Checked) (o : Output) (after rest : List Float) →
-    o ≡ straightenOutput r n → r ≡ linearizeAnswer H P T n p → after ≡ straightened H P T n p → length after ≡ 4 * n →
-    Shows (straightenLines H P T n p) n o (after ++ rest)
-unfolding straightenLines
-straighten-shows H P T n p r o after rest e f g l =
-    shows-front after rest _ n o l (rw e (straighten-few r n)) (rw (e, f, g))
+pub straighten_shows : (H : Halfedges) (P T : List Float) (n p : ℕ) (r : Checked) (o : Output) (after rest : List Float) →
+    o ≡ straighten_output r n → r ≡ linearize_answer H P T n p → after ≡ straightened H P T n p → length after ≡ 4 * n →
+    Shows (straighten_lines H P T n p) n o (after ++ rest)
+unfolding straighten_lines
+straighten_shows H P T n p r o after rest e f g l =
+    shows_front after rest _ n o l (rw e (straighten_few r n)) (rw (e, f, g))
 
-spread-few : (r : Spreading) (n : ℕ) → halfedgesIn (spreadOutput r n) ≤ n
-spread-few (Spreads looked turned) n = omega arith
-spread-few (SpreadRefused number place) n = omega arith
+spread_few : (r : Spreading) (n : ℕ) → halfedges_in (spread_output r n) ≤ n
+spread_few (Spreads looked turned) n = omega arith
+spread_few (SpreadRefused number place) n = omega arith
 
 -- of the scratch lists only the lengths are asked about
-scratch-lengths : (H : Halfedges) (P N : List Float) (F : List ℕ) (T C D : List Float) (n p : ℕ) → length C ≡ n → length D ≡ n →
-    checkLists H P N F T C D n p ≡ checkLists H P N F T (replicate n 0f) (replicate n 0f) n p
-unfolding checkLists
-scratch-lengths H P N F T C D n p c d = rw (length-replicate, c, d)
+scratch_lengths : (H : Halfedges) (P N : List Float) (F : List ℕ) (T C D : List Float) (n p : ℕ) → length C ≡ n → length D ≡ n →
+    check_lists H P N F T C D n p ≡ check_lists H P N F T (replicate n 0f) (replicate n 0f) n p
+unfolding check_lists
+scratch_lengths H P N F T C D n p c d = rw (length-replicate, c, d)
 
-pub spread-shows : (H : Halfedges) (P N : List Float) (F : List ℕ) (T C D : List Float) (n p : ℕ) (r : Spreading) (o : Output) (after rest : List Float) →
+pub spread_shows : (H : Halfedges) (P N : List Float) (F : List ℕ) (T C D : List Float) (n p : ℕ) (r : Spreading) (o : Output) (after rest : List Float) →
     length C ≡ n → length D ≡ n →
-    o ≡ spreadOutput r n → r ≡ distributeTangents H P N F T C D n p → after ≡ spread H P N F T C D n p → length after ≡ 4 * n →
-    Shows (spreadLines H P N F T n p) n o (after ++ rest)
-unfolding spreadLines
-spread-shows H P N F T C D n p r o after rest c d e f g l =
-    shows-front after rest _ n o l (rw e (spread-few r n)) (rw (e, f, g, scratch-lengths H P N F T C D n p c d))
+    o ≡ spread_output r n → r ≡ distribute_tangents H P N F T C D n p → after ≡ spread H P N F T C D n p → length after ≡ 4 * n →
+    Shows (spread_lines H P N F T n p) n o (after ++ rest)
+unfolding spread_lines
+spread_shows H P N F T C D n p r o after rest c d e f g l =
+    shows_front after rest _ n o l (rw e (spread_few r n)) (rw (e, f, g, scratch_lengths H P N F T C D n p c d))
 
 -- ---- the lists
 
 -- a list whose front was lent: as the call leaves the front, and then the rest
-pub front-left : (after after' rest : List Float) → after ≡ after' → after ++ rest ≡ after' ++ rest
-front-left after after' rest e = rw e
+pub front_left : (after after' rest : List Float) → after ≡ after' → after ++ rest ≡ after' ++ rest
+front_left after after' rest e = rw e
 
-scratch-left : (checked : Checked) (n : ℕ) (lent : List Float) →
-    whenAccepted checked (replicate n 0f) (take n lent) ++ drop n lent ≡ whenAccepted checked (replicate n 0f ++ drop n lent) lent
-scratch-left Accepted n lent = refl
-scratch-left (MeshRefused number place) n lent = take-append-drop n lent
+scratch_left : (checked : Checked) (n : ℕ) (lent : List Float) →
+    when_accepted checked (replicate n 0f) (take n lent) ++ drop n lent ≡ when_accepted checked (replicate n 0f ++ drop n lent) lent
+scratch_left Accepted n lent = refl
+scratch_left (MeshRefused number place) n lent = take-append-drop n lent
 
 module _ (H : Halfedges) (P N : List Float) (F : List ℕ) (T C D : List Float) (n p : ℕ) (c : length C ≡ n) (d : length D ≡ n) where
-  pub spread-tangents : (after rest : List Float) → after ≡ spread H P N F T C D n p → after ++ rest ≡ spreadTangents H P N F T n p ++ rest
-  spread-tangents after rest e = rw (e, scratch-lengths H P N F T C D n p c d)
+  pub spread_tangents_lem : (after rest : List Float) → after ≡ spread H P N F T C D n p → after ++ rest ≡ spread_tangents H P N F T n p ++ rest
+  spread_tangents_lem after rest e = rw (e, scratch_lengths H P N F T C D n p c d)
 
-  pub spread-scratch : (after lent : List Float) → after ≡ scratchAfter (checkLists H P N F T C D n p) (take n lent) n → after ++ drop n lent ≡ spreadScratch H P N F T n p lent
-  spread-scratch after lent e = rw (e, scratch-lengths H P N F T C D n p c d) (scratch-left (checkLists H P N F T (replicate n 0f) (replicate n 0f) n p) n lent)
+  pub spread_scratch_lem : (after lent : List Float) → after ≡ scratch_after (check_lists H P N F T C D n p) (take n lent) n → after ++ drop n lent ≡ spread_scratch H P N F T n p lent
+  spread_scratch_lem after lent e = rw (e, scratch_lengths H P N F T C D n p c d) (scratch_left (check_lists H P N F T (replicate n 0f) (replicate n 0f) n p) n lent)
 
 -- ---- the mark check
 
-check-few : (r : Validity) (n : ℕ) → halfedgesIn (checkOutput r) ≤ n
-check-few (MarksValid valid) n = omega arith
-check-few (MarksRefused number place) n = omega arith
+check_few : (r : Validity) (n : ℕ) → halfedges_in (check_output r) ≤ n
+check_few (MarksValid valid) n = omega arith
+check_few (MarksRefused number place) n = omega arith
 
 -- no tangents are printed
-check-any : (r : Validity) (T T' : List Float) → linesOf (checkOutput r) T ≡ linesOf (checkOutput r) T'
-unfolding linesOf
-check-any (MarksValid valid) T T' = refl
-check-any (MarksRefused number place) T T' = refl
+check_any : (r : Validity) (T T' : List Float) → lines_of (check_output r) T ≡ lines_of (check_output r) T'
+unfolding lines_of
+check_any (MarksValid valid) T T' = refl
+check_any (MarksRefused number place) T T' = refl
 
-pub check-shows : (H : Halfedges) (P T : List Float) (n p : ℕ) (r : Validity) (o : Output) (T' : List Float) →
-    o ≡ checkOutput r → r ≡ validAnswer H P T n p → Shows (checkLines H P T n p) n o T'
-unfolding checkLines
-check-shows H P T n p r o T' e f =
-    record { shown = rw e (check-any r T' T ∙ rw f); halfedges-few = rw e (check-few r n) }
+pub check_shows : (H : Halfedges) (P T : List Float) (n p : ℕ) (r : Validity) (o : Output) (T' : List Float) →
+    o ≡ check_output r → r ≡ valid_answer H P T n p → Shows (check_lines H P T n p) n o T'
+unfolding check_lines
+check_shows H P T n p r o T' e f =
+    record { shown = rw e (check_any r T' T ∙ rw f); halfedges_few = rw e (check_few r n) }

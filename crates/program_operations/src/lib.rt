@@ -3,8 +3,8 @@
 #![tactic(auto)]
 
 ghost use Rattle.std.specs.Prelude.{◌≡◌, ◌*◌, ◌++◌, length, take, drop};
-ghost use Rattle.mesh.specs.Mesh.{halfedgeStride, asHalfedges};
-ghost use Rattle.program_operations.specs.Operations.{straightenOutput, straightenLines, spreadOutput, spreadLines, checkOutput, checkLines, operationLines, straightenTangents, spreadTangents, spreadScratch, operationTangents, operationScratch, MeshIn, SpreadIn, Shows};
+ghost use Rattle.mesh.specs.Mesh.{halfedge_stride, as_halfedges};
+ghost use Rattle.program_operations.specs.Operations.{straighten_output, straighten_lines, spread_output, spread_lines, check_output, check_lines, operation_lines, straighten_tangents, spread_tangents, spread_scratch, operation_tangents, operation_scratch, MeshIn, SpreadIn, Shows};
 
 use distribute::Spreading;
 use mesh::Checked;
@@ -12,7 +12,7 @@ use program_lines::Output;
 use validate::Validity;
 
 fn straighten_output(checked: Checked, n: usize) -> Output
-    ensures { result ≡ straightenOutput checked n }
+    ensures { result ≡ straighten_output checked n }
 {
     match checked {
         Checked::Accepted => Output::Tangents { halfedges: n },
@@ -21,7 +21,7 @@ fn straighten_output(checked: Checked, n: usize) -> Output
 }
 
 fn spread_output(spreading: Spreading, n: usize) -> Output
-    ensures { result ≡ spreadOutput spreading n }
+    ensures { result ≡ spread_output spreading n }
 {
     match spreading {
         Spreading::Spread { looked, turned } => Output::Spread {
@@ -34,7 +34,7 @@ fn spread_output(spreading: Spreading, n: usize) -> Output
 }
 
 fn check_output(validity: Validity) -> Output
-    ensures { result ≡ checkOutput validity }
+    ensures { result ≡ check_output validity }
 {
     match validity {
         Validity::Valid(valid) => Output::Valid { valid },
@@ -45,8 +45,8 @@ fn check_output(validity: Validity) -> Output
 // The operation 1.
 fn straighten(n: usize, p: usize, h: &[i32], pos: &[f64], t: &mut [f64]) -> Output
     requires { MeshIn n p (length pos.now) (length h.now) (length t.old) }
-    ensures lines { Shows (straightenLines (asHalfedges (take (halfedgeStride * n) h.now)) (take (3 * p) pos.now) (take (4 * n) t.old) n p) n result t.new }
-    ensures tangents { t.new ≡ straightenTangents (asHalfedges (take (halfedgeStride * n) h.now)) (take (3 * p) pos.now) (take (4 * n) t.old) n p ++ drop (4 * n) t.old }
+    ensures lines { Shows (straighten_lines (as_halfedges (take (halfedge_stride * n) h.now)) (take (3 * p) pos.now) (take (4 * n) t.old) n p) n result t.new }
+    ensures tangents { t.new ≡ straighten_tangents (as_halfedges (take (halfedge_stride * n) h.now)) (take (3 * p) pos.now) (take (4 * n) t.old) n p ++ drop (4 * n) t.old }
 {
     let hl = mesh::HALFEDGE_STRIDE * n;
     let pl = 3 * p;
@@ -68,10 +68,10 @@ fn spread(
     desired: &mut [f64],
 ) -> Output
     requires { SpreadIn n p (length pos.now) (length h.now) (length t.old) (length normals.now) (length flags.now) (length current.old) (length desired.old) }
-    ensures lines { Shows (spreadLines (asHalfedges (take (halfedgeStride * n) h.now)) (take (3 * p) pos.now) (take (3 * p) normals.now) (take n flags.now) (take (4 * n) t.old) n p) n result t.new }
-    ensures tangents { t.new ≡ spreadTangents (asHalfedges (take (halfedgeStride * n) h.now)) (take (3 * p) pos.now) (take (3 * p) normals.now) (take n flags.now) (take (4 * n) t.old) n p ++ drop (4 * n) t.old }
-    ensures current { current.new ≡ spreadScratch (asHalfedges (take (halfedgeStride * n) h.now)) (take (3 * p) pos.now) (take (3 * p) normals.now) (take n flags.now) (take (4 * n) t.old) n p current.old }
-    ensures desired { desired.new ≡ spreadScratch (asHalfedges (take (halfedgeStride * n) h.now)) (take (3 * p) pos.now) (take (3 * p) normals.now) (take n flags.now) (take (4 * n) t.old) n p desired.old }
+    ensures lines { Shows (spread_lines (as_halfedges (take (halfedge_stride * n) h.now)) (take (3 * p) pos.now) (take (3 * p) normals.now) (take n flags.now) (take (4 * n) t.old) n p) n result t.new }
+    ensures tangents { t.new ≡ spread_tangents (as_halfedges (take (halfedge_stride * n) h.now)) (take (3 * p) pos.now) (take (3 * p) normals.now) (take n flags.now) (take (4 * n) t.old) n p ++ drop (4 * n) t.old }
+    ensures current { current.new ≡ spread_scratch (as_halfedges (take (halfedge_stride * n) h.now)) (take (3 * p) pos.now) (take (3 * p) normals.now) (take n flags.now) (take (4 * n) t.old) n p current.old }
+    ensures desired { desired.new ≡ spread_scratch (as_halfedges (take (halfedge_stride * n) h.now)) (take (3 * p) pos.now) (take (3 * p) normals.now) (take n flags.now) (take (4 * n) t.old) n p desired.old }
 {
     let hl = mesh::HALFEDGE_STRIDE * n;
     let pl = 3 * p;
@@ -93,7 +93,7 @@ fn spread(
 // The operation 3.
 fn check(n: usize, p: usize, h: &[i32], pos: &[f64], t: &[f64]) -> Output
     requires { MeshIn n p (length pos.now) (length h.now) (length t.now) }
-    ensures { Shows (checkLines (asHalfedges (take (halfedgeStride * n) h.now)) (take (3 * p) pos.now) (take (4 * n) t.now) n p) n result t.now }
+    ensures { Shows (check_lines (as_halfedges (take (halfedge_stride * n) h.now)) (take (3 * p) pos.now) (take (4 * n) t.now) n p) n result t.now }
 {
     let hl = mesh::HALFEDGE_STRIDE * n;
     let pl = 3 * p;
@@ -115,10 +115,10 @@ pub fn operate(
     desired: &mut [f64],
 ) -> Output
     requires { SpreadIn n p (length pos.now) (length h.now) (length t.old) (length normals.now) (length flags.now) (length current.old) (length desired.old) }
-    ensures lines { Shows (operationLines operation (asHalfedges (take (halfedgeStride * n) h.now)) (take (3 * p) pos.now) (take (3 * p) normals.now) (take n flags.now) (take (4 * n) t.old) n p) n result t.new }
-    ensures tangents { t.new ≡ operationTangents operation (asHalfedges (take (halfedgeStride * n) h.now)) (take (3 * p) pos.now) (take (3 * p) normals.now) (take n flags.now) (take (4 * n) t.old) n p ++ drop (4 * n) t.old }
-    ensures current { current.new ≡ operationScratch operation (asHalfedges (take (halfedgeStride * n) h.now)) (take (3 * p) pos.now) (take (3 * p) normals.now) (take n flags.now) (take (4 * n) t.old) n p current.old }
-    ensures desired { desired.new ≡ operationScratch operation (asHalfedges (take (halfedgeStride * n) h.now)) (take (3 * p) pos.now) (take (3 * p) normals.now) (take n flags.now) (take (4 * n) t.old) n p desired.old }
+    ensures lines { Shows (operation_lines operation (as_halfedges (take (halfedge_stride * n) h.now)) (take (3 * p) pos.now) (take (3 * p) normals.now) (take n flags.now) (take (4 * n) t.old) n p) n result t.new }
+    ensures tangents { t.new ≡ operation_tangents operation (as_halfedges (take (halfedge_stride * n) h.now)) (take (3 * p) pos.now) (take (3 * p) normals.now) (take n flags.now) (take (4 * n) t.old) n p ++ drop (4 * n) t.old }
+    ensures current { current.new ≡ operation_scratch operation (as_halfedges (take (halfedge_stride * n) h.now)) (take (3 * p) pos.now) (take (3 * p) normals.now) (take n flags.now) (take (4 * n) t.old) n p current.old }
+    ensures desired { desired.new ≡ operation_scratch operation (as_halfedges (take (halfedge_stride * n) h.now)) (take (3 * p) pos.now) (take (3 * p) normals.now) (take n flags.now) (take (4 * n) t.old) n p desired.old }
 {
     if operation == 1 {
         return straighten(n, p, h, pos, t);

@@ -2,7 +2,7 @@
 use Prim.Native.Nat.{ℕ, zero, suc, ◌/◌, ◌%◌}
 use mathlib.Core.List.{List, [], ◌∷◌, ◌++◌}
 use lib.ListN.{length}
-use Rattle.common.specs.Pillow.{points, halfedges, halfedgeNumbers, positionBits}
+use Rattle.common.specs.Pillow.{points, halfedges, halfedge_numbers, position_bits}
 
 -- the k bytes of a number, the lowest first
 abbrev pub number : ℕ → ℕ → List ℕ
@@ -13,14 +13,14 @@ abbrev pub numbers : ℕ → List ℕ → List ℕ
 numbers k [] = []
 numbers k (n ∷ ns) = number k n ++ numbers k ns
 
-abbrev pub recordOf : ℕ → List ℕ → List ℕ
-recordOf kind body = number 4 (length body) ++ number 2 kind ++ body
+abbrev pub record_of : ℕ → List ℕ → List ℕ
+record_of kind body = number 4 (length body) ++ number 2 kind ++ body
 
 -- the pillow's records for an operation, with these bytes of tangents
-abbrev pub pillowRecords : ℕ → List ℕ → List ℕ
-pillowRecords operation tangents =
-    recordOf 1 (operation ∷ [])
-    ++ recordOf 2 (number 2 points ++ number 2 halfedges)
-    ++ recordOf 3 (numbers 8 positionBits)
-    ++ recordOf 4 (numbers 4 (halfedgeNumbers 5))
-    ++ recordOf 5 tangents
+abbrev pub pillow_records : ℕ → List ℕ → List ℕ
+pillow_records operation tangents =
+    record_of 1 (operation ∷ [])
+    ++ record_of 2 (number 2 points ++ number 2 halfedges)
+    ++ record_of 3 (numbers 8 position_bits)
+    ++ record_of 4 (numbers 4 (halfedge_numbers 5))
+    ++ record_of 5 tangents

@@ -5,110 +5,110 @@ use mathlib.Core.List.{List, [], ◌∷◌, ◌++◌}
 use lib.ListN.{take, replicate}
 use lib.IntN.{negsuc}
 use lib.Ieee.{nan, of_bits}
-use Rattle.common.specs.Pillow.{pillow, positionBits, positions}
+use Rattle.common.specs.Pillow.{pillow, position_bits, positions}
 use Rattle.float.specs.Ops.{lit}
-use Rattle.little_endian.specs.Numbers.{littleEndian, i32Of, f64Item, i32Item, byteItem}
-use Rattle.records.specs.Records.{recordFits, recordRefusal, bodyBytes, recordsLength, bodyAt, lastKind, operationRefusal, refusalFrom, recordsRefusal, inputRefusal, parseInput}
+use Rattle.little_endian.specs.Numbers.{little_endian, i32_of, f64_item, i32_item, byte_item}
+use Rattle.records.specs.Records.{record_fits, record_refusal, body_bytes, records_length, body_at, last_kind, operation_refusal, refusal_from, records_refusal, input_refusal, parse_input}
 use Rattle.little_endian.specs.Filled.{items}
 use Rattle.records.specs.declared.Parsed.TheVariants.{Input, Refused}
-use Rattle.records.proofs.Bytes.{number, numbers, recordOf, pillowRecords}
+use Rattle.records.proofs.Bytes.{number, numbers, record_of, pillow_records}
 
 unfoldable all : Unit {0}
-unfolding of_bits littleEndian i32Of f64Item i32Item byteItem recordFits recordRefusal bodyBytes recordsLength lastKind operationRefusal refusalFrom recordsRefusal inputRefusal parseInput items
+unfolding of_bits little_endian i32_of f64_item i32_item byte_item record_fits record_refusal body_bytes records_length last_kind operation_refusal refusal_from records_refusal input_refusal parse_input items
 all = tt
 
 -- an operation over the pillow with so many bytes of tangents
 abbrev input : ℕ → ℕ → List ℕ
-input operation bytes = pillowRecords operation (replicate bytes 0)
+input operation bytes = pillow_records operation (replicate bytes 0)
 
-straighten : parseInput (input 1 192) ≡ Input 1 3 6
+straighten : parse_input (input 1 192) ≡ Input 1 3 6
 unfolding all
 straighten = refl
 
-check : parseInput (input 3 192) ≡ Input 3 3 6
+check : parse_input (input 3 192) ≡ Input 3 3 6
 unfolding all
 check = refl
 
-spread : parseInput (input 2 192 ++ recordOf 6 (replicate 72 0) ++ recordOf 7 (replicate 6 1)) ≡ Input 2 3 6
+spread : parse_input (input 2 192 ++ record_of 6 (replicate 72 0) ++ record_of 7 (replicate 6 1)) ≡ Input 2 3 6
 unfolding all
 spread = refl
 
 -- spreading without its normals: the record that is due there does not fit
-no-normals : parseInput (input 2 192) ≡ Refused 20 395
+no_normals : parse_input (input 2 192) ≡ Refused 20 395
 unfolding all
-no-normals = refl
+no_normals = refl
 
-empty : parseInput [] ≡ Refused 20 0
+empty : parse_input [] ≡ Refused 20 0
 unfolding all
 empty = refl
 
-cut-off : parseInput (take 394 (input 1 192)) ≡ Refused 20 197
+cut_off : parse_input (take 394 (input 1 192)) ≡ Refused 20 197
 unfolding all
-cut-off = refl
+cut_off = refl
 
-cut-header : parseInput (take 100 (input 1 192)) ≡ Refused 20 95
+cut_header : parse_input (take 100 (input 1 192)) ≡ Refused 20 95
 unfolding all
-cut-header = refl
+cut_header = refl
 
 -- fitting is asked before the kind, the kind before the length, the length before the operation
-no-fit-first : parseInput (take 10 (recordOf 2 (replicate 8 0))) ≡ Refused 20 0
+no_fit_first : parse_input (take 10 (record_of 2 (replicate 8 0))) ≡ Refused 20 0
 unfolding all
-no-fit-first = refl
+no_fit_first = refl
 
-other-kind : parseInput (recordOf 2 (number 2 3 ++ number 2 6)) ≡ Refused 21 0
+other_kind : parse_input (record_of 2 (number 2 3 ++ number 2 6)) ≡ Refused 21 0
 unfolding all
-other-kind = refl
+other_kind = refl
 
-kind-first : parseInput (recordOf 1 (1 ∷ []) ++ recordOf 3 (numbers 8 positionBits)) ≡ Refused 21 7
+kind_first : parse_input (record_of 1 (1 ∷ []) ++ record_of 3 (numbers 8 position_bits)) ≡ Refused 21 7
 unfolding all
-kind-first = refl
+kind_first = refl
 
-other-length : parseInput (input 1 191) ≡ Refused 22 197
+other_length : parse_input (input 1 191) ≡ Refused 22 197
 unfolding all
-other-length = refl
+other_length = refl
 
-length-first : parseInput (recordOf 1 (4 ∷ 4 ∷ [])) ≡ Refused 22 0
+length_first : parse_input (record_of 1 (4 ∷ 4 ∷ [])) ≡ Refused 22 0
 unfolding all
-length-first = refl
+length_first = refl
 
-unknown : parseInput (input 4 192) ≡ Refused 23 0
+unknown : parse_input (input 4 192) ≡ Refused 23 0
 unfolding all
 unknown = refl
 
-left-over : parseInput (input 1 192 ++ (0 ∷ [])) ≡ Refused 24 395
+left_over : parse_input (input 1 192 ++ (0 ∷ [])) ≡ Refused 24 395
 unfolding all
-left-over = refl
+left_over = refl
 
 -- one byte past the limit is too long
-longest : parseInput (input 1 192 ++ replicate 65141 0) ≡ Refused 24 395
+longest : parse_input (input 1 192 ++ replicate 65141 0) ≡ Refused 24 395
 unfolding all
 longest = refl
 
-too-long : parseInput (input 1 192 ++ replicate 65142 0) ≡ Refused 20 0
+too_long : parse_input (input 1 192 ++ replicate 65142 0) ≡ Refused 20 0
 unfolding all
-too-long = refl
+too_long = refl
 
-positions-read : items (f64Item (input 1 192) (bodyAt 3 6 3)) 9 ≡ positions
+positions_read : items (f64_item (input 1 192) (body_at 3 6 3)) 9 ≡ positions
 unfolding all
-positions-read = refl
+positions_read = refl
 
-halfedges-read : items (i32Item (input 1 192) (bodyAt 3 6 4)) 24 ≡ pillow
+halfedges_read : items (i32_item (input 1 192) (body_at 3 6 4)) 24 ≡ pillow
 unfolding all
-halfedges-read = refl
+halfedges_read = refl
 
 -- -2, -2 ^ 31, not-a-number with any bits, and -0
-negative : i32Item (number 4 0xffff_fffe) 0 0 ≡ negsuc 1
+negative : i32_item (number 4 0xffff_fffe) 0 0 ≡ negsuc 1
 unfolding all
 negative = refl
 
-most-negative : i32Item (number 4 0x8000_0000) 0 0 ≡ negsuc 2147483647
+most_negative : i32_item (number 4 0x8000_0000) 0 0 ≡ negsuc 2147483647
 unfolding all
-most-negative = refl
+most_negative = refl
 
-not-a-number : f64Item (number 8 0xfff0_0000_0000_0001) 0 0 ≡ nan
+not_a_number : f64_item (number 8 0xfff0_0000_0000_0001) 0 0 ≡ nan
 unfolding all
-not-a-number = refl
+not_a_number = refl
 
-minus-zero : f64Item (number 8 0x8000_0000_0000_0000) 0 0 ≡ lit 0x8000_0000_0000_0000
+minus_zero : f64_item (number 8 0x8000_0000_0000_0000) 0 0 ≡ lit 0x8000_0000_0000_0000
 unfolding all
-minus-zero = refl
+minus_zero = refl

@@ -2,11 +2,11 @@
 #![tactic(auto)]
 
 ghost use Rattle.std.specs.Prelude.{◌≡◌, ◌+◌, ◌*◌, ◌<◌, ◌≤◌, ◌^◌, ◌-◌, length};
-ghost use Rattle.little_endian.specs.Numbers.{f64Item, i32Item, byteItem};
+ghost use Rattle.little_endian.specs.Numbers.{f64_item, i32_item, byte_item};
 ghost use Rattle.little_endian.specs.Filled.{filled};
-ghost use Rattle.mesh.specs.Mesh.{halfedgeStride};
-ghost use Rattle.records.specs.Records.{recordRefusal, bodyBytes, bodyAt, lastKind, operationRefusal, refusalFrom, recordsRefusal, operationIn, pointsIn, halfedgesIn, parsedOf, parseInput, Values};
-ghost use Rattle.records.specs.Lists.{MeshRoom, SpreadRoom, ifSpread, hasRoom, listsOf, readRefusal, readAnswer, readLists};
+ghost use Rattle.mesh.specs.Mesh.{halfedge_stride};
+ghost use Rattle.records.specs.Records.{record_refusal, body_bytes, body_at, last_kind, operation_refusal, refusal_from, records_refusal, operation_in, points_in, halfedges_in, parsed_of, parse_input, Values};
+ghost use Rattle.records.specs.Lists.{MeshRoom, SpreadRoom, if_spread, has_room, lists_of, read_refusal, read_answer, read_lists};
 
 // The longest input of the program.
 pub const MAX_INPUT: usize = 65536;
@@ -36,7 +36,7 @@ pub enum Parsed {
 // The questions of the record that is due at `at`: the number of the first no, or 0.
 fn record_refusal(s: &[u8], at: usize, kind: usize, bytes: usize) -> usize
     requires { at ≤ length s.now }
-    ensures { result ≡ recordRefusal s.now at kind bytes }
+    ensures { result ≡ record_refusal s.now at kind bytes }
 {
     let left = s.len() - at;
     if left < HEADER_BYTES {
@@ -59,7 +59,7 @@ fn record_refusal(s: &[u8], at: usize, kind: usize, bytes: usize) -> usize
 // The body length that the counts call for.
 fn body_bytes(points: usize, halfedges: usize, kind: usize) -> usize
     requires { (points < 2 ^ 32) × (halfedges < 2 ^ 32) }
-    ensures { result ≡ bodyBytes points halfedges kind }
+    ensures { result ≡ body_bytes points halfedges kind }
 {
     if kind == 1 {
         return 1;
@@ -85,7 +85,7 @@ fn body_bytes(points: usize, halfedges: usize, kind: usize) -> usize
 // Where the body of a kind is.
 fn body_at(points: usize, halfedges: usize, kind: usize) -> usize
     requires { (points < 2 ^ 32) × (halfedges < 2 ^ 32) × (1 ≤ kind) × (kind < 2 ^ 8) }
-    ensures { result ≡ bodyAt points halfedges kind }
+    ensures { result ≡ body_at points halfedges kind }
 {
     let mut at = HEADER_BYTES;
     for k in 1..kind {
@@ -95,14 +95,14 @@ fn body_at(points: usize, halfedges: usize, kind: usize) -> usize
 }
 
 fn last_kind(operation: u8) -> usize
-    ensures { result ≡ lastKind operation }
+    ensures { result ≡ last_kind operation }
 {
     if operation == 2 { 7 } else { 5 }
 }
 
 // Is the operation known? 23 where not, else 0.
 fn operation_refusal(operation: u8) -> usize
-    ensures { result ≡ operationRefusal operation }
+    ensures { result ≡ operation_refusal operation }
 {
     if operation < 1 {
         return 23;
@@ -113,7 +113,7 @@ fn operation_refusal(operation: u8) -> usize
 // The records after the counts, and the end of the input.
 fn parse_bodies(s: &[u8], operation: u8, points: usize, halfedges: usize) -> Parsed
     requires { (points < 2 ^ 32) × (halfedges < 2 ^ 32) × (17 ≤ length s.now) }
-    ensures { result ≡ parsedOf (refusalFrom s.now points halfedges (lastKind operation - 2) 2) operation points halfedges }
+    ensures { result ≡ parsed_of (refusal_from s.now points halfedges (last_kind operation - 2) 2) operation points halfedges }
 {
     let last = last_kind(operation);
     let mut kind = 2;
@@ -139,7 +139,7 @@ fn parse_bodies(s: &[u8], operation: u8, points: usize, halfedges: usize) -> Par
 
 // The records of an input of any length.
 fn parse_records(s: &[u8]) -> Parsed
-    ensures { result ≡ parsedOf (recordsRefusal s.now) (operationIn s.now) (pointsIn s.now) (halfedgesIn s.now) }
+    ensures { result ≡ parsed_of (records_refusal s.now) (operation_in s.now) (points_in s.now) (halfedges_in s.now) }
 {
     let first = record_refusal(s, 0, 1, 1);
     if first != 0 {
@@ -170,7 +170,7 @@ fn parse_records(s: &[u8]) -> Parsed
 
 // The program's input.
 fn parse_input(s: &[u8]) -> Parsed
-    ensures { result ≡ parseInput s.now }
+    ensures { result ≡ parse_input s.now }
 {
     if s.len() <= MAX_INPUT {
         return parse_records(s);
@@ -183,7 +183,7 @@ fn parse_input(s: &[u8]) -> Parsed
 
 // So many, if the operation is spreading, which alone has point normals and flags.
 fn if_spread(operation: u8, count: usize) -> usize
-    ensures { result ≡ ifSpread operation count }
+    ensures { result ≡ if_spread operation count }
 {
     if operation == 2 { count } else { 0 }
 }
@@ -200,7 +200,7 @@ fn has_room(
     flags: usize,
 ) -> bool
     requires { (points < 2 ^ 32) × (halfedges < 2 ^ 32) }
-    ensures { result ≡ hasRoom operation points halfedges pos h t vn flags }
+    ensures { result ≡ has_room operation points halfedges pos h t vn flags }
 {
     if pos < 3 * points {
         return false;
@@ -227,9 +227,9 @@ fn fill_mesh(
     t: &mut [f64],
 )
     requires { MeshRoom points halfedges (length s.now) (length pos.old) (length h.old) (length t.old) }
-    ensures { (pos.new ≡ filled (f64Item s.now (bodyAt points halfedges 3)) (3 * points) pos.old)
-        × (h.new ≡ filled (i32Item s.now (bodyAt points halfedges 4)) (halfedgeStride * halfedges) h.old)
-        × (t.new ≡ filled (f64Item s.now (bodyAt points halfedges 5)) (4 * halfedges) t.old) }
+    ensures { (pos.new ≡ filled (f64_item s.now (body_at points halfedges 3)) (3 * points) pos.old)
+        × (h.new ≡ filled (i32_item s.now (body_at points halfedges 4)) (halfedge_stride * halfedges) h.old)
+        × (t.new ≡ filled (f64_item s.now (body_at points halfedges 5)) (4 * halfedges) t.old) }
 {
     little_endian::fill_f64(s, body_at(points, halfedges, 3), 3 * points, pos);
     little_endian::fill_i32(
@@ -244,8 +244,8 @@ fn fill_mesh(
 // The point normals and the flags.
 fn fill_spread(s: &[u8], points: usize, halfedges: usize, vn: &mut [f64], flags: &mut [u8])
     requires { SpreadRoom points halfedges (length s.now) (length vn.old) (length flags.old) }
-    ensures { (vn.new ≡ filled (f64Item s.now (bodyAt points halfedges 6)) (3 * points) vn.old)
-        × (flags.new ≡ filled (byteItem s.now (bodyAt points halfedges 7)) halfedges flags.old) }
+    ensures { (vn.new ≡ filled (f64_item s.now (body_at points halfedges 6)) (3 * points) vn.old)
+        × (flags.new ≡ filled (byte_item s.now (body_at points halfedges 7)) halfedges flags.old) }
 {
     little_endian::fill_f64(s, body_at(points, halfedges, 6), 3 * points, vn);
     little_endian::fill_bytes(s, body_at(points, halfedges, 7), halfedges, flags);
@@ -261,10 +261,10 @@ pub fn read_input(
     vn: &mut [f64],
     flags: &mut [u8],
 ) -> Parsed
-    ensures answer { result ≡ readAnswer input.now (listsOf h.old pos.old vn.old flags.old t.old) }
-    ensures lists { listsOf h.new pos.new vn.new flags.new t.new
-        ≡ readLists result input.now (listsOf h.old pos.old vn.old flags.old t.old) }
-    ensures values { Values (readRefusal input.now (listsOf h.old pos.old vn.old flags.old t.old)) (operationIn input.now) (pointsIn input.now) (halfedgesIn input.now) result }
+    ensures answer { result ≡ read_answer input.now (lists_of h.old pos.old vn.old flags.old t.old) }
+    ensures lists { lists_of h.new pos.new vn.new flags.new t.new
+        ≡ read_lists result input.now (lists_of h.old pos.old vn.old flags.old t.old) }
+    ensures values { Values (read_refusal input.now (lists_of h.old pos.old vn.old flags.old t.old)) (operation_in input.now) (points_in input.now) (halfedges_in input.now) result }
 {
     let parsed = parse_input(input);
     let Parsed::Input {

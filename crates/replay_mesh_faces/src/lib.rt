@@ -1,7 +1,7 @@
 // Leaves over the faces of a mesh: `flat_faces`, `vert_flat_face` and `vert_halfedge`.
 #![tactic(auto)]
 
-ghost use Rattle.mesh.specs.Mesh.{asHalfedges};
+ghost use Rattle.mesh.specs.Mesh.{as_halfedges};
 ghost use Rattle.replay_mesh_faces.specs.Points.{Points};
 
 use create_shared::FlatFace;
@@ -60,7 +60,7 @@ fn flat_all(
     points: &mut [usize],
     p: usize,
 ) -> bool
-    requires { Points (asHalfedges h.now) flat.old points.old p }
+    requires { Points (as_halfedges h.now) flat.old points.old p }
 {
     let triangles = flat.len() / 3;
     create_shared::flat_faces(h, refs, flat);
@@ -81,7 +81,7 @@ fn points_all(
     points: &mut [usize],
     p: usize,
 ) -> bool
-    requires { Points (asHalfedges h.now) flat.now points.old p }
+    requires { Points (as_halfedges h.now) flat.now points.old p }
 {
     create_shared::vert_flat_face(h, refs, flat, points);
     if !same_faces(s, at, points) {

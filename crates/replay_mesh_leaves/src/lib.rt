@@ -1,7 +1,7 @@
 // Leaves over a mesh: `tangent_from_normal`, `is_inside_quad` and `is_marked_inside_quad`.
 #![tactic(auto)]
 
-ghost use Rattle.mesh.specs.Mesh.{asHalfedges};
+ghost use Rattle.mesh.specs.Mesh.{as_halfedges};
 ghost use Rattle.replay_mesh_leaves.specs.Lists.{NormalLists, QuadLists};
 
 use linalg::Vec4;
@@ -25,7 +25,7 @@ fn tfn_all(
     n: usize,
     p: usize,
 ) -> bool
-    requires { NormalLists (asHalfedges h.now) pos.now normals.now own.now n p }
+    requires { NormalLists (as_halfedges h.now) pos.now normals.now own.now n p }
 {
     let mut from = replay::after(at, 4);
     for e in 0..n {
@@ -106,7 +106,7 @@ fn inside_all(
     n: usize,
     p: usize,
 ) -> bool
-    requires { QuadLists (asHalfedges h.now) t.now n p }
+    requires { QuadLists (as_halfedges h.now) t.now n p }
 {
     for e in 0..n {
         let inside = smoothing::is_inside_quad(h, refs, t, old, e);
@@ -119,7 +119,7 @@ fn inside_all(
 
 // Is it marked?
 fn marked_all(s: &[u8], at: usize, h: &[i32], t: &[f64], n: usize, p: usize) -> bool
-    requires { QuadLists (asHalfedges h.now) t.now n p }
+    requires { QuadLists (as_halfedges h.now) t.now n p }
 {
     for e in 0..n {
         let marked = smoothing::is_marked_inside_quad(t, e);

@@ -5,21 +5,21 @@ use mathlib.Core.List.{List, [], ◌∷◌}
 use lib.Ieee as Ieee
 use lib.Ieee.{Float, nan}
 use Rattle.float.specs.Ops.{lit, zero, half, one}
-use Rattle.float.specs.F64.{maxOf, clampOf}
-use Rattle.math.specs.Kernels.{absHighWord, signBit}
-use Rattle.math.specs.Acos.{acosBeyond, acosOf}
-use Rattle.linalg.specs.Vec.{dotOf}
-use Rattle.mesh.specs.Mesh.{numberAt, indexOf, field, asHalfedges, nextHalfedge}
+use Rattle.float.specs.F64.{max_of, clamp_of}
+use Rattle.math.specs.Kernels.{abs_high_word, sign_bit}
+use Rattle.math.specs.Acos.{acos_beyond, acos_of}
+use Rattle.linalg.specs.Vec.{dot_of}
+use Rattle.mesh.specs.Mesh.{number_at, index_of, field, as_halfedges, next_halfedge}
 use Rattle.mesh.specs.Lowest.{lowest}
-use Rattle.common.specs.Fold.{foldTo}
-use Rattle.common.specs.Count.{sum, countBelow}
+use Rattle.common.specs.Fold.{fold_to}
+use Rattle.common.specs.Count.{sum, count_below}
 use Rattle.common.specs.Pillow.{pillow}
-use Rattle.mesh.specs.Scalar.{radiansOf}
-use Rattle.mesh.specs.Check.{checkMesh}
-use Rattle.smoothing.specs.Lists.{pointAt}
-use Rattle.sharpen.specs.Crease.{minRadians, dihedralOf, isCrease}
-use Rattle.sharpen.specs.Entries.{entriesIn, pushEntry, pushEdge, listEdge}
-use Rattle.sharpen.specs.Sharpen.{sharpenEdges, entriesAfter}
+use Rattle.mesh.specs.Scalar.{radians_of}
+use Rattle.mesh.specs.Check.{check_mesh}
+use Rattle.smoothing.specs.Lists.{point_at}
+use Rattle.sharpen.specs.Crease.{min_radians, dihedral_of, is_crease}
+use Rattle.sharpen.specs.Entries.{entries_in, push_entry, push_edge, list_edge}
+use Rattle.sharpen.specs.Sharpen.{sharpen_edges, entries_after}
 use Rattle.sharpen.specs.declared.Listing.TheVariants.{Listed, Refused}
 
 abbrev opposite : List Float
@@ -39,24 +39,24 @@ halves = half ∷ half ∷ half ∷ half ∷ half ∷ half ∷ []
 
 -- what the cases compute with
 unfoldable all : Unit {0}
-unfolding Ieee.of_bits Ieee.to_bits Ieee.neg Ieee.add Ieee.mul Ieee.div Ieee.ne Ieee.lt maxOf clampOf absHighWord signBit acosBeyond acosOf dotOf numberAt indexOf field asHalfedges nextHalfedge lowest foldTo radiansOf checkMesh pointAt minRadians dihedralOf isCrease pushEntry pushEdge listEdge sum countBelow
+unfolding Ieee.of_bits Ieee.to_bits Ieee.neg Ieee.add Ieee.mul Ieee.div Ieee.ne Ieee.lt max_of clamp_of abs_high_word sign_bit acos_beyond acos_of dot_of number_at index_of field as_halfedges next_halfedge lowest fold_to radians_of check_mesh point_at min_radians dihedral_of is_crease push_entry push_edge list_edge sum count_below
 all = tt
 
 -- each edge is listed, its forward halfedge first
-pub all-listed : (sharpenEdges (asHalfedges pillow) opposite nan half places zeros 6 3 ≡ Listed 6 3) × (entriesAfter (asHalfedges pillow) opposite nan half places zeros 6 3 ≡ entriesIn (0 ∷ 5 ∷ 1 ∷ 4 ∷ 3 ∷ 2 ∷ []) halves 6)
+pub all_listed : (sharpen_edges (as_halfedges pillow) opposite nan half places zeros 6 3 ≡ Listed 6 3) × (entries_after (as_halfedges pillow) opposite nan half places zeros 6 3 ≡ entries_in (0 ∷ 5 ∷ 1 ∷ 4 ∷ 3 ∷ 2 ∷ []) halves 6)
 unfolding all
-all-listed = (refl, refl)
+all_listed = (refl, refl)
 
-pub none-listed : (sharpenEdges (asHalfedges pillow) same nan half places zeros 6 3 ≡ Listed 0 0) × (entriesAfter (asHalfedges pillow) same nan half places zeros 6 3 ≡ entriesIn places zeros 0)
+pub none_listed : (sharpen_edges (as_halfedges pillow) same nan half places zeros 6 3 ≡ Listed 0 0) × (entries_after (as_halfedges pillow) same nan half places zeros 6 3 ≡ entries_in places zeros 0)
 unfolding all
-none-listed = (refl, refl)
+none_listed = (refl, refl)
 
 -- at 180 degrees the angle is the limit, and not above it
-pub at-limit : sharpenEdges (asHalfedges pillow) opposite (lit 0x4066_8000_0000_0000) half places zeros 6 3 ≡ Listed 0 0
+pub at_limit : sharpen_edges (as_halfedges pillow) opposite (lit 0x4066_8000_0000_0000) half places zeros 6 3 ≡ Listed 0 0
 unfolding all
-at-limit = refl
+at_limit = refl
 
 -- a list without its length
-pub refused : (sharpenEdges (asHalfedges pillow) opposite nan half [] zeros 6 3 ≡ Refused 2 0) × (entriesAfter (asHalfedges pillow) opposite nan half [] zeros 6 3 ≡ entriesIn [] zeros 0)
+pub refused : (sharpen_edges (as_halfedges pillow) opposite nan half [] zeros 6 3 ≡ Refused 2 0) × (entries_after (as_halfedges pillow) opposite nan half [] zeros 6 3 ≡ entries_in [] zeros 0)
 unfolding all
 refused = (refl, refl)

@@ -2,21 +2,21 @@
 use Rattle.std.specs.Prelude.{ℕ, ◌/◌, List, Bool, ◌&&◌, Float}
 use Rattle.std.specs.Float.Ieee.{lt, neg}
 use Rattle.float.specs.Ops.{lit, one}
-use Rattle.float.specs.F64.{maxOf, clampOf}
-use Rattle.math.specs.Acos.{acosOf}
-use Rattle.linalg.specs.Vec.{dotOf}
-use Rattle.mesh.specs.Mesh.{pairedHalfedge, isForward, Halfedges}
-use Rattle.mesh.specs.Scalar.{radiansOf}
-use Rattle.smoothing.specs.Lists.{pointAt}
+use Rattle.float.specs.F64.{max_of, clamp_of}
+use Rattle.math.specs.Acos.{acos_of}
+use Rattle.linalg.specs.Vec.{dot_of}
+use Rattle.mesh.specs.Mesh.{paired_halfedge, is_forward, Halfedges}
+use Rattle.mesh.specs.Scalar.{radians_of}
+use Rattle.smoothing.specs.Lists.{point_at}
 
 -- `min_radians`: `radians(min_sharp_angle.max(1e-4))`
-unfoldable pub minRadians : Float → Float
-minRadians angle = radiansOf (maxOf angle (lit 0x3f1a_36e2_eb1c_432d))
+unfoldable pub min_radians : Float → Float
+min_radians angle = radians_of (max_of angle (lit 0x3f1a_36e2_eb1c_432d))
 
 -- `dihedral`: the angle between the normals of the two triangles at halfedge e
-unfoldable pub dihedralOf : Halfedges → List Float → ℕ → Float
-dihedralOf H A e = acosOf (clampOf (dotOf (pointAt A (e / 3)) (pointAt A (pairedHalfedge H e / 3))) (neg one) one)
+unfoldable pub dihedral_of : Halfedges → List Float → ℕ → Float
+dihedral_of H A e = acos_of (clamp_of (dot_of (point_at A (e / 3)) (point_at A (paired_halfedge H e / 3))) (neg one) one)
 
 -- the rule for one edge, which its forward halfedge e stands for: `dihedral > min_radians`
-unfoldable pub isCrease : Halfedges → List Float → Float → ℕ → Bool
-isCrease H A limit e = isForward H e && lt limit (dihedralOf H A e)
+unfoldable pub is_crease : Halfedges → List Float → Float → ℕ → Bool
+is_crease H A limit e = is_forward H e && lt limit (dihedral_of H A e)

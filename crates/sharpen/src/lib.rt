@@ -3,12 +3,12 @@
 #![tactic(auto)]
 
 ghost use Rattle.std.specs.Prelude.{◌≡◌, ◌+◌, ◌≤◌, length};
-ghost use Rattle.mesh.specs.Mesh.{asHalfedges};
+ghost use Rattle.mesh.specs.Mesh.{as_halfedges};
 ghost use Rattle.mesh.specs.Inside.{Inside};
 ghost use Rattle.smoothing.specs.Edges.{NormalsIn};
-ghost use Rattle.sharpen.specs.Crease.{minRadians, dihedralOf, isCrease};
-ghost use Rattle.sharpen.specs.Entries.{entriesIn, pushEdge, listEdge, listEdges};
-ghost use Rattle.sharpen.specs.Sharpen.{lengthsFit, checkLists, Lists, EdgeFits, Values, numberOf, placeOf, entriesOf, tallyOf, creases, creaseTally, sharpenEdges, entriesAfter};
+ghost use Rattle.sharpen.specs.Crease.{min_radians, dihedral_of, is_crease};
+ghost use Rattle.sharpen.specs.Entries.{entries_in, push_edge, list_edge, list_edges};
+ghost use Rattle.sharpen.specs.Sharpen.{lengths_fit, check_lists, Lists, EdgeFits, Values, number_of, place_of, entries_of, tally_of, creases, crease_tally, sharpen_edges, entries_after};
 
 use mesh::Checked;
 
@@ -21,7 +21,7 @@ pub enum Listing {
 }
 
 pub fn number_of(listing: Listing) -> usize
-    ensures { result ≡ numberOf listing }
+    ensures { result ≡ number_of listing }
 {
     match listing {
         Listing::Listed {
@@ -33,7 +33,7 @@ pub fn number_of(listing: Listing) -> usize
 }
 
 pub fn place_of(listing: Listing) -> usize
-    ensures { result ≡ placeOf listing }
+    ensures { result ≡ place_of listing }
 {
     match listing {
         Listing::Listed {
@@ -45,7 +45,7 @@ pub fn place_of(listing: Listing) -> usize
 }
 
 pub fn entries_of(listing: Listing) -> usize
-    ensures { result ≡ entriesOf listing }
+    ensures { result ≡ entries_of listing }
 {
     match listing {
         Listing::Listed { entries, tally: _ } => entries,
@@ -57,7 +57,7 @@ pub fn entries_of(listing: Listing) -> usize
 }
 
 pub fn tally_of(listing: Listing) -> usize
-    ensures { result ≡ tallyOf listing }
+    ensures { result ≡ tally_of listing }
 {
     match listing {
         Listing::Listed { entries: _, tally } => tally,
@@ -70,15 +70,15 @@ pub fn tally_of(listing: Listing) -> usize
 
 // The limit of the rule; a limit that is not a number acts as 1e-4.
 fn min_radians(angle: f64) -> f64
-    ensures { result ≡ minRadians angle }
+    ensures { result ≡ min_radians angle }
 {
     mesh::radians(float::max(angle, 1e-4))
 }
 
 // The angle between the normals of the two triangles at halfedge e.
 fn dihedral(h: &[i32], normals: &[f64], e: usize) -> f64
-    requires { NormalsIn (asHalfedges h.now) normals.now e }
-    ensures { result ≡ dihedralOf (asHalfedges h.now) normals.now e }
+    requires { NormalsIn (as_halfedges h.now) normals.now e }
+    ensures { result ≡ dihedral_of (as_halfedges h.now) normals.now e }
 {
     let pair = mesh::paired_halfedge(h, e);
     let d = linalg::dot(
@@ -90,8 +90,8 @@ fn dihedral(h: &[i32], normals: &[f64], e: usize) -> f64
 
 // Is the edge of halfedge e listed, with e before its pair? Of its two halfedges the forward one says so.
 fn is_crease(h: &[i32], normals: &[f64], limit: f64, e: usize) -> bool
-    requires { NormalsIn (asHalfedges h.now) normals.now e }
-    ensures { result ≡ isCrease (asHalfedges h.now) normals.now limit e }
+    requires { NormalsIn (as_halfedges h.now) normals.now e }
+    ensures { result ≡ is_crease (as_halfedges h.now) normals.now limit e }
 {
     if !mesh::is_forward(h, e) {
         return false;
@@ -108,8 +108,8 @@ fn push_edge(
     halfedges: &mut [usize],
     smoothness: &mut [f64],
 ) -> usize
-    requires { Inside (asHalfedges h.now) e × (entries + 2 ≤ length halfedges.old) × (entries + 2 ≤ length smoothness.old) }
-    ensures { entriesIn halfedges.new smoothness.new result ≡ pushEdge (asHalfedges h.now) smooth (entriesIn halfedges.old smoothness.old entries) e }
+    requires { Inside (as_halfedges h.now) e × (entries + 2 ≤ length halfedges.old) × (entries + 2 ≤ length smoothness.old) }
+    ensures { entries_in halfedges.new smoothness.new result ≡ push_edge (as_halfedges h.now) smooth (entries_in halfedges.old smoothness.old entries) e }
 {
     let pair = mesh::paired_halfedge(h, e);
     halfedges[entries] = e;
@@ -130,8 +130,8 @@ fn list_edge(
     halfedges: &mut [usize],
     smoothness: &mut [f64],
 ) -> usize
-    requires { EdgeFits (asHalfedges h.now) normals.now limit e entries halfedges.old smoothness.old }
-    ensures { entriesIn halfedges.new smoothness.new result ≡ listEdge (asHalfedges h.now) (isCrease (asHalfedges h.now) normals.now limit) smooth (entriesIn halfedges.old smoothness.old entries) e }
+    requires { EdgeFits (as_halfedges h.now) normals.now limit e entries halfedges.old smoothness.old }
+    ensures { entries_in halfedges.new smoothness.new result ≡ list_edge (as_halfedges h.now) (is_crease (as_halfedges h.now) normals.now limit) smooth (entries_in halfedges.old smoothness.old entries) e }
 {
     if !is_crease(h, normals, limit, e) {
         return entries;
@@ -150,8 +150,8 @@ fn list_edges(
     halfedges: &mut [usize],
     smoothness: &mut [f64],
 ) -> usize
-    requires { Lists (asHalfedges h.now) normals.now halfedges.old smoothness.old n p }
-    ensures { entriesIn halfedges.new smoothness.new result ≡ listEdges (asHalfedges h.now) (isCrease (asHalfedges h.now) normals.now limit) smooth (entriesIn halfedges.old smoothness.old 0) n }
+    requires { Lists (as_halfedges h.now) normals.now halfedges.old smoothness.old n p }
+    ensures { entries_in halfedges.new smoothness.new result ≡ list_edges (as_halfedges h.now) (is_crease (as_halfedges h.now) normals.now limit) smooth (entries_in halfedges.old smoothness.old 0) n }
 {
     let mut entries: usize = 0;
     for e in 0..n {
@@ -168,7 +168,7 @@ fn lengths_fit(
     halfedges: &[usize],
     smoothness: &[f64],
 ) -> bool
-    ensures { result ≡ lengthsFit (asHalfedges h.now) normals.now halfedges.now smoothness.now n }
+    ensures { result ≡ lengths_fit (as_halfedges h.now) normals.now halfedges.now smoothness.now n }
 {
     common::both(
         common::both(
@@ -196,10 +196,10 @@ pub fn sharpen_edges(
     halfedges: &mut [usize],
     smoothness: &mut [f64],
 ) -> Listing
-    ensures answer { result ≡ sharpenEdges (asHalfedges h.now) normals.now angle smooth halfedges.old smoothness.old n p }
-    ensures listed { halfedges.new ≡ (entriesAfter (asHalfedges h.now) normals.now angle smooth halfedges.old smoothness.old n p).halfedges }
-    ensures copied { smoothness.new ≡ (entriesAfter (asHalfedges h.now) normals.now angle smooth halfedges.old smoothness.old n p).smoothness }
-    ensures values { Values (checkLists (asHalfedges h.now) normals.now halfedges.old smoothness.old n p) (creases (asHalfedges h.now) normals.now angle smooth halfedges.old smoothness.old n) (creaseTally (asHalfedges h.now) normals.now angle n) result }
+    ensures answer { result ≡ sharpen_edges (as_halfedges h.now) normals.now angle smooth halfedges.old smoothness.old n p }
+    ensures listed { halfedges.new ≡ (entries_after (as_halfedges h.now) normals.now angle smooth halfedges.old smoothness.old n p).halfedges }
+    ensures copied { smoothness.new ≡ (entries_after (as_halfedges h.now) normals.now angle smooth halfedges.old smoothness.old n p).smoothness }
+    ensures values { Values (check_lists (as_halfedges h.now) normals.now halfedges.old smoothness.old n p) (creases (as_halfedges h.now) normals.now angle smooth halfedges.old smoothness.old n) (crease_tally (as_halfedges h.now) normals.now angle n) result }
 {
     let checked = mesh::check_mesh(h, n, p, lengths_fit(n, h, normals, halfedges, smoothness));
     let Checked::Accepted = checked else {

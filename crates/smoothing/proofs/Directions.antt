@@ -3,14 +3,14 @@ use mathlib.Core.Path.{◌≡◌, refl, ap}
 use Rattle.linalg.specs.declared.Vec3.{Vec3}
 use Rattle.smoothing.specs.declared.Direction.{Direction}
 use Rattle.smoothing.specs.declared.CircularTangent.{CircularTangent}
-use Rattle.smoothing.specs.Directions.{safeNormalize, equalNormals, equalUnits}
+use Rattle.smoothing.specs.Directions.{safe_normalize, equal_normals, equal_units}
 
-pub equal-by-units : (a b : Vec3) → equalNormals a b ≡ equalUnits (safeNormalize a) (safeNormalize b)
-unfolding equalNormals
-equal-by-units a b = refl
+pub equal_by_units : (a b : Vec3) → equal_normals a b ≡ equal_units (safe_normalize a) (safe_normalize b)
+unfolding equal_normals
+equal_by_units a b = refl
 
-pub vec-of : {a b : Direction} → a ≡ b → a.vec ≡ b.vec
-vec-of q = ap (λ (d : Direction). d.vec) q
+pub vec_of : {a b : Direction} → a ≡ b → a.vec ≡ b.vec
+vec_of q = ap (λ (d : Direction). d.vec) q
 
-pub tangent-of : {a b : CircularTangent} → a ≡ b → a.tangent ≡ b.tangent
-tangent-of q = ap (λ (t : CircularTangent). t.tangent) q
+pub tangent_of : {a b : CircularTangent} → a ≡ b → a.tangent ≡ b.tangent
+tangent_of q = ap (λ (t : CircularTangent). t.tangent) q

@@ -4,47 +4,47 @@ use mathlib.Core.Path.{◌≡◌, refl, sym, ap, ◌∙◌}
 use mathlib.Core.List.{List}
 use lib.Ieee.{Float}
 use Rattle.linalg.specs.declared.Vec3.{Vec3}
-use Rattle.linalg.specs.Vec.{crossOf, dotOf}
-use Rattle.mesh.specs.Mesh.{startVert, endVert, pairedHalfedge, Halfedges}
+use Rattle.linalg.specs.Vec.{cross_of, dot_of}
+use Rattle.mesh.specs.Mesh.{start_vert, end_vert, paired_halfedge, Halfedges}
 use Rattle.smoothing.specs.declared.EdgeVecs.{EdgeVecs}
-use Rattle.smoothing.specs.Directions.{angleBetween, isDegenerate, directionless, circularTangent}
-use Rattle.smoothing.specs.Lists.{pointAt}
-use Rattle.smoothing.specs.Edges.{edgeVec, biTangent, tangentFromNormal}
-use Rattle.smoothing.specs.Inner.{angleOfCosine, LengthOf, edgeNormal, directionFromNormal, EdgesIn, edgeVecs}
-use Rattle.smoothing.proofs.Floats.{add3-flip, dot-sub3}
+use Rattle.smoothing.specs.Directions.{angle_between, is_degenerate, directionless, circular_tangent}
+use Rattle.smoothing.specs.Lists.{point_at}
+use Rattle.smoothing.specs.Edges.{edge_vec, bi_tangent, tangent_from_normal}
+use Rattle.smoothing.specs.Inner.{angle_of_cosine, LengthOf, edge_normal, direction_from_normal, EdgesIn, edge_vecs}
+use Rattle.smoothing.proofs.Floats.{add3_flip, dot_sub3}
 
-pub angle-between-is : (a b : Vec3) → angleBetween a b ≡ angleOfCosine (dotOf a b)
-unfolding angleBetween angleOfCosine
-angle-between-is a b = refl
+pub angle_between_is : (a b : Vec3) → angle_between a b ≡ angle_of_cosine (dot_of a b)
+unfolding angle_between angle_of_cosine
+angle_between_is a b = refl
 
-pub tangent-across : (H : Halfedges) (P A : List Float) (normal : Vec3) (e : ℕ) → tangentFromNormal H P A normal e ≡ circularTangent (crossOf (biTangent normal (edgeNormal H A e) (edgeVec H P e)) normal) (edgeVec H P e)
-unfolding tangentFromNormal edgeNormal
-tangent-across H P A normal e = refl
+pub tangent_across : (H : Halfedges) (P A : List Float) (normal : Vec3) (e : ℕ) → tangent_from_normal H P A normal e ≡ circular_tangent (cross_of (bi_tangent normal (edge_normal H A e) (edge_vec H P e)) normal) (edge_vec H P e)
+unfolding tangent_from_normal edge_normal
+tangent_across H P A normal e = refl
 
-pub tangent-by-direction : (H : Halfedges) (P A : List Float) (normal : Vec3) (e : ℕ) → tangentFromNormal H P A normal e ≡ circularTangent (directionFromNormal H A normal (edgeVec H P e) e) (edgeVec H P e)
-unfolding directionFromNormal
-tangent-by-direction = tangent-across
+pub tangent_by_direction : (H : Halfedges) (P A : List Float) (normal : Vec3) (e : ℕ) → tangent_from_normal H P A normal e ≡ circular_tangent (direction_from_normal H A normal (edge_vec H P e) e) (edge_vec H P e)
+unfolding direction_from_normal
+tangent_by_direction = tangent_across
 
 -- ---- halfedge e and its pair
 
-pub normal-there : (H : Halfedges) (A : List Float) (e : ℕ) → pairedHalfedge H (pairedHalfedge H e) ≡ e → edgeNormal H A (pairedHalfedge H e) ≡ edgeNormal H A e
-unfolding edgeNormal
-normal-there H A e q = rw q (add3-flip (pointAt A (pairedHalfedge H e / 3)) (pointAt A (e / 3)))
+pub normal_there : (H : Halfedges) (A : List Float) (e : ℕ) → paired_halfedge H (paired_halfedge H e) ≡ e → edge_normal H A (paired_halfedge H e) ≡ edge_normal H A e
+unfolding edge_normal
+normal_there H A e q = rw q (add3_flip (point_at A (paired_halfedge H e / 3)) (point_at A (e / 3)))
 
-squared-there : {H : Halfedges} {P : List Float} {e : ℕ} → EdgesIn H P e → dotOf (edgeVec H P e) (edgeVec H P e) ≡ dotOf (edgeVec H P (pairedHalfedge H e)) (edgeVec H P (pairedHalfedge H e))
-unfolding edgeVec
-squared-there {H} {P} {e} w =
-    rw (w.paired-start, w.paired-end) (dot-sub3 (pointAt P (endVert H e)) (pointAt P (startVert H e)))
+squared_there : {H : Halfedges} {P : List Float} {e : ℕ} → EdgesIn H P e → dot_of (edge_vec H P e) (edge_vec H P e) ≡ dot_of (edge_vec H P (paired_halfedge H e)) (edge_vec H P (paired_halfedge H e))
+unfolding edge_vec
+squared_there {H} {P} {e} w =
+    rw (w.paired_start, w.paired_end) (dot_sub3 (point_at P (end_vert H e)) (point_at P (start_vert H e)))
 
 -- neither has a direction, or both have one
-pub directionless-there : {H : Halfedges} {P : List Float} {e : ℕ} → EdgesIn H P e → directionless (edgeVec H P (pairedHalfedge H e)) ≡ directionless (edgeVec H P e)
+pub directionless_there : {H : Halfedges} {P : List Float} {e : ℕ} → EdgesIn H P e → directionless (edge_vec H P (paired_halfedge H e)) ≡ directionless (edge_vec H P e)
 unfolding directionless
-directionless-there w = ap isDegenerate (sym (squared-there w))
+directionless_there w = ap is_degenerate (sym (squared_there w))
 
 -- one length serves both
-pub length-there : {H : Halfedges} {P : List Float} {e : ℕ} {len2 len : Float} (v : EdgeVecs) → EdgesIn H P e → v ≡ edgeVecs H P e → LengthOf v.here len2 len → LengthOf v.there len2 len
-unfolding edgeVecs
-length-there v w q k = record {
-  squared = k.squared ∙ ap (λ (u : EdgeVecs). dotOf u.here u.here) q ∙ squared-there w ∙ sym (ap (λ (u : EdgeVecs). dotOf u.there u.there) q);
+pub length_there : {H : Halfedges} {P : List Float} {e : ℕ} {len2 len : Float} (v : EdgeVecs) → EdgesIn H P e → v ≡ edge_vecs H P e → LengthOf v.here len2 len → LengthOf v.there len2 len
+unfolding edge_vecs
+length_there v w q k = record {
+  squared = k.squared ∙ ap (λ (u : EdgeVecs). dot_of u.here u.here) q ∙ squared_there w ∙ sym (ap (λ (u : EdgeVecs). dot_of u.there u.there) q);
   root = k.root;
 }

@@ -1,64 +1,64 @@
 -- The leaves of src/smoothing.rs on directions and angles: each definition is the Rust's, one rounded operation at a time.
 use Rattle.std.specs.Prelude.{Bool, cond, not, ◌||◌, Float}
 use Rattle.std.specs.Float.Ieee.{lt, le, neg}
-use Rattle.float.specs.Ops.{◌⊕◌, ◌⊖◌, ◌⊗◌, ◌⊘◌, lit, zero, half, one, two, three, pi, two-pi}
-use Rattle.float.specs.F64.{maxOf, isFinite}
-use Rattle.sqrt.specs.Sqrt.{sqrtOf}
-use Rattle.math.specs.Acos.{acosOf}
+use Rattle.float.specs.Ops.{◌⊕◌, ◌⊖◌, ◌⊗◌, ◌⊘◌, lit, zero, half, one, two, three, pi, two_pi}
+use Rattle.float.specs.F64.{max_of, is_finite}
+use Rattle.sqrt.specs.Sqrt.{sqrt_of}
+use Rattle.math.specs.Acos.{acos_of}
 use Rattle.linalg.specs.declared.Vec3.{Vec3}
 use Rattle.linalg.specs.declared.Vec4.{Vec4}
-use Rattle.linalg.specs.Vec.{dotOf, div3, lengthOf}
+use Rattle.linalg.specs.Vec.{dot_of, div3, length_of}
 use Rattle.smoothing.specs.declared.Direction.{Direction}
 use Rattle.smoothing.specs.declared.CircularTangent.{CircularTangent}
 
 -- `vec3_from_vec4`
-unfoldable pub vec3FromVec4 : Vec4 → Vec3
-vec3FromVec4 v = record { x = v.x; y = v.y; z = v.z }
+unfoldable pub vec3_from_vec4 : Vec4 → Vec3
+vec3_from_vec4 v = record { x = v.x; y = v.y; z = v.z }
 
 -- the test of `safe_normalize`: a vector with this squared length has no direction
-unfoldable pub isDegenerate : Float → Bool
-isDegenerate len2 = le len2 zero || not (isFinite len2)
+unfoldable pub is_degenerate : Float → Bool
+is_degenerate len2 = le len2 zero || not (is_finite len2)
 
 -- the end of `safe_normalize`: the direction of v, by its squared length and its length
-unfoldable pub directionBy : Vec3 → Float → Float → Vec3
-directionBy v len2 len = cond (isDegenerate len2) (record { x = zero; y = zero; z = zero }) (div3 v len)
+unfoldable pub direction_by : Vec3 → Float → Float → Vec3
+direction_by v len2 len = cond (is_degenerate len2) (record { x = zero; y = zero; z = zero }) (div3 v len)
 
 -- `safe_normalize`
-unfoldable pub safeNormalize : Vec3 → Vec3
-safeNormalize v = let len2 = dotOf v v in directionBy v len2 (sqrtOf len2)
+unfoldable pub safe_normalize : Vec3 → Vec3
+safe_normalize v = let len2 = dot_of v v in direction_by v len2 (sqrt_of len2)
 
 -- v has no direction: the whole test of `safe_normalize` says so. A zero that its division gives does not count.
 unfoldable pub directionless : Vec3 → Bool
-directionless v = isDegenerate (dotOf v v)
+directionless v = is_degenerate (dot_of v v)
 
 -- `safe_normalize`, and that test
-abbrev pub directionOf : Vec3 → Direction
-directionOf v = record { vec = safeNormalize v; directionless = directionless v }
+abbrev pub direction_of : Vec3 → Direction
+direction_of v = record { vec = safe_normalize v; directionless = directionless v }
 
 -- `wrap`
-unfoldable pub wrapOf : Float → Float
-wrapOf radians = cond (lt radians (neg pi)) (radians ⊕ two-pi) (cond (lt pi radians) (radians ⊖ two-pi) radians)
+unfoldable pub wrap_of : Float → Float
+wrap_of radians = cond (lt radians (neg pi)) (radians ⊕ two_pi) (cond (lt pi radians) (radians ⊖ two_pi) radians)
 
 -- `angle_between`
-unfoldable pub angleBetween : Vec3 → Vec3 → Float
-angleBetween a b =
-    let d = dotOf a b in
-    cond (le one d) zero (cond (le d (neg one)) pi (acosOf d))
+unfoldable pub angle_between : Vec3 → Vec3 → Float
+angle_between a b =
+    let d = dot_of a b in
+    cond (le one d) zero (cond (le d (neg one)) pi (acos_of d))
 
 -- the comparison of `equal_normals`, of the unit vectors, with the bound 0.9999
-unfoldable pub equalUnits : Vec3 → Vec3 → Bool
-equalUnits u v = lt (lit 0x3fef_ff2e_48e8_a71e) (dotOf u v)
+unfoldable pub equal_units : Vec3 → Vec3 → Bool
+equal_units u v = lt (lit 0x3fef_ff2e_48e8_a71e) (dot_of u v)
 
 -- `equal_normals`
-unfoldable pub equalNormals : Vec3 → Vec3 → Bool
-equalNormals a b = equalUnits (safeNormalize a) (safeNormalize b)
+unfoldable pub equal_normals : Vec3 → Vec3 → Bool
+equal_normals a b = equal_units (safe_normalize a) (safe_normalize b)
 
 -- `circular_tangent`
-unfoldable pub circularTangent : Vec3 → Vec3 → Vec4
-circularTangent tangent edge =
-    let dir = safeNormalize tangent in
-    let weight = maxOf half (dotOf dir (safeNormalize edge)) in
-    let len = lengthOf edge in
+unfoldable pub circular_tangent : Vec3 → Vec3 → Vec4
+circular_tangent tangent edge =
+    let dir = safe_normalize tangent in
+    let weight = max_of half (dot_of dir (safe_normalize edge)) in
+    let len = length_of edge in
     let bz2 : Vec4 = record { x = dir.x ⊗ half ⊗ len; y = dir.y ⊗ half ⊗ len; z = dir.z ⊗ half ⊗ len; w = weight } in
     let bz3 : Vec4 = record {
       x = bz2.x ⊗ (two ⊘ three);
@@ -69,5 +69,5 @@ circularTangent tangent edge =
     record { x = bz3.x ⊘ bz3.w; y = bz3.y ⊘ bz3.w; z = bz3.z ⊘ bz3.w; w = bz3.w }
 
 -- `circular_tangent`, and whether its edge has no direction
-abbrev pub circularTangentOf : Vec3 → Vec3 → CircularTangent
-circularTangentOf tangent edge = record { tangent = circularTangent tangent edge; directionless = directionless edge }
+abbrev pub circular_tangent_of : Vec3 → Vec3 → CircularTangent
+circular_tangent_of tangent edge = record { tangent = circular_tangent tangent edge; directionless = directionless edge }

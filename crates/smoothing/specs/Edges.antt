@@ -4,26 +4,26 @@ use Rattle.std.specs.Float.Ieee.{lt}
 use Rattle.float.specs.Ops.{zero}
 use Rattle.linalg.specs.declared.Vec3.{Vec3}
 use Rattle.linalg.specs.declared.Vec4.{Vec4}
-use Rattle.linalg.specs.Vec.{add3, sub3, dotOf, crossOf}
-use Rattle.mesh.specs.Mesh.{startVert, endVert, pairedHalfedge, nextHalfedge, sameFace, Halfedges}
+use Rattle.linalg.specs.Vec.{add3, sub3, dot_of, cross_of}
+use Rattle.mesh.specs.Mesh.{start_vert, end_vert, paired_halfedge, next_halfedge, same_face, Halfedges}
 use Rattle.mesh.specs.Inside.{Inside}
 use Rattle.smoothing.specs.declared.CircularTangent.{CircularTangent}
-use Rattle.smoothing.specs.Directions.{directionless, circularTangent}
-use Rattle.smoothing.specs.Lists.{pointAt, weightAt}
+use Rattle.smoothing.specs.Directions.{directionless, circular_tangent}
+use Rattle.smoothing.specs.Lists.{point_at, weight_at}
 
--- ---- what the lists must hold for a call: `edge-in`, `normals-in`, `faces-in`, `quad-in` and `inside-quad-in` of `proofs/Edges.antt` give it on an accepted mesh
+-- ---- what the lists must hold for a call: `edge_in`, `normals_in`, `faces_in`, `quad_in` and `inside_quad_in` of `proofs/Edges.antt` give it on an accepted mesh
 
 -- both ends of halfedge e have a position
 pub record EdgeIn (H : Halfedges) (P : List Float) (e : ℕ) : Type 0 where
   pub inside : Inside H e
-  pub start-in : startVert H e * 3 + 3 ≤ length P
-  pub end-in : endVert H e * 3 + 3 ≤ length P
+  pub start_in : start_vert H e * 3 + 3 ≤ length P
+  pub end_in : end_vert H e * 3 + 3 ≤ length P
 
 -- both triangles at it have a normal
 pub record NormalsIn (H : Halfedges) (A : List Float) (e : ℕ) : Type 0 where
   pub inside : Inside H e
-  pub here-in : e / 3 * 3 + 3 ≤ length A
-  pub there-in : pairedHalfedge H e / 3 * 3 + 3 ≤ length A
+  pub here_in : e / 3 * 3 + 3 ≤ length A
+  pub there_in : paired_halfedge H e / 3 * 3 + 3 ≤ length A
 
 -- both of these
 pub record FacesIn (H : Halfedges) (P A : List Float) (e : ℕ) : Type 0 where
@@ -32,56 +32,56 @@ pub record FacesIn (H : Halfedges) (P A : List Float) (e : ℕ) : Type 0 where
 
 -- halfedge e and its pair have a tangent
 pub record QuadIn (H : Halfedges) (T : List Float) (e : ℕ) : Type 0 where
-  pub here-in : e * 4 + 4 ≤ length T
-  pub there-in : pairedHalfedge H e * 4 + 4 ≤ length T
+  pub here_in : e * 4 + 4 ≤ length T
+  pub there_in : paired_halfedge H e * 4 + 4 ≤ length T
 
 -- halfedge e and the other two of its triangle are read
 pub record TriangleIn (H : Halfedges) (e : ℕ) : Type 0 where
   pub here : Inside H e
-  pub next : Inside H (nextHalfedge e)
-  pub last : Inside H (nextHalfedge (nextHalfedge e))
+  pub next : Inside H (next_halfedge e)
+  pub last : Inside H (next_halfedge (next_halfedge e))
 
 -- what `is_inside_quad` reads: both triangles at halfedge e, and its tangent
 pub record InsideQuadIn (H : Halfedges) (T : List Float) (e : ℕ) : Type 0 where
   pub here : TriangleIn H e
-  pub there : TriangleIn H (pairedHalfedge H e)
-  pub tangent-in : e * 4 + 4 ≤ length T
+  pub there : TriangleIn H (paired_halfedge H e)
+  pub tangent_in : e * 4 + 4 ≤ length T
 
 -- ---- the tangent from a normal
 
 -- `vert_pos[end_vert] - vert_pos[start_vert]`
-unfoldable pub edgeVec : Halfedges → List Float → ℕ → Vec3
-edgeVec H P e = sub3 (pointAt P (endVert H e)) (pointAt P (startVert H e))
+unfoldable pub edge_vec : Halfedges → List Float → ℕ → Vec3
+edge_vec H P e = sub3 (point_at P (end_vert H e)) (point_at P (start_vert H e))
 
 -- `bi_tangent` of `tangent_from_normal`
-unfoldable pub biTangent : Vec3 → Vec3 → Vec3 → Vec3
-biTangent normal edgeNormal edge = cond (lt (dotOf normal edgeNormal) zero) (crossOf edgeNormal edge) (crossOf normal edge)
+unfoldable pub bi_tangent : Vec3 → Vec3 → Vec3 → Vec3
+bi_tangent normal edge_normal edge = cond (lt (dot_of normal edge_normal) zero) (cross_of edge_normal edge) (cross_of normal edge)
 
 -- `tangent_from_normal`
-unfoldable pub tangentFromNormal : Halfedges → List Float → List Float → Vec3 → ℕ → Vec4
-tangentFromNormal H P A normal e =
-    let edge = edgeVec H P e in
-    let edgeNormal = add3 (pointAt A (e / 3)) (pointAt A (pairedHalfedge H e / 3)) in
-    circularTangent (crossOf (biTangent normal edgeNormal edge) normal) edge
+unfoldable pub tangent_from_normal : Halfedges → List Float → List Float → Vec3 → ℕ → Vec4
+tangent_from_normal H P A normal e =
+    let edge = edge_vec H P e in
+    let edge_normal = add3 (point_at A (e / 3)) (point_at A (paired_halfedge H e / 3)) in
+    circular_tangent (cross_of (bi_tangent normal edge_normal edge) normal) edge
 
 -- `tangent_from_normal`, and whether its edge has no direction
-abbrev pub tangentFromNormalOf : Halfedges → List Float → List Float → Vec3 → ℕ → CircularTangent
-tangentFromNormalOf H P A normal e = record { tangent = tangentFromNormal H P A normal e; directionless = directionless (edgeVec H P e) }
+abbrev pub tangent_from_normal_of : Halfedges → List Float → List Float → Vec3 → ℕ → CircularTangent
+tangent_from_normal_of H P A normal e = record { tangent = tangent_from_normal H P A normal e; directionless = directionless (edge_vec H P e) }
 
 -- ---- inside a quad
 
 -- the closure `same_face` of `is_inside_quad`: is the triangle across halfedge e of triangle t's face?
-unfoldable pub sameFaceAcross : Halfedges → List ℤ → ℕ → ℕ → Bool
-sameFaceAcross H R e t = sameFace R t (pairedHalfedge H e / 3)
+unfoldable pub same_face_across : Halfedges → List ℤ → ℕ → ℕ → Bool
+same_face_across H R e t = same_face R t (paired_halfedge H e / 3)
 
 -- neither of the other two halfedges of e's triangle has its face across
-unfoldable pub noOtherNeighbor : Halfedges → List ℤ → ℕ → Bool
-noOtherNeighbor H R e =
-    not (sameFaceAcross H R (nextHalfedge e) (e / 3))
-    && not (sameFaceAcross H R (nextHalfedge (nextHalfedge e)) (e / 3))
+unfoldable pub no_other_neighbor : Halfedges → List ℤ → ℕ → Bool
+no_other_neighbor H R e =
+    not (same_face_across H R (next_halfedge e) (e / 3))
+    && not (same_face_across H R (next_halfedge (next_halfedge e)) (e / 3))
 
 -- `is_inside_quad`; `old` says whether old tangents exist
-unfoldable pub isInsideQuad : Halfedges → List ℤ → List Float → Bool → ℕ → Bool
-isInsideQuad H R T old e =
-    cond old (lt (weightAt T e) zero)
-    (sameFaceAcross H R e (e / 3) && noOtherNeighbor H R e && noOtherNeighbor H R (pairedHalfedge H e))
+unfoldable pub is_inside_quad : Halfedges → List ℤ → List Float → Bool → ℕ → Bool
+is_inside_quad H R T old e =
+    cond old (lt (weight_at T e) zero)
+    (same_face_across H R e (e / 3) && no_other_neighbor H R e && no_other_neighbor H R (paired_halfedge H e))

@@ -2,67 +2,67 @@
 use Rattle.std.specs.Prelude.{ℕ, ◌/◌, ◌≡◌, List, cond, Float}
 use Rattle.std.specs.Float.Ieee.{le, neg}
 use Rattle.float.specs.Ops.{zero, one, pi}
-use Rattle.sqrt.specs.Sqrt.{sqrtOf}
-use Rattle.math.specs.Acos.{acosOf}
+use Rattle.sqrt.specs.Sqrt.{sqrt_of}
+use Rattle.math.specs.Acos.{acos_of}
 use Rattle.linalg.specs.declared.Vec3.{Vec3}
-use Rattle.linalg.specs.Vec.{add3, dotOf, crossOf}
-use Rattle.mesh.specs.Mesh.{startVert, endVert, pairedHalfedge, isForward, Halfedges}
+use Rattle.linalg.specs.Vec.{add3, dot_of, cross_of}
+use Rattle.mesh.specs.Mesh.{start_vert, end_vert, paired_halfedge, is_forward, Halfedges}
 use Rattle.smoothing.specs.declared.EdgeVecs.{EdgeVecs}
 use Rattle.smoothing.specs.declared.TwoTangents.{TwoTangents}
 use Rattle.smoothing.specs.declared.Direction.{Direction}
-use Rattle.smoothing.specs.Directions.{isDegenerate, directionBy, directionless}
-use Rattle.smoothing.specs.Lists.{pointAt}
-use Rattle.smoothing.specs.Edges.{EdgeIn, NormalsIn, edgeVec, biTangent, tangentFromNormal}
+use Rattle.smoothing.specs.Directions.{is_degenerate, direction_by, directionless}
+use Rattle.smoothing.specs.Lists.{point_at}
+use Rattle.smoothing.specs.Edges.{EdgeIn, NormalsIn, edge_vec, bi_tangent, tangent_from_normal}
 
 -- ---- the steps
 
 -- the end of `safe_normalize`, and its test
-abbrev pub directionByOf : Vec3 → Float → Float → Direction
-directionByOf v len2 len = record { vec = directionBy v len2 len; directionless = isDegenerate len2 }
+abbrev pub direction_by_of : Vec3 → Float → Float → Direction
+direction_by_of v len2 len = record { vec = direction_by v len2 len; directionless = is_degenerate len2 }
 
 -- `angle_between`, of the dot product
-unfoldable pub angleOfCosine : Float → Float
-angleOfCosine d = cond (le one d) zero (cond (le d (neg one)) pi (acosOf d))
+unfoldable pub angle_of_cosine : Float → Float
+angle_of_cosine d = cond (le one d) zero (cond (le d (neg one)) pi (acos_of d))
 
 -- an edge's squared length and length
 pub record LengthOf (edge : Vec3) (len2 len : Float) : Type 0 where
-  pub squared : len2 ≡ dotOf edge edge
-  pub root : len ≡ sqrtOf len2
+  pub squared : len2 ≡ dot_of edge edge
+  pub root : len ≡ sqrt_of len2
 
 -- `edge_normal` of `tangent_from_normal`: the sum of both triangles' normals
-unfoldable pub edgeNormal : Halfedges → List Float → ℕ → Vec3
-edgeNormal H A e = add3 (pointAt A (e / 3)) (pointAt A (pairedHalfedge H e / 3))
+unfoldable pub edge_normal : Halfedges → List Float → ℕ → Vec3
+edge_normal H A e = add3 (point_at A (e / 3)) (point_at A (paired_halfedge H e / 3))
 
 -- the direction that `tangent_from_normal` hands to `circular_tangent`, where the edge of halfedge e is known
-unfoldable pub directionFromNormal : Halfedges → List Float → Vec3 → Vec3 → ℕ → Vec3
-directionFromNormal H A normal edge e = crossOf (biTangent normal (edgeNormal H A e) edge) normal
+unfoldable pub direction_from_normal : Halfedges → List Float → Vec3 → Vec3 → ℕ → Vec3
+direction_from_normal H A normal edge e = cross_of (bi_tangent normal (edge_normal H A e) edge) normal
 
 -- ---- halfedge e and its pair
 
 -- the pair goes the other way
 pub record EdgesIn (H : Halfedges) (P : List Float) (e : ℕ) : Type 0 where
   pub edge : EdgeIn H P e
-  pub paired-start : startVert H (pairedHalfedge H e) ≡ endVert H e
-  pub paired-end : endVert H (pairedHalfedge H e) ≡ startVert H e
+  pub paired_start : start_vert H (paired_halfedge H e) ≡ end_vert H e
+  pub paired_end : end_vert H (paired_halfedge H e) ≡ start_vert H e
 
 -- and has e as its own
 pub record PairIn (H : Halfedges) (P A : List Float) (e : ℕ) : Type 0 where
   pub edges : EdgesIn H P e
   pub normals : NormalsIn H A e
-  pub paired-back : pairedHalfedge H (pairedHalfedge H e) ≡ e
+  pub paired_back : paired_halfedge H (paired_halfedge H e) ≡ e
 
-unfoldable pub edgeVecs : Halfedges → List Float → ℕ → EdgeVecs
-edgeVecs H P e = record { here = edgeVec H P e; there = edgeVec H P (pairedHalfedge H e) }
+unfoldable pub edge_vecs : Halfedges → List Float → ℕ → EdgeVecs
+edge_vecs H P e = record { here = edge_vec H P e; there = edge_vec H P (paired_halfedge H e) }
 
 -- a is the normal at e, b that at its pair; the edge is that of e, and the pair's has no direction where it has none
-unfoldable pub tangentsFromNormals : Halfedges → List Float → List Float → Vec3 → Vec3 → ℕ → TwoTangents
-tangentsFromNormals H P A a b e = record {
-  here = tangentFromNormal H P A a e;
-  there = tangentFromNormal H P A b (pairedHalfedge H e);
-  directionless = directionless (edgeVec H P e);
+unfoldable pub tangents_from_normals : Halfedges → List Float → List Float → Vec3 → Vec3 → ℕ → TwoTangents
+tangents_from_normals H P A a b e = record {
+  here = tangent_from_normal H P A a e;
+  there = tangent_from_normal H P A b (paired_halfedge H e);
+  directionless = directionless (edge_vec H P e);
 }
 
 -- the body of a loop that writes a value of each halfedge edge by edge: at the forward one of a pair those of both
-unfoldable pub putEdge : {S W : Type 0} → (S → ℕ → W → S) → Halfedges → (ℕ → W) → S → ℕ → S
-putEdge put H v s e =
-    cond (isForward H e) (put (put s e (v e)) (pairedHalfedge H e) (v (pairedHalfedge H e))) s
+unfoldable pub put_edge : {S W : Type 0} → (S → ℕ → W → S) → Halfedges → (ℕ → W) → S → ℕ → S
+put_edge put H v s e =
+    cond (is_forward H e) (put (put s e (v e)) (paired_halfedge H e) (v (paired_halfedge H e))) s

@@ -7,12 +7,12 @@ use Rattle.linalg.specs.declared.Vec3.{Vec3}
 use Rattle.linalg.specs.declared.Vec4.{Vec4}
 
 -- the point, or the normal, k: three numbers; not-a-number past the end
-unfoldable pub pointAt : List Float → ℕ → Vec3
-pointAt P k = record { x = get_or P (k * 3) nan; y = get_or P (k * 3 + 1) nan; z = get_or P (k * 3 + 2) nan }
+unfoldable pub point_at : List Float → ℕ → Vec3
+point_at P k = record { x = get_or P (k * 3) nan; y = get_or P (k * 3 + 1) nan; z = get_or P (k * 3 + 2) nan }
 
 -- the tangent of halfedge e, `halfedge_tangent[e]`: four numbers; not-a-number past the end
-unfoldable pub tangentAt : List Float → ℕ → Vec4
-tangentAt T e = record {
+unfoldable pub tangent_at : List Float → ℕ → Vec4
+tangent_at T e = record {
   x = get_or T (e * 4) nan;
   y = get_or T (e * 4 + 1) nan;
   z = get_or T (e * 4 + 2) nan;
@@ -20,13 +20,13 @@ tangentAt T e = record {
 }
 
 -- the list with another tangent for halfedge e
-unfoldable pub putTangent : List Float → ℕ → Vec4 → List Float
-putTangent T e v = set (set (set (set T (e * 4) v.x) (e * 4 + 1) v.y) (e * 4 + 2) v.z) (e * 4 + 3) v.w
+unfoldable pub put_tangent : List Float → ℕ → Vec4 → List Float
+put_tangent T e v = set (set (set (set T (e * 4) v.x) (e * 4 + 1) v.y) (e * 4 + 2) v.z) (e * 4 + 3) v.w
 
 -- the weight of halfedge e, `halfedge_tangent[e].w`
-unfoldable pub weightAt : List Float → ℕ → Float
-weightAt T e = get_or T (e * 4 + 3) nan
+unfoldable pub weight_at : List Float → ℕ → Float
+weight_at T e = get_or T (e * 4 + 3) nan
 
 -- `is_marked_inside_quad`. The Rust's answer for an empty list, no mark, is in it: past the end the weight is not a number, which equals nothing.
-abbrev pub isMarkedInsideQuad : List Float → ℕ → Bool
-isMarkedInsideQuad T e = eq (weightAt T e) (neg one)
+abbrev pub is_marked_inside_quad : List Float → ℕ → Bool
+is_marked_inside_quad T e = eq (weight_at T e) (neg one)

@@ -3,13 +3,13 @@
 #![tactic(auto)]
 
 ghost use Rattle.std.specs.Prelude.{◌≡◌, ◌+◌, ◌*◌, ◌≤◌, length};
-ghost use Rattle.mesh.specs.Mesh.{asHalfedges};
+ghost use Rattle.mesh.specs.Mesh.{as_halfedges};
 ghost use Rattle.mesh.specs.Inside.{Inside};
-ghost use Rattle.smoothing.specs.Directions.{vec3FromVec4, isDegenerate, directionBy, safeNormalize, directionOf, wrapOf, angleBetween, equalNormals, equalUnits, circularTangentOf};
-ghost use Rattle.smoothing.specs.Lists.{pointAt, tangentAt, putTangent, weightAt, isMarkedInsideQuad};
-ghost use Rattle.smoothing.specs.Edges.{EdgeIn, NormalsIn, FacesIn, TriangleIn, InsideQuadIn, edgeVec, biTangent, tangentFromNormalOf, sameFaceAcross, noOtherNeighbor, isInsideQuad};
-ghost use Rattle.smoothing.specs.Inner.{directionByOf, angleOfCosine, LengthOf, edgeNormal, directionFromNormal, EdgesIn, PairIn, edgeVecs, tangentsFromNormals};
-ghost use Rattle.linalg.specs.Vec.{crossOf};
+ghost use Rattle.smoothing.specs.Directions.{vec3_from_vec4, is_degenerate, direction_by, safe_normalize, direction_of, wrap_of, angle_between, equal_normals, equal_units, circular_tangent_of};
+ghost use Rattle.smoothing.specs.Lists.{point_at, tangent_at, put_tangent, weight_at, is_marked_inside_quad};
+ghost use Rattle.smoothing.specs.Edges.{EdgeIn, NormalsIn, FacesIn, TriangleIn, InsideQuadIn, edge_vec, bi_tangent, tangent_from_normal_of, same_face_across, no_other_neighbor, is_inside_quad};
+ghost use Rattle.smoothing.specs.Inner.{direction_by_of, angle_of_cosine, LengthOf, edge_normal, direction_from_normal, EdgesIn, PairIn, edge_vecs, tangents_from_normals};
+ghost use Rattle.linalg.specs.Vec.{cross_of};
 
 use linalg::{Vec3, Vec4};
 
@@ -48,7 +48,7 @@ const K_PI: f64 = 3.14159265358979323846264338327950288;
 const K_TWO_PI: f64 = 6.28318530717958647692528676655900577;
 
 pub fn vec3_from_vec4(v: Vec4) -> Vec3
-    ensures { result ≡ vec3FromVec4 v }
+    ensures { result ≡ vec3_from_vec4 v }
 {
     Vec3 {
         x: v.x,
@@ -59,7 +59,7 @@ pub fn vec3_from_vec4(v: Vec4) -> Vec3
 
 // Has a vector with this squared length no direction?
 fn is_degenerate(len2: f64) -> bool
-    ensures { result ≡ isDegenerate len2 }
+    ensures { result ≡ is_degenerate len2 }
 {
     if len2 <= 0.0 {
         return true;
@@ -69,7 +69,7 @@ fn is_degenerate(len2: f64) -> bool
 
 // The direction of v, where its squared length and its length are known.
 fn direction_by(v: Vec3, len2: f64, len: f64) -> Direction
-    ensures { result ≡ directionByOf v len2 len }
+    ensures { result ≡ direction_by_of v len2 len }
 {
     if is_degenerate(len2) {
         let zero = Vec3 {
@@ -90,7 +90,7 @@ fn direction_by(v: Vec3, len2: f64, len: f64) -> Direction
 }
 
 pub fn safe_normalize(v: Vec3) -> Direction
-    ensures { result ≡ directionOf v }
+    ensures { result ≡ direction_of v }
 {
     let len2 = linalg::dot(v, v);
     direction_by(v, len2, sqrt::sqrt(len2))
@@ -98,7 +98,7 @@ pub fn safe_normalize(v: Vec3) -> Direction
 
 // The vector of `direction_by` alone.
 fn unit_by(v: Vec3, len2: f64, len: f64) -> Vec3
-    ensures { result ≡ directionBy v len2 len }
+    ensures { result ≡ direction_by v len2 len }
 {
     direction_by(v, len2, len).vec
 }
@@ -106,14 +106,14 @@ fn unit_by(v: Vec3, len2: f64, len: f64) -> Vec3
 // The vector of `safe_normalize` alone, for callers who do not ask whether there is a direction: it is fewer instructions, as long
 // as `unit_by` is a function of its own.
 pub fn unit_vector(v: Vec3) -> Vec3
-    ensures { result ≡ safeNormalize v }
+    ensures { result ≡ safe_normalize v }
 {
     let len2 = linalg::dot(v, v);
     unit_by(v, len2, sqrt::sqrt(len2))
 }
 
 pub fn wrap(radians: f64) -> f64
-    ensures { result ≡ wrapOf radians }
+    ensures { result ≡ wrap_of radians }
 {
     if radians < -K_PI {
         radians + K_TWO_PI
@@ -126,7 +126,7 @@ pub fn wrap(radians: f64) -> f64
 
 // `angle_between`, of the dot product of the two directions: a number is cheaper to pass than two vectors.
 pub fn angle_of_cosine(d: f64) -> f64
-    ensures { result ≡ angleOfCosine d }
+    ensures { result ≡ angle_of_cosine d }
 {
     if d >= 1.0 {
         0.0
@@ -138,20 +138,20 @@ pub fn angle_of_cosine(d: f64) -> f64
 }
 
 pub fn angle_between(a: Vec3, b: Vec3) -> f64
-    ensures { result ≡ angleBetween a b }
+    ensures { result ≡ angle_between a b }
 {
     angle_of_cosine(linalg::dot(a, b))
 }
 
 // Do two normals agree within a tolerance, about 0.81 degrees? Of their unit vectors.
 pub fn equal_units(u: Vec3, v: Vec3) -> bool
-    ensures { result ≡ equalUnits u v }
+    ensures { result ≡ equal_units u v }
 {
     linalg::dot(u, v) > 0.9999
 }
 
 pub fn equal_normals(a: Vec3, b: Vec3) -> bool
-    ensures { result ≡ equalNormals a b }
+    ensures { result ≡ equal_normals a b }
 {
     equal_units(safe_normalize(a).vec, safe_normalize(b).vec)
 }
@@ -159,7 +159,7 @@ pub fn equal_normals(a: Vec3, b: Vec3) -> bool
 // `circular_tangent`, where the edge's squared length and its length are known.
 pub fn circular_tangent_by(tangent: Vec3, edge_vec: Vec3, len2: f64, len: f64) -> CircularTangent
     requires { LengthOf edge_vec len2 len }
-    ensures { result ≡ circularTangentOf tangent edge_vec }
+    ensures { result ≡ circular_tangent_of tangent edge_vec }
 {
     let dir = safe_normalize(tangent);
     let edge_dir = direction_by(edge_vec, len2, len);
@@ -190,7 +190,7 @@ pub fn circular_tangent_by(tangent: Vec3, edge_vec: Vec3, len2: f64, len: f64) -
 
 // The length of the edge is worked out once, for its direction and for itself.
 pub fn circular_tangent(tangent: Vec3, edge_vec: Vec3) -> CircularTangent
-    ensures { result ≡ circularTangentOf tangent edge_vec }
+    ensures { result ≡ circular_tangent_of tangent edge_vec }
 {
     let len2 = linalg::dot(edge_vec, edge_vec);
     circular_tangent_by(tangent, edge_vec, len2, sqrt::sqrt(len2))
@@ -199,7 +199,7 @@ pub fn circular_tangent(tangent: Vec3, edge_vec: Vec3) -> CircularTangent
 // The point, or the normal, k of a list with three numbers each.
 pub fn point_at(p: &[f64], k: usize) -> Vec3
     requires { k * 3 + 3 ≤ length p.now }
-    ensures { result ≡ pointAt p.now k }
+    ensures { result ≡ point_at p.now k }
 {
     let at = k * 3;
     let x = p[at];
@@ -211,7 +211,7 @@ pub fn point_at(p: &[f64], k: usize) -> Vec3
 // The tangent of halfedge e.
 pub fn tangent_at(t: &[f64], e: usize) -> Vec4
     requires { e * 4 + 4 ≤ length t.now }
-    ensures { result ≡ tangentAt t.now e }
+    ensures { result ≡ tangent_at t.now e }
 {
     let at = e * 4;
     let x = t[at];
@@ -224,7 +224,7 @@ pub fn tangent_at(t: &[f64], e: usize) -> Vec4
 // Another tangent for halfedge e.
 pub fn put_tangent(t: &mut [f64], e: usize, v: Vec4)
     requires { e * 4 + 4 ≤ length t.old }
-    ensures { t.new ≡ putTangent t.old e v }
+    ensures { t.new ≡ put_tangent t.old e v }
 {
     let at = e * 4;
     t[at] = v.x;
@@ -236,22 +236,22 @@ pub fn put_tangent(t: &mut [f64], e: usize, v: Vec4)
 // The weight of halfedge e.
 pub fn weight_at(t: &[f64], e: usize) -> f64
     requires { e * 4 + 4 ≤ length t.now }
-    ensures { result ≡ weightAt t.now e }
+    ensures { result ≡ weight_at t.now e }
 {
     t[e * 4 + 3]
 }
 
 pub fn is_marked_inside_quad(t: &[f64], e: usize) -> bool
     requires { e * 4 + 4 ≤ length t.now }
-    ensures { result ≡ isMarkedInsideQuad t.now e }
+    ensures { result ≡ is_marked_inside_quad t.now e }
 {
     weight_at(t, e) == -1.0
 }
 
 // The end of halfedge e minus its start.
 pub fn edge_vec(h: &[i32], pos: &[f64], e: usize) -> Vec3
-    requires { EdgeIn (asHalfedges h.now) pos.now e }
-    ensures { result ≡ edgeVec (asHalfedges h.now) pos.now e }
+    requires { EdgeIn (as_halfedges h.now) pos.now e }
+    ensures { result ≡ edge_vec (as_halfedges h.now) pos.now e }
 {
     linalg::sub(
         point_at(pos, mesh::end_vert(h, e)),
@@ -260,7 +260,7 @@ pub fn edge_vec(h: &[i32], pos: &[f64], e: usize) -> Vec3
 }
 
 fn bi_tangent(normal: Vec3, edge_normal: Vec3, edge_vec: Vec3) -> Vec3
-    ensures { result ≡ biTangent normal edge_normal edge_vec }
+    ensures { result ≡ bi_tangent normal edge_normal edge_vec }
 {
     if linalg::dot(normal, edge_normal) < 0.0 {
         linalg::cross(edge_normal, edge_vec)
@@ -271,8 +271,8 @@ fn bi_tangent(normal: Vec3, edge_normal: Vec3, edge_vec: Vec3) -> Vec3
 
 // The sum of the normals of the triangles at halfedge e.
 fn edge_normal(h: &[i32], face_normals: &[f64], e: usize) -> Vec3
-    requires { NormalsIn (asHalfedges h.now) face_normals.now e }
-    ensures { result ≡ edgeNormal (asHalfedges h.now) face_normals.now e }
+    requires { NormalsIn (as_halfedges h.now) face_normals.now e }
+    ensures { result ≡ edge_normal (as_halfedges h.now) face_normals.now e }
 {
     let pair = mesh::paired_halfedge(h, e);
     linalg::add(
@@ -289,8 +289,8 @@ pub fn direction_from_normal(
     edge: Vec3,
     e: usize,
 ) -> Vec3
-    requires { NormalsIn (asHalfedges h.now) face_normals.now e }
-    ensures { result ≡ directionFromNormal (asHalfedges h.now) face_normals.now normal edge e }
+    requires { NormalsIn (as_halfedges h.now) face_normals.now e }
+    ensures { result ≡ direction_from_normal (as_halfedges h.now) face_normals.now normal edge e }
 {
     let bi = bi_tangent(normal, edge_normal(h, face_normals, e), edge);
     linalg::cross(bi, normal)
@@ -303,8 +303,8 @@ pub fn tangent_from_normal(
     normal: Vec3,
     e: usize,
 ) -> CircularTangent
-    requires { FacesIn (asHalfedges h.now) pos.now face_normals.now e }
-    ensures { result ≡ tangentFromNormalOf (asHalfedges h.now) pos.now face_normals.now normal e }
+    requires { FacesIn (as_halfedges h.now) pos.now face_normals.now e }
+    ensures { result ≡ tangent_from_normal_of (as_halfedges h.now) pos.now face_normals.now normal e }
 {
     let edge = edge_vec(h, pos, e);
     circular_tangent(
@@ -316,8 +316,8 @@ pub fn tangent_from_normal(
 // The edges of halfedge e and of its pair. Each is a difference: where two coordinates are the same both are +0, and the negative
 // of one would be -0.
 fn edge_vecs(h: &[i32], pos: &[f64], e: usize) -> EdgeVecs
-    requires { EdgesIn (asHalfedges h.now) pos.now e }
-    ensures { result ≡ edgeVecs (asHalfedges h.now) pos.now e }
+    requires { EdgesIn (as_halfedges h.now) pos.now e }
+    ensures { result ≡ edge_vecs (as_halfedges h.now) pos.now e }
 {
     let end = point_at(pos, mesh::end_vert(h, e));
     let start = point_at(pos, mesh::start_vert(h, e));
@@ -335,7 +335,7 @@ fn tangent_across(
     len: f64,
 ) -> CircularTangent
     requires { LengthOf edge len2 len }
-    ensures { result ≡ circularTangentOf (crossOf (biTangent normal edge_normal edge) normal) edge }
+    ensures { result ≡ circular_tangent_of (cross_of (bi_tangent normal edge_normal edge) normal) edge }
 {
     let bi = bi_tangent(normal, edge_normal, edge);
     circular_tangent_by(linalg::cross(bi, normal), edge, len2, len)
@@ -351,8 +351,8 @@ pub fn tangents_from_normals(
     b: Vec3,
     e: usize,
 ) -> TwoTangents
-    requires { PairIn (asHalfedges h.now) pos.now face_normals.now e }
-    ensures { result ≡ tangentsFromNormals (asHalfedges h.now) pos.now face_normals.now a b e }
+    requires { PairIn (as_halfedges h.now) pos.now face_normals.now e }
+    ensures { result ≡ tangents_from_normals (as_halfedges h.now) pos.now face_normals.now a b e }
 {
     let edges = edge_vecs(h, pos, e);
     let normal = edge_normal(h, face_normals, e);
@@ -369,16 +369,16 @@ pub fn tangents_from_normals(
 
 // Is the triangle across halfedge e of triangle t's face?
 fn same_face_across(h: &[i32], refs: &[i32], e: usize, t: usize) -> bool
-    requires { Inside (asHalfedges h.now) e }
-    ensures { result ≡ sameFaceAcross (asHalfedges h.now) refs.now e t }
+    requires { Inside (as_halfedges h.now) e }
+    ensures { result ≡ same_face_across (as_halfedges h.now) refs.now e t }
 {
     mesh::same_face(refs, t, mesh::paired_halfedge(h, e) / 3)
 }
 
 // Has neither of the other two halfedges of e's triangle its face across?
 fn no_other_neighbor(h: &[i32], refs: &[i32], e: usize) -> bool
-    requires { TriangleIn (asHalfedges h.now) e }
-    ensures { result ≡ noOtherNeighbor (asHalfedges h.now) refs.now e }
+    requires { TriangleIn (as_halfedges h.now) e }
+    ensures { result ≡ no_other_neighbor (as_halfedges h.now) refs.now e }
 {
     let next = mesh::next_halfedge(e);
     if same_face_across(h, refs, next, e / 3) {
@@ -389,8 +389,8 @@ fn no_other_neighbor(h: &[i32], refs: &[i32], e: usize) -> bool
 
 // `old` says whether old tangents exist: their weights decide, else the face references.
 pub fn is_inside_quad(h: &[i32], refs: &[i32], t: &[f64], old: bool, e: usize) -> bool
-    requires { InsideQuadIn (asHalfedges h.now) t.now e }
-    ensures { result ≡ isInsideQuad (asHalfedges h.now) refs.now t.now old e }
+    requires { InsideQuadIn (as_halfedges h.now) t.now e }
+    ensures { result ≡ is_inside_quad (as_halfedges h.now) refs.now t.now old e }
 {
     if old {
         return weight_at(t, e) < 0.0;

@@ -3,7 +3,7 @@ use Rattle.std.specs.Prelude.{◌≡◌, ℕ, zero, suc, ◌+◌, ◌*◌, ◌/�
 
 -- s is the integer square root of n
 pub record FloorSqrt (n s : ℕ) : Type 0 where
-  pub at-most : s * s ≤ n
+  pub at_most : s * s ≤ n
   pub above : n < (s + 1) * (s + 1)
 
 -- n lies in the segment i of 128: segments 0 to 63 are of the numbers of 54 bits, by the 6 bits below the leading one, 64 to 127 those of 53 bits
@@ -34,21 +34,21 @@ pub record RootEstimate (n s r : ℕ) : Type 0 where
   pub product : 2 ^ 63 ≤ s * r + 20 * 2 ^ 32
 
 -- the bits of positive infinity: those of a finite value with no sign are below it
-abbrev pub infinityBits : ℕ
-infinityBits = 0x7ff0_0000_0000_0000
+abbrev pub infinity_bits : ℕ
+infinity_bits = 0x7ff0_0000_0000_0000
 
 -- the units of 2 ^ -1074 in a finite value with no sign, by its biased exponent e and its trailing significand t
-abbrev pub unitsAt : ℕ → ℕ → ℕ
-unitsAt zero t = t
-unitsAt (suc e) t = (2 ^ 52 + t) * 2 ^ e
+abbrev pub units_at : ℕ → ℕ → ℕ
+units_at zero t = t
+units_at (suc e) t = (2 ^ 52 + t) * 2 ^ e
 
 -- the same by the bits of the value
-abbrev pub unitsOf : ℕ → ℕ
-unitsOf b = unitsAt (b / 2 ^ 52) (b % 2 ^ 52)
+abbrev pub units_of : ℕ → ℕ
+units_of b = units_at (b / 2 ^ 52) (b % 2 ^ 52)
 
 -- the value with the bits b is m * 2 ^ (f - 1022) units, and m has 53 bits
 pub record IsNormalized (b m f : ℕ) : Type 0 where
-  pub same : m * 2 ^ f ≡ unitsOf b * 2 ^ 1022
+  pub same : m * 2 ^ f ≡ units_of b * 2 ^ 1022
   pub least : 2 ^ 52 ≤ m
   pub below : m < 2 ^ 53
   pub low : 970 ≤ f

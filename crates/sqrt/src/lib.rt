@@ -4,9 +4,9 @@
 ghost use Rattle.std.specs.Prelude.{◌≡◌, ◌+◌, ◌*◌, ◌/◌, ◌%◌, ◌^◌, ◌≤◌, ◌<◌};
 ghost use Rattle.std.specs.Float.Ieee.{of_bits};
 ghost use Rattle.std.specs.Float.{binary64};
-ghost use Rattle.sqrt.specs.Sqrt.{isqrt, sqrtOf};
+ghost use Rattle.sqrt.specs.Sqrt.{isqrt, sqrt_of};
 ghost use Rattle.sqrt.specs.Nearest.{IsRoot};
-ghost use Rattle.sqrt.specs.Steps.{Seed, InSegment, Reciprocal, RootEstimate, IsNormalized, infinityBits};
+ghost use Rattle.sqrt.specs.Steps.{Seed, InSegment, Reciprocal, RootEstimate, IsNormalized, infinity_bits};
 
 // The bits of positive infinity: those of finite positive values are below it.
 const INFINITY_BITS: u64 = 0x7ff0_0000_0000_0000;
@@ -208,7 +208,7 @@ struct Normalized {
 
 // The value with the bits b, normalized: a subnormal one is shifted up.
 fn normalize(b: u64) -> Normalized
-    requires { (0 < b) × (b < infinityBits) }
+    requires { (0 < b) × (b < infinity_bits) }
     ensures { IsNormalized b result.m result.f × (result.i + 64 * (result.f % 2) ≡ result.m / 2 ^ 46) }
 {
     let e = b >> 52;
@@ -237,17 +237,17 @@ fn radicand(m: u64, f: u64) -> u64
 
 // The bits of the root of a finite positive value, from its bits b.
 fn sqrt_bits(b: u64) -> u64
-    requires { (0 < b) × (b < infinityBits) }
-    ensures { (result < infinityBits) × (of_bits binary64 result ≡ sqrtOf (of_bits binary64 b)) }
+    requires { (0 < b) × (b < infinity_bits) }
+    ensures { (result < infinity_bits) × (of_bits binary64 result ≡ sqrt_of (of_bits binary64 b)) }
 {
     let x = normalize(b);
     let q = sqrt_significand(radicand(x.m, x.f), x.i);
     x.f / 2 * HIDDEN_BIT + q
 }
 
-// IEEE 754-2019's squareRoot at binary64 with roundTiesToEven, for every f64.
+// IEEE 754-2019's square_root at binary64 with roundTiesToEven, for every f64.
 pub fn sqrt(x: f64) -> f64
-    ensures root { result ≡ sqrtOf x }
+    ensures root { result ≡ sqrt_of x }
     ensures ieee { IsRoot x result }
 {
     if x > 0.0 {

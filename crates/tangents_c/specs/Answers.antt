@@ -1,7 +1,7 @@
 -- How an answer goes back through a lent list: the number of the refusal (0 where the call is accepted), its place, and the two numbers of an accepted call. Places that the list lacks are left out.
 use Rattle.std.specs.Prelude.{ℕ, List, set}
 use Rattle.mesh.specs.declared.Checked.{Checked}
-use Rattle.mesh.specs.Check.{numberOf, placeOf}
+use Rattle.mesh.specs.Check.{number_of, place_of}
 use Rattle.validate.specs.declared.Validity.{Validity}
 use Rattle.validate.specs.Validate as Valid
 use Rattle.sharpen.specs.declared.Listing.{Listing}
@@ -15,21 +15,21 @@ unfoldable pub put : List ℕ → ℕ → ℕ → ℕ → ℕ → List ℕ
 put answer number place first second = set (set (set (set answer 0 number) 1 place) 2 first) 3 second
 
 -- straightening: no further numbers
-abbrev pub putChecked : List ℕ → Checked → List ℕ
-putChecked answer r = put answer (numberOf r) (placeOf r) 0 0
+abbrev pub put_checked : List ℕ → Checked → List ℕ
+put_checked answer r = put answer (number_of r) (place_of r) 0 0
 
 -- the mark check: 1 for yes, 0 for no
-abbrev pub putValidity : List ℕ → Validity → List ℕ
-putValidity answer r = put answer (Valid.numberOf r) (Valid.placeOf r) (Valid.valueOf r) 0
+abbrev pub put_validity : List ℕ → Validity → List ℕ
+put_validity answer r = put answer (Valid.number_of r) (Valid.place_of r) (Valid.value_of r) 0
 
 -- the crease listing: the number of entries, and the tally
-abbrev pub putListing : List ℕ → Listing → List ℕ
-putListing answer r = put answer (Sharp.numberOf r) (Sharp.placeOf r) (Sharp.entriesOf r) (Sharp.tallyOf r)
+abbrev pub put_listing : List ℕ → Listing → List ℕ
+put_listing answer r = put answer (Sharp.number_of r) (Sharp.place_of r) (Sharp.entries_of r) (Sharp.tally_of r)
 
 -- spreading and its preview: looked and turned
-abbrev pub putSpreading : List ℕ → Spreading → List ℕ
-putSpreading answer r = put answer (Spread.numberOf r) (Spread.placeOf r) (Spread.lookedOf r) (Spread.turnedOf r)
+abbrev pub put_spreading : List ℕ → Spreading → List ℕ
+put_spreading answer r = put answer (Spread.number_of r) (Spread.place_of r) (Spread.looked_of r) (Spread.turned_of r)
 
 -- the makings: how many circular tangents were computed on an edge without direction
-abbrev pub putMaking : List ℕ → Making → List ℕ
-putMaking answer r = put answer (Make.numberOf r) (Make.placeOf r) (Make.directionlessOf r) 0
+abbrev pub put_making : List ℕ → Making → List ℕ
+put_making answer r = put answer (Make.number_of r) (Make.place_of r) (Make.directionless_of r) 0

@@ -5,19 +5,19 @@
 
 ghost use Rattle.std.specs.Prelude.{◌≡◌, not, set, replicate, eqb};
 ghost use Rattle.float.specs.Ops.{zero};
-ghost use Rattle.linearize.specs.Linearize.{linearizeAnswer, tangentsAfter};
-ghost use Rattle.validate.specs.Validate.{validAnswer};
-ghost use Rattle.sharpen.specs.Sharpen.{sharpenEdges, entriesAfter};
-ghost use Rattle.distribute.specs.Distribute.{distributeTangents, scratchAfter, checkLists};
-ghost use Rattle.distribute.specs.Distribute.{tangentsAfter as spreadAfter};
-ghost use Rattle.preview.specs.Preview.{previewTangents, bytesAfter};
-ghost use Rattle.mesh.specs.Mesh.{asHalfedges};
-ghost use Rattle.mesh.specs.Check.{whenAccepted};
-ghost use Rattle.create_smoothness.specs.Entries.{entriesOf};
-ghost use Rattle.create_shared.specs.Answer.{checkedOf};
-ghost use Rattle.create.specs.Create.{createAnswer, tangentsAfter as createdTangents};
-ghost use Rattle.create_from_normals.specs.FromNormals.{createAnswer as fromNormalsAnswer, tangentsAfter as tangentsFromNormals};
-ghost use Rattle.tangents_c.specs.Answers.{put, putChecked, putValidity, putListing, putSpreading, putMaking};
+ghost use Rattle.linearize.specs.Linearize.{linearize_answer, tangents_after};
+ghost use Rattle.validate.specs.Validate.{valid_answer};
+ghost use Rattle.sharpen.specs.Sharpen.{sharpen_edges, entries_after};
+ghost use Rattle.distribute.specs.Distribute.{distribute_tangents, scratch_after, check_lists};
+ghost use Rattle.distribute.specs.Distribute.{tangents_after as spread_after};
+ghost use Rattle.preview.specs.Preview.{preview_tangents, bytes_after};
+ghost use Rattle.mesh.specs.Mesh.{as_halfedges};
+ghost use Rattle.mesh.specs.Check.{when_accepted};
+ghost use Rattle.create_smoothness.specs.Entries.{entries_of};
+ghost use Rattle.create_shared.specs.Answer.{checked_of};
+ghost use Rattle.create.specs.Create.{create_answer, tangents_after as created_tangents};
+ghost use Rattle.create_from_normals.specs.FromNormals.{create_answer as from_normals_answer, tangents_after as tangents_from_normals};
+ghost use Rattle.tangents_c.specs.Answers.{put, put_checked, put_validity, put_listing, put_spreading, put_making};
 
 use create_shared::Making;
 use distribute::Spreading;
@@ -44,7 +44,7 @@ fn put_answer(answer: &mut [usize], number: usize, place: usize, first: usize, s
 
 // Straightening: no further numbers.
 fn put_checked(answer: &mut [usize], checked: Checked)
-    ensures { answer.new ≡ putChecked answer.old checked }
+    ensures { answer.new ≡ put_checked answer.old checked }
 {
     put_answer(
         answer,
@@ -57,7 +57,7 @@ fn put_checked(answer: &mut [usize], checked: Checked)
 
 // The mark check: 1 for yes, 0 for no.
 fn put_validity(answer: &mut [usize], valid: Validity)
-    ensures { answer.new ≡ putValidity answer.old valid }
+    ensures { answer.new ≡ put_validity answer.old valid }
 {
     put_answer(
         answer,
@@ -70,7 +70,7 @@ fn put_validity(answer: &mut [usize], valid: Validity)
 
 // The crease listing: the number of entries, and the tally.
 fn put_listing(answer: &mut [usize], listing: Listing)
-    ensures { answer.new ≡ putListing answer.old listing }
+    ensures { answer.new ≡ put_listing answer.old listing }
 {
     put_answer(
         answer,
@@ -83,7 +83,7 @@ fn put_listing(answer: &mut [usize], listing: Listing)
 
 // Spreading and its preview: looked and turned.
 fn put_spreading(answer: &mut [usize], spreading: Spreading)
-    ensures { answer.new ≡ putSpreading answer.old spreading }
+    ensures { answer.new ≡ put_spreading answer.old spreading }
 {
     put_answer(
         answer,
@@ -96,7 +96,7 @@ fn put_spreading(answer: &mut [usize], spreading: Spreading)
 
 // The makings: how many circular tangents were computed on an edge without direction.
 fn put_making(answer: &mut [usize], making: Making)
-    ensures { answer.new ≡ putMaking answer.old making }
+    ensures { answer.new ≡ put_making answer.old making }
 {
     put_answer(
         answer,
@@ -117,8 +117,8 @@ pub extern "C" fn tangents_linearize_flat_tangents(
     t: &mut [f64],
     answer: &mut [usize],
 )
-    ensures t_after { t.new ≡ tangentsAfter (asHalfedges h.now) pos.now t.old n p }
-    ensures answer_after { answer.new ≡ putChecked answer.old (linearizeAnswer (asHalfedges h.now) pos.now t.old n p) }
+    ensures t_after { t.new ≡ tangents_after (as_halfedges h.now) pos.now t.old n p }
+    ensures answer_after { answer.new ≡ put_checked answer.old (linearize_answer (as_halfedges h.now) pos.now t.old n p) }
 {
     let checked = linearize::linearize_flat_tangents(n, p, h, pos, t);
     put_checked(answer, checked);
@@ -134,7 +134,7 @@ pub extern "C" fn tangents_valid_tangents(
     t: &[f64],
     answer: &mut [usize],
 )
-    ensures { answer.new ≡ putValidity answer.old (validAnswer (asHalfedges h.now) pos.now t.now n p) }
+    ensures { answer.new ≡ put_validity answer.old (valid_answer (as_halfedges h.now) pos.now t.now n p) }
 {
     let valid = validate::valid_tangents(n, p, h, pos, t);
     put_validity(answer, valid);
@@ -153,9 +153,9 @@ pub extern "C" fn tangents_sharpen_edges(
     smoothness: &mut [f64],
     answer: &mut [usize],
 )
-    ensures halfedges_after { halfedges.new ≡ (entriesAfter (asHalfedges h.now) normals.now angle smooth halfedges.old smoothness.old n p).halfedges }
-    ensures smoothness_after { smoothness.new ≡ (entriesAfter (asHalfedges h.now) normals.now angle smooth halfedges.old smoothness.old n p).smoothness }
-    ensures answer_after { answer.new ≡ putListing answer.old (sharpenEdges (asHalfedges h.now) normals.now angle smooth halfedges.old smoothness.old n p) }
+    ensures halfedges_after { halfedges.new ≡ (entries_after (as_halfedges h.now) normals.now angle smooth halfedges.old smoothness.old n p).halfedges }
+    ensures smoothness_after { smoothness.new ≡ (entries_after (as_halfedges h.now) normals.now angle smooth halfedges.old smoothness.old n p).smoothness }
+    ensures answer_after { answer.new ≡ put_listing answer.old (sharpen_edges (as_halfedges h.now) normals.now angle smooth halfedges.old smoothness.old n p) }
 {
     let listing = sharpen::sharpen_edges(n, p, h, normals, angle, smooth, halfedges, smoothness);
     put_listing(answer, listing);
@@ -175,10 +175,10 @@ pub extern "C" fn tangents_distribute_tangents(
     desired: &mut [f64],
     answer: &mut [usize],
 )
-    ensures t_after { t.new ≡ spreadAfter (asHalfedges h.now) pos.now normals.now flags.now t.old current.old desired.old n p }
-    ensures current_after { current.new ≡ scratchAfter (checkLists (asHalfedges h.now) pos.now normals.now flags.now t.old current.old desired.old n p) current.old n }
-    ensures desired_after { desired.new ≡ scratchAfter (checkLists (asHalfedges h.now) pos.now normals.now flags.now t.old current.old desired.old n p) desired.old n }
-    ensures answer_after { answer.new ≡ putSpreading answer.old (distributeTangents (asHalfedges h.now) pos.now normals.now flags.now t.old current.old desired.old n p) }
+    ensures t_after { t.new ≡ spread_after (as_halfedges h.now) pos.now normals.now flags.now t.old current.old desired.old n p }
+    ensures current_after { current.new ≡ scratch_after (check_lists (as_halfedges h.now) pos.now normals.now flags.now t.old current.old desired.old n p) current.old n }
+    ensures desired_after { desired.new ≡ scratch_after (check_lists (as_halfedges h.now) pos.now normals.now flags.now t.old current.old desired.old n p) desired.old n }
+    ensures answer_after { answer.new ≡ put_spreading answer.old (distribute_tangents (as_halfedges h.now) pos.now normals.now flags.now t.old current.old desired.old n p) }
 {
     let spreading = distribute::distribute_tangents(
         n, p, h, pos, normals, flags, t, current, desired,
@@ -199,8 +199,8 @@ pub extern "C" fn tangents_preview_tangents(
     bytes: &mut [u8],
     answer: &mut [usize],
 )
-    ensures bytes_after { bytes.new ≡ bytesAfter (asHalfedges h.now) pos.now normals.now flags.now t.now bytes.old n p }
-    ensures answer_after { answer.new ≡ putSpreading answer.old (previewTangents (asHalfedges h.now) pos.now normals.now flags.now t.now bytes.old n p) }
+    ensures bytes_after { bytes.new ≡ bytes_after (as_halfedges h.now) pos.now normals.now flags.now t.now bytes.old n p }
+    ensures answer_after { answer.new ≡ put_spreading answer.old (preview_tangents (as_halfedges h.now) pos.now normals.now flags.now t.now bytes.old n p) }
 {
     let previewed = preview::preview_tangents(n, p, h, pos, normals, flags, t, bytes);
     put_spreading(answer, previewed);
@@ -229,7 +229,7 @@ pub extern "C" fn tangents_create_tangents(
     link: &mut [usize],
     answer: &mut [usize],
 )
-    ensures { let r = createAnswer (asHalfedges h.now) pos.now normals.now face_normals.now refs.now entries.now values.now t.old fixed.old flat.old smooth.old desired.old at.old link.old (not (eqb old 0)) n p in (t.new ≡ createdTangents (checkedOf r) (asHalfedges h.now) pos.now normals.now face_normals.now refs.now (entriesOf entries.now values.now) t.old (not (eqb old 0)) n p) × (fixed.new ≡ whenAccepted (checkedOf r) (replicate n 0) fixed.old) × (flat.new ≡ whenAccepted (checkedOf r) (replicate n 0) flat.old) × (smooth.new ≡ whenAccepted (checkedOf r) (replicate n zero) smooth.old) × (desired.new ≡ whenAccepted (checkedOf r) (replicate n zero) desired.old) × (at.new ≡ whenAccepted (checkedOf r) (replicate p 0) at.old) × (link.new ≡ whenAccepted (checkedOf r) (replicate n 0) link.old) × (answer.new ≡ putMaking answer.old r) }
+    ensures { let r = create_answer (as_halfedges h.now) pos.now normals.now face_normals.now refs.now entries.now values.now t.old fixed.old flat.old smooth.old desired.old at.old link.old (not (eqb old 0)) n p in (t.new ≡ created_tangents (checked_of r) (as_halfedges h.now) pos.now normals.now face_normals.now refs.now (entries_of entries.now values.now) t.old (not (eqb old 0)) n p) × (fixed.new ≡ when_accepted (checked_of r) (replicate n 0) fixed.old) × (flat.new ≡ when_accepted (checked_of r) (replicate n 0) flat.old) × (smooth.new ≡ when_accepted (checked_of r) (replicate n zero) smooth.old) × (desired.new ≡ when_accepted (checked_of r) (replicate n zero) desired.old) × (at.new ≡ when_accepted (checked_of r) (replicate p 0) at.old) × (link.new ≡ when_accepted (checked_of r) (replicate n 0) link.old) × (answer.new ≡ put_making answer.old r) }
 {
     let making = create::create_tangents(
         n,
@@ -274,7 +274,7 @@ pub extern "C" fn tangents_create_tangents_from_normals(
     first: &mut [usize],
     answer: &mut [usize],
 )
-    ensures { let r = fromNormalsAnswer h.now pos.now normals.now face_normals.now refs.now rows.now t.old fixed.old inside.old current.old desired.old first.old (not (eqb old 0)) n p in (t.new ≡ tangentsFromNormals (checkedOf r) h.now pos.now normals.now face_normals.now refs.now rows.now t.old (not (eqb old 0)) n p) × (fixed.new ≡ whenAccepted (checkedOf r) (replicate n 0) fixed.old) × (inside.new ≡ whenAccepted (checkedOf r) (replicate n 0) inside.old) × (current.new ≡ whenAccepted (checkedOf r) (replicate n zero) current.old) × (desired.new ≡ whenAccepted (checkedOf r) (replicate n zero) desired.old) × (first.new ≡ whenAccepted (checkedOf r) (replicate p 0) first.old) × (answer.new ≡ putMaking answer.old r) }
+    ensures { let r = from_normals_answer h.now pos.now normals.now face_normals.now refs.now rows.now t.old fixed.old inside.old current.old desired.old first.old (not (eqb old 0)) n p in (t.new ≡ tangents_from_normals (checked_of r) h.now pos.now normals.now face_normals.now refs.now rows.now t.old (not (eqb old 0)) n p) × (fixed.new ≡ when_accepted (checked_of r) (replicate n 0) fixed.old) × (inside.new ≡ when_accepted (checked_of r) (replicate n 0) inside.old) × (current.new ≡ when_accepted (checked_of r) (replicate n zero) current.old) × (desired.new ≡ when_accepted (checked_of r) (replicate n zero) desired.old) × (first.new ≡ when_accepted (checked_of r) (replicate p 0) first.old) × (answer.new ≡ put_making answer.old r) }
 {
     let making = create_from_normals::create_tangents_from_normals(
         n,

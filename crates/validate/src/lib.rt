@@ -3,12 +3,12 @@
 #![tactic(auto)]
 
 ghost use Rattle.std.specs.Prelude.{◌≡◌, true, ◌*◌, length};
-ghost use Rattle.mesh.specs.Mesh.{halfedgeStride, asHalfedges};
-ghost use Rattle.mesh.specs.Check.{checkMesh};
-ghost use Rattle.common.specs.Fold.{foldTo};
+ghost use Rattle.mesh.specs.Mesh.{halfedge_stride, as_halfedges};
+ghost use Rattle.mesh.specs.Check.{check_mesh};
+ghost use Rattle.common.specs.Fold.{fold_to};
 ghost use Rattle.mesh.specs.Sound.{Sound};
-ghost use Rattle.validate.specs.Validate.{validSoFar, validTangents, lengthsFit, validAnswer, numberOf, placeOf, valueOf, Values};
-ghost use Rattle.validate.specs.Marks.{markValid, triangleValid, MarkIn, TriangleIn, Lists};
+ghost use Rattle.validate.specs.Validate.{valid_so_far, valid_tangents, lengths_fit, valid_answer, number_of, place_of, value_of, Values};
+ghost use Rattle.validate.specs.Marks.{mark_valid, triangle_valid, MarkIn, TriangleIn, Lists};
 
 use mesh::Checked;
 
@@ -20,7 +20,7 @@ pub enum Validity {
 }
 
 pub fn number_of(validity: Validity) -> usize
-    ensures { result ≡ numberOf validity }
+    ensures { result ≡ number_of validity }
 {
     match validity {
         Validity::Valid(_) => 0,
@@ -29,7 +29,7 @@ pub fn number_of(validity: Validity) -> usize
 }
 
 pub fn place_of(validity: Validity) -> usize
-    ensures { result ≡ placeOf validity }
+    ensures { result ≡ place_of validity }
 {
     match validity {
         Validity::Valid(_) => 0,
@@ -38,7 +38,7 @@ pub fn place_of(validity: Validity) -> usize
 }
 
 pub fn value_of(validity: Validity) -> usize
-    ensures { result ≡ valueOf validity }
+    ensures { result ≡ value_of validity }
 {
     match validity {
         Validity::Valid(valid) => if valid { 1 } else { 0 },
@@ -51,8 +51,8 @@ pub fn value_of(validity: Validity) -> usize
 
 // Does the marked halfedge e pass? Neither of its neighbours is marked, and its pair is.
 fn mark_valid(h: &[i32], t: &[f64], e: usize, next: bool, prev: bool) -> bool
-    requires { MarkIn (asHalfedges h.now) t.now e }
-    ensures { result ≡ markValid (asHalfedges h.now) t.now e next prev }
+    requires { MarkIn (as_halfedges h.now) t.now e }
+    ensures { result ≡ mark_valid (as_halfedges h.now) t.now e next prev }
 {
     if next {
         return false;
@@ -67,8 +67,8 @@ fn mark_valid(h: &[i32], t: &[f64], e: usize, next: bool, prev: bool) -> bool
 // The body of the loop at the triangle of e, e + 1 and e + 2. One that is not marked needs no look at its pair: were the
 // pair marked, it would fail in its own turn.
 fn triangle_valid(h: &[i32], t: &[f64], e: usize) -> bool
-    requires { TriangleIn (asHalfedges h.now) t.now e }
-    ensures { result ≡ triangleValid (asHalfedges h.now) t.now e }
+    requires { TriangleIn (as_halfedges h.now) t.now e }
+    ensures { result ≡ triangle_valid (as_halfedges h.now) t.now e }
 {
     let first = smoothing::is_marked_inside_quad(t, e);
     let second = smoothing::is_marked_inside_quad(t, e + 1);
@@ -87,8 +87,8 @@ fn triangle_valid(h: &[i32], t: &[f64], e: usize) -> bool
 
 // Every triangle of lists that are known to be right.
 fn all_valid(n: usize, p: usize, h: &[i32], t: &[f64]) -> bool
-    requires { Lists (asHalfedges h.now) t.now n p }
-    ensures { result ≡ foldTo (validSoFar (asHalfedges h.now) t.now) true n }
+    requires { Lists (as_halfedges h.now) t.now n p }
+    ensures { result ≡ fold_to (valid_so_far (as_halfedges h.now) t.now) true n }
 {
     let mut e = 0;
     while e < n {
@@ -102,8 +102,8 @@ fn all_valid(n: usize, p: usize, h: &[i32], t: &[f64]) -> bool
 
 // The marks of an accepted mesh. Tangents of another length answer yes.
 fn marks_valid(n: usize, p: usize, h: &[i32], t: &[f64]) -> bool
-    requires { Sound (asHalfedges h.now) n p × ((asHalfedges h.now).numbers ≡ n * halfedgeStride) }
-    ensures { result ≡ validTangents (asHalfedges h.now) t.now n }
+    requires { Sound (as_halfedges h.now) n p × ((as_halfedges h.now).numbers ≡ n * halfedge_stride) }
+    ensures { result ≡ valid_tangents (as_halfedges h.now) t.now n }
 {
     if !mesh::has_length(t.len(), n, 4) {
         return true;
@@ -112,7 +112,7 @@ fn marks_valid(n: usize, p: usize, h: &[i32], t: &[f64]) -> bool
 }
 
 fn lengths_fit(n: usize, p: usize, h: &[i32], pos: &[f64]) -> bool
-    ensures { result ≡ lengthsFit (asHalfedges h.now) pos.now n p }
+    ensures { result ≡ lengths_fit (as_halfedges h.now) pos.now n p }
 {
     common::both(
         mesh::has_length(h.len(), n, mesh::HALFEDGE_STRIDE),
@@ -122,8 +122,8 @@ fn lengths_fit(n: usize, p: usize, h: &[i32], pos: &[f64]) -> bool
 
 // The public call, for lists of any length and content. Of the positions only the length is asked about.
 pub fn valid_tangents(n: usize, p: usize, h: &[i32], pos: &[f64], t: &[f64]) -> Validity
-    ensures answer { result ≡ validAnswer (asHalfedges h.now) pos.now t.now n p }
-    ensures values { Values (checkMesh (asHalfedges h.now) n p (lengthsFit (asHalfedges h.now) pos.now n p)) (validTangents (asHalfedges h.now) t.now n) result }
+    ensures answer { result ≡ valid_answer (as_halfedges h.now) pos.now t.now n p }
+    ensures values { Values (check_mesh (as_halfedges h.now) n p (lengths_fit (as_halfedges h.now) pos.now n p)) (valid_tangents (as_halfedges h.now) t.now n) result }
 {
     let checked = mesh::check_mesh(h, n, p, lengths_fit(n, p, h, pos));
     let Checked::Accepted = checked else {

@@ -2,7 +2,7 @@
 use native.Mathlib.Omega.{arith}
 use mathlib.Core.Path.{refl}
 use lib.ListN.{length-set}
-use Rattle.common.proofs.Filled.{filled, fill-again}
+use Rattle.common.proofs.Filled.{filled, fill_again}
 use Rattle.common.proofs.fill_floats.Goals as goal
 
 pub loop-i-init : goal.loop-i-init
@@ -25,7 +25,7 @@ pub loop-i-preserved : goal.loop-i-preserved
 loop-i-preserved c =
     let a = c.args in
     let l = c.loop-i in
-    (omega arith, simp length-set l.invariant.1, fill-again l.s a.s.now a.x l.i (omega arith) l.invariant.2)
+    (omega arith, simp length-set l.invariant.1, fill_again l.s a.s.now a.x l.i (omega arith) l.invariant.2)
 
 pub shape_of-s : goal.shape_of-s
 shape_of-s c =

@@ -6,63 +6,63 @@ use mathlib.Core.List.{List}
 use lib.ListN.{length}
 use lib.IntN.{ℤ}
 use lib.Ieee.{Float}
-use Rattle.mesh.specs.Mesh.{asHalfedges}
+use Rattle.mesh.specs.Mesh.{as_halfedges}
 use Rattle.mesh.specs.declared.Checked.{Checked}
 use Rattle.mesh.specs.declared.Checked.TheVariants.{Accepted}
-use Rattle.create_shared.specs.Answer.{directionlessOf, checkedOf}
-use Rattle.create_shared.proofs.Answered.{values-of, refused-answer}
-use Rattle.create_smoothness.specs.Entries.{entriesOf}
+use Rattle.create_shared.specs.Answer.{directionless_of, checked_of}
+use Rattle.create_shared.proofs.Answered.{values_of, refused_answer}
+use Rattle.create_smoothness.specs.Entries.{entries_of}
 use Rattle.create_smoothness.specs.EntrySmoothness.{EntriesIn}
-use Rattle.create_smoothness.proofs.Flat.{flat-entries-in}
-use Rattle.create.specs.Create.{listsFit, scratchFits, checkCreate, checkLists, tangentsAfter, createAnswer}
-use Rattle.create.proofs.Accepted.{AcceptedLists, accepted-lists, made}
+use Rattle.create_smoothness.proofs.Flat.{flat_entries_in}
+use Rattle.create.specs.Create.{lists_fit, scratch_fits, check_create, check_lists, tangents_after, create_answer}
+use Rattle.create.proofs.Accepted.{AcceptedLists, accepted_lists, made}
 use Rattle.create.proofs.create_tangents.Goals as goal
 use Rattle.create.proofs.create_tangents.Goals.{After-check_create-checked, After-answer-2}
 
 -- the answer of the questions, from what the calls answer
 answer : (h : List ℤ) (P N A : List Float) (R : List ℤ) (I : List ℕ) (Q T : List Float) (X F : List ℕ) (S D : List Float) (C L : List ℕ) (n p : ℕ) {lists scratch lengths : Bool} {checked : Checked}
-    → lists ≡ listsFit (length h) (length P) (length N) (length A) (length R) (length I) (length Q) (length T) n p
-    → scratch ≡ scratchFits (length X) (length F) (length S) (length D) (length C) (length L) n p
+    → lists ≡ lists_fit (length h) (length P) (length N) (length A) (length R) (length I) (length Q) (length T) n p
+    → scratch ≡ scratch_fits (length X) (length F) (length S) (length D) (length C) (length L) n p
     → lengths ≡ (lists && scratch)
-    → checked ≡ checkCreate (asHalfedges h) R I Q n p lengths
-    → checked ≡ checkLists (asHalfedges h) P N A R I Q T X F S D C L n p
-unfolding asHalfedges
+    → checked ≡ check_create (as_halfedges h) R I Q n p lengths
+    → checked ≡ check_lists (as_halfedges h) P N A R I Q T X F S D C L n p
+unfolding as_halfedges
 answer h P N A R I Q T X F S D C L n p a b both e = rw (← a, ← b, ← both) e
 
-checked-is : (c : After-check_create-checked) → let a = c.args in c.check_create-checked.result ≡ checkLists (asHalfedges a.h.now) a.pos.now a.normals.now a.face_normals.now a.refs.now a.entries.now a.values.now a.t.now a.fixed.now a.flat.now a.smooth.now a.desired.now a.at.now a.link.now a.n a.p
-checked-is c =
+checked_is : (c : After-check_create-checked) → let a = c.args in c.check_create-checked.result ≡ check_lists (as_halfedges a.h.now) a.pos.now a.normals.now a.face_normals.now a.refs.now a.entries.now a.values.now a.t.now a.fixed.now a.flat.now a.smooth.now a.desired.now a.at.now a.link.now a.n a.p
+checked_is c =
     let a = c.args in
     answer a.h.now a.pos.now a.normals.now a.face_normals.now a.refs.now a.entries.now a.values.now a.t.now a.fixed.now a.flat.now a.smooth.now a.desired.now a.at.now a.link.now a.n a.p c.lists_fit-lists.ensures c.scratch_lists_fit-scratch.ensures c.both-lengths.ensures c.check_create-checked.ensures
 
-lists : (c : After-check_create-checked) → c.check_create-checked.result ≡ Accepted → let a = c.args in AcceptedLists (asHalfedges a.h.now) a.pos.now a.normals.now a.face_normals.now a.entries.now a.values.now a.t.now a.fixed.now a.flat.now a.smooth.now a.desired.now a.at.now a.link.now a.n a.p
+lists : (c : After-check_create-checked) → c.check_create-checked.result ≡ Accepted → let a = c.args in AcceptedLists (as_halfedges a.h.now) a.pos.now a.normals.now a.face_normals.now a.entries.now a.values.now a.t.now a.fixed.now a.flat.now a.smooth.now a.desired.now a.at.now a.link.now a.n a.p
 lists c e =
     let a = c.args in
-    accepted-lists (asHalfedges a.h.now) a.pos.now a.normals.now a.face_normals.now a.refs.now a.entries.now a.values.now a.t.now a.fixed.now a.flat.now a.smooth.now a.desired.now a.at.now a.link.now a.n a.p (sym (checked-is c) ∙ e)
+    accepted_lists (as_halfedges a.h.now) a.pos.now a.normals.now a.face_normals.now a.refs.now a.entries.now a.values.now a.t.now a.fixed.now a.flat.now a.smooth.now a.desired.now a.at.now a.link.now a.n a.p (sym (checked_is c) ∙ e)
 
 -- what an accepted call answers and leaves
-answered : (c : After-answer-2) → let a = c.args in c.check_create-checked.result ≡ checkLists (asHalfedges a.h.now) a.pos.now a.normals.now a.face_normals.now a.refs.now a.entries.now a.values.now a.t.now a.fixed.now a.flat.now a.smooth.now a.desired.now a.at.now a.link.now a.n a.p
-    → (c.answer-2.result ≡ createAnswer (asHalfedges a.h.now) a.pos.now a.normals.now a.face_normals.now a.refs.now a.entries.now a.values.now a.t.now a.fixed.now a.flat.now a.smooth.now a.desired.now a.at.now a.link.now a.old a.n a.p)
-    × (c.make_tangents-directionless.new.t ≡ tangentsAfter (checkedOf c.answer-2.result) (asHalfedges a.h.now) a.pos.now a.normals.now a.face_normals.now a.refs.now (entriesOf a.entries.now a.values.now) a.t.now a.old a.n a.p)
-    × (directionlessOf c.answer-2.result ≤ 2 * a.n)
+answered : (c : After-answer-2) → let a = c.args in c.check_create-checked.result ≡ check_lists (as_halfedges a.h.now) a.pos.now a.normals.now a.face_normals.now a.refs.now a.entries.now a.values.now a.t.now a.fixed.now a.flat.now a.smooth.now a.desired.now a.at.now a.link.now a.n a.p
+    → (c.answer-2.result ≡ create_answer (as_halfedges a.h.now) a.pos.now a.normals.now a.face_normals.now a.refs.now a.entries.now a.values.now a.t.now a.fixed.now a.flat.now a.smooth.now a.desired.now a.at.now a.link.now a.old a.n a.p)
+    × (c.make_tangents-directionless.new.t ≡ tangents_after (checked_of c.answer-2.result) (as_halfedges a.h.now) a.pos.now a.normals.now a.face_normals.now a.refs.now (entries_of a.entries.now a.values.now) a.t.now a.old a.n a.p)
+    × (directionless_of c.answer-2.result ≤ 2 * a.n)
 answered c is =
     let a = c.args in
     let m = c.make_tangents-directionless in
-    made (asHalfedges a.h.now) a.pos.now a.normals.now a.face_normals.now a.refs.now a.entries.now a.values.now a.t.now a.fixed.now a.flat.now a.smooth.now a.desired.now a.at.now a.link.now a.n a.p (entriesOf a.entries.now a.values.now) a.old is (λ w. flat-entries-in a.entries.now a.values.now a.n w.values w.named w.clear)
+    made (as_halfedges a.h.now) a.pos.now a.normals.now a.face_normals.now a.refs.now a.entries.now a.values.now a.t.now a.fixed.now a.flat.now a.smooth.now a.desired.now a.at.now a.link.now a.n a.p (entries_of a.entries.now a.values.now) a.old is (λ w. flat_entries_in a.entries.now a.values.now a.n w.values w.named w.clear)
     c.in-Accepted.is c.entry_smoothness.ensures m.ensures.tangents m.ensures.directionless c.answer-2.ensures
 
 pub returns-in_default-clause-answer : goal.returns-in_default-clause-answer
 returns-in_default-clause-answer c =
-    refused-answer 0 _ (checked-is (goal.at.returns-in_default-clause-answer c).After-check_create-checked) c.in_default.is c.answer.ensures
+    refused_answer 0 _ (checked_is (goal.at.returns-in_default-clause-answer c).After-check_create-checked) c.in_default.is c.answer.ensures
 
 pub returns-in_default-clause-values : goal.returns-in_default-clause-values
 returns-in_default-clause-values c =
-    values-of _ _ (refused-answer 0 _ (checked-is (goal.at.returns-in_default-clause-values c).After-check_create-checked) c.in_default.is c.answer.ensures)
+    values_of _ _ (refused_answer 0 _ (checked_is (goal.at.returns-in_default-clause-values c).After-check_create-checked) c.in_default.is c.answer.ensures)
 
 pub entry_smoothness-requires : goal.entry_smoothness-requires
 entry_smoothness-requires c =
     let a = c.args in
     let w = lists (goal.at.entry_smoothness-requires c).After-check_create-checked c.in-Accepted.is in
-    (w.values, subst (EntriesIn (entriesOf a.entries.now a.values.now)) (sym w.smooth) (flat-entries-in a.entries.now a.values.now a.n w.values w.named w.clear))
+    (w.values, subst (EntriesIn (entries_of a.entries.now a.values.now)) (sym w.smooth) (flat_entries_in a.entries.now a.values.now a.n w.values w.named w.clear))
 
 pub make_tangents-directionless-requires : goal.make_tangents-directionless-requires
 make_tangents-directionless-requires c =
@@ -71,19 +71,19 @@ make_tangents-directionless-requires c =
 pub returns-clause-answer : goal.returns-clause-answer
 returns-clause-answer c =
     let k = goal.at.returns-clause-answer c in
-    (answered k.After-answer-2 (checked-is k.After-check_create-checked)).0
+    (answered k.After-answer-2 (checked_is k.After-check_create-checked)).0
 
 pub returns-clause-tangents : goal.returns-clause-tangents
 returns-clause-tangents c =
     let k = goal.at.returns-clause-tangents c in
-    (answered k.After-answer-2 (checked-is k.After-check_create-checked)).1
+    (answered k.After-answer-2 (checked_is k.After-check_create-checked)).1
 
 pub returns-clause-bound : goal.returns-clause-bound
 returns-clause-bound c =
     let k = goal.at.returns-clause-bound c in
-    (answered k.After-answer-2 (checked-is k.After-check_create-checked)).2
+    (answered k.After-answer-2 (checked_is k.After-check_create-checked)).2
 
 pub returns-clause-values : goal.returns-clause-values
 returns-clause-values c =
     let k = goal.at.returns-clause-values c in
-    values-of _ _ (answered k.After-answer-2 (checked-is k.After-check_create-checked)).0
+    values_of _ _ (answered k.After-answer-2 (checked_is k.After-check_create-checked)).0

@@ -2,18 +2,18 @@
 use mathlib.Core.Path.{◌≡◌, sym}
 use native.Mathlib.Omega.{arith}
 use lib.ListN.{length}
-use Rattle.common.proofs.Fold.{fold-none, fold-turn}
+use Rattle.common.proofs.Fold.{fold_none, fold_turn}
 use Rattle.create_edges.specs.Smoothness.{smoothness}
 use Rattle.create_edges.proofs.add_flat_boundaries.Goals as goal
 
 pub loop-e-init : goal.loop-e-init
 loop-e-init c =
-    (omega arith, sym (fold-none _ _))
+    (omega arith, sym (fold_none _ _))
 
 pub loop-e-preserved : goal.loop-e-preserved
 loop-e-preserved c =
     let l = c.loop-e in
-    (omega arith, fold-turn _ _ _ _ l.e l.invariant.1 c.add_flat_boundary.ensures)
+    (omega arith, fold_turn _ _ _ _ l.e l.invariant.1 c.add_flat_boundary.ensures)
 
 pub returns : goal.returns
 unfolding smoothness

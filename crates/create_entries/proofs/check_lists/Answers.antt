@@ -1,9 +1,9 @@
 -- `create_entries::check_lists` meets its contract: the code is the definition. Assumes nothing.
-use Rattle.mesh.specs.Mesh.{asHalfedges}
+use Rattle.mesh.specs.Mesh.{as_halfedges}
 use Rattle.create_entries.proofs.check_lists.Goals as goal
 
 pub returns : goal.returns
-unfolding asHalfedges
+unfolding as_halfedges
 returns c =
     simp (
       c.check_passed.ensures,

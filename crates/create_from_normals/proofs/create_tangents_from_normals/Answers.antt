@@ -1,19 +1,19 @@
 -- `create_from_normals::create_tangents_from_normals` meets its contract: the questions, and then the core. Assumes nothing.
-use Rattle.create_shared.proofs.Answered.{answer-within}
-use Rattle.normals_core.proofs.Core.{from-normals-within}
-use Rattle.create_from_normals.proofs.Accepted.{lists-of}
+use Rattle.create_shared.proofs.Answered.{answer_within}
+use Rattle.normals_core.proofs.Core.{from_normals_within}
+use Rattle.create_from_normals.proofs.Accepted.{lists_of}
 use Rattle.create_from_normals.proofs.create_tangents_from_normals.Goals as goal
 
 pub make_tangents-directionless-requires : goal.make_tangents-directionless-requires
 make_tangents-directionless-requires c =
     let a = c.args in
-    lists-of a.h.now a.pos.now a.normals.now a.face_normals.now a.refs.now a.rows.now a.t.now a.fixed.now a.inside.now a.current.now a.desired.now a.first.now a.n a.p
+    lists_of a.h.now a.pos.now a.normals.now a.face_normals.now a.refs.now a.rows.now a.t.now a.fixed.now a.inside.now a.current.now a.desired.now a.first.now a.n a.p
     (rw (← c.lists_fit-lists.ensures, ← c.scratch_fits-scratch.ensures, ← c.both-lengths.ensures, ← c.check_normals-checked.ensures) c.in-Accepted.is)
 
 pub returns-clause-bound : goal.returns-clause-bound
 returns-clause-bound c =
     let a = c.args in
-    let w = lists-of a.h.now a.pos.now a.normals.now a.face_normals.now a.refs.now a.rows.now a.t.now a.fixed.now a.inside.now a.current.now a.desired.now a.first.now a.n a.p
+    let w = lists_of a.h.now a.pos.now a.normals.now a.face_normals.now a.refs.now a.rows.now a.t.now a.fixed.now a.inside.now a.current.now a.desired.now a.first.now a.n a.p
     (rw (← c.lists_fit-lists.ensures, ← c.scratch_fits-scratch.ensures, ← c.both-lengths.ensures, ← c.check_normals-checked.ensures) c.in-Accepted.is) in
-    answer-within _ _ _ c.answer-2.ensures
-    (λ _. rw c.make_tangents-directionless.ensures.directionless (from-normals-within w.lists.sound _ _ _ _ _ _ _ _))
+    answer_within _ _ _ c.answer-2.ensures
+    (λ _. rw c.make_tangents-directionless.ensures.directionless (from_normals_within w.lists.sound _ _ _ _ _ _ _ _))

@@ -1,34 +1,34 @@
 -- `create_initial::put_each` meets its contract. The invariant: the list is the fold over the halfedges passed, and holds the lent weights from there on; and it is counted which of those passed have no direction. Assumes nothing.
-use Rattle.create_initial.proofs.Counts.{firsts-within}
-use Rattle.create_initial.proofs.First.{first-turn, first-counts}
-use Rattle.create_initial.specs.First.{firstDirectionless}
-use Rattle.create_initial.specs.Lent.{faceAt}
-use Rattle.smoothing.specs.Edges.{isInsideQuad}
-use Rattle.common.specs.Count.{sum, countBelow}
-use Rattle.common.proofs.Fold.{fold-none}
-use Rattle.common.proofs.Count.{one-at-most}
+use Rattle.create_initial.proofs.Counts.{firsts_within}
+use Rattle.create_initial.proofs.First.{first_turn, first_counts}
+use Rattle.create_initial.specs.First.{first_directionless}
+use Rattle.create_initial.specs.Lent.{face_at}
+use Rattle.smoothing.specs.Edges.{is_inside_quad}
+use Rattle.common.specs.Count.{sum, count_below}
+use Rattle.common.proofs.Fold.{fold_none}
+use Rattle.common.proofs.Count.{one_at_most}
 use native.Mathlib.Omega.{arith}
 use mathlib.Core.Path.{◌≡◌, refl, sym, ◌∙◌}
 use mathlib.Core.Bool.{true}
-use Rattle.mesh.specs.Mesh.{asHalfedges}
+use Rattle.mesh.specs.Mesh.{as_halfedges}
 use Rattle.create_initial.proofs.put_each.Goals as goal
 
 pub loop-e-init : goal.loop-e-init
-unfolding countBelow sum
+unfolding count_below sum
 loop-e-init c =
-    (omega arith, refl, sym (fold-none _ _), λ x h. refl, refl)
+    (omega arith, refl, sym (fold_none _ _), λ x h. refl, refl)
 
 pub overflow_add-directionless : goal.overflow_add-directionless
 overflow_add-directionless c =
     let a = c.args in
     let l = c.loop-e in
-    let H = asHalfedges a.h.now in
+    let H = as_halfedges a.h.now in
     omega (
       arith,
       l.invariant.4,
-      firsts-within H a.pos.now (isInsideQuad H a.refs.now a.t.now true) l.e,
+      firsts_within H a.pos.now (is_inside_quad H a.refs.now a.t.now true) l.e,
       c.put_first_tangent-directionless.ensures.directionless,
-      one-at-most (firstDirectionless H a.pos.now (isInsideQuad H a.refs.now l.t true) l.e),
+      one_at_most (first_directionless H a.pos.now (is_inside_quad H a.refs.now l.t true) l.e),
     )
 
 pub loop-e-preserved : goal.loop-e-preserved
@@ -36,13 +36,13 @@ loop-e-preserved c =
     let a = c.args in
     let l = c.loop-e in
     let p = c.put_first_tangent-directionless in
-    let H = asHalfedges a.h.now in
-    let t = first-turn H a.refs.now a.pos.now a.normals.now a.face_normals.now true (faceAt a.at.now) a.t.now l.t p.new.t l.e l.invariant.2 l.invariant.3 p.ensures.tangents in (
+    let H = as_halfedges a.h.now in
+    let t = first_turn H a.refs.now a.pos.now a.normals.now a.face_normals.now true (face_at a.at.now) a.t.now l.t p.new.t l.e l.invariant.2 l.invariant.3 p.ensures.tangents in (
       omega arith,
       p.auto.t ∙ l.invariant.1,
       t.0,
       t.1,
-      first-counts H a.refs.now a.pos.now true a.t.now l.t l.e l.directionless p.result l.invariant.3 l.invariant.4 p.ensures.directionless,
+      first_counts H a.refs.now a.pos.now true a.t.now l.t l.e l.directionless p.result l.invariant.3 l.invariant.4 p.ensures.directionless,
     )
 
 pub returns-clause-directionless : goal.returns-clause-directionless

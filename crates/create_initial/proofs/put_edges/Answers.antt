@@ -3,15 +3,15 @@ use Prim.Native.Nat.{◌+◌}
 use native.Mathlib.Omega.{arith}
 use mathlib.Core.Path.{◌≡◌, refl, sym, ◌∙◌}
 use Rattle.common.specs.Count.{sum}
-use Rattle.common.proofs.Fold.{fold-none}
-use Rattle.mesh.specs.Mesh.{asHalfedges}
-use Rattle.create_initial.proofs.First.{edge-turn, edge-counts, edges-are, edges-count, edges-room}
+use Rattle.common.proofs.Fold.{fold_none}
+use Rattle.mesh.specs.Mesh.{as_halfedges}
+use Rattle.create_initial.proofs.First.{edge_turn, edge_counts, edges_are, edges_count, edges_room}
 use Rattle.create_initial.proofs.put_edges.Goals as goal
 
 pub loop-e-init : goal.loop-e-init
 unfolding sum
 loop-e-init c =
-    (omega arith, refl, sym (fold-none _ _), refl)
+    (omega arith, refl, sym (fold_none _ _), refl)
 
 pub overflow_add-directionless : goal.overflow_add-directionless
 overflow_add-directionless c =
@@ -20,8 +20,8 @@ overflow_add-directionless c =
     let p = c.put_edge-directionless in
     omega (
       arith,
-      edge-counts (asHalfedges a.h.now) a.refs.now a.pos.now a.t.now l.t l.e l.directionless p.result l.invariant.3 p.ensures.directionless,
-      edges-room c.requires a.refs.now (l.e + 1) (omega arith),
+      edge_counts (as_halfedges a.h.now) a.refs.now a.pos.now a.t.now l.t l.e l.directionless p.result l.invariant.3 p.ensures.directionless,
+      edges_room c.requires a.refs.now (l.e + 1) (omega arith),
     )
 
 pub loop-e-preserved : goal.loop-e-preserved
@@ -31,18 +31,18 @@ loop-e-preserved c =
     let p = c.put_edge-directionless in (
       omega arith,
       p.auto.t ∙ l.invariant.1,
-      edge-turn (asHalfedges a.h.now) a.refs.now a.pos.now a.normals.now a.face_normals.now a.at.now a.t.now l.t p.new.t l.e l.invariant.2 p.ensures.tangents,
-      edge-counts (asHalfedges a.h.now) a.refs.now a.pos.now a.t.now l.t l.e l.directionless p.result l.invariant.3 p.ensures.directionless,
+      edge_turn (as_halfedges a.h.now) a.refs.now a.pos.now a.normals.now a.face_normals.now a.at.now a.t.now l.t p.new.t l.e l.invariant.2 p.ensures.tangents,
+      edge_counts (as_halfedges a.h.now) a.refs.now a.pos.now a.t.now l.t l.e l.directionless p.result l.invariant.3 p.ensures.directionless,
     )
 
 pub returns-clause-tangents : goal.returns-clause-tangents
 returns-clause-tangents c =
     let l = c.loop-e in
     let q : l.e ≡ c.args.n = omega arith in
-    (rw q at l.invariant.2) ∙ edges-are c.requires c.args.refs.now
+    (rw q at l.invariant.2) ∙ edges_are c.requires c.args.refs.now
 
 pub returns-clause-directionless : goal.returns-clause-directionless
 returns-clause-directionless c =
     let l = c.loop-e in
     let q : l.e ≡ c.args.n = omega arith in
-    (rw q at l.invariant.3) ∙ edges-count c.requires c.args.refs.now
+    (rw q at l.invariant.3) ∙ edges_count c.requires c.args.refs.now

@@ -3,20 +3,20 @@ use Prim.Native.Nat.{◌-◌, ◌≤◌}
 use mathlib.Core.Path.{◌≡◌}
 use mathlib.Core.Bool.{false}
 use lib.ListN.{length}
-use Rattle.common.specs.Fold.{foldTo}
+use Rattle.common.specs.Fold.{fold_to}
 use Rattle.common.specs.Count.{sum}
-use Rattle.mesh.specs.Mesh.{asHalfedges}
-use Rattle.smoothing.specs.Lists.{putTangent}
-use Rattle.smoothing.specs.Edges.{isInsideQuad}
-use Rattle.smoothing.specs.Inner.{putEdge}
-use Rattle.create_initial.specs.Lent.{firstAt, edgeDirectionless}
+use Rattle.mesh.specs.Mesh.{as_halfedges}
+use Rattle.smoothing.specs.Lists.{put_tangent}
+use Rattle.smoothing.specs.Edges.{is_inside_quad}
+use Rattle.smoothing.specs.Inner.{put_edge}
+use Rattle.create_initial.specs.Lent.{first_at, edge_directionless}
 use Rattle.create_initial.proofs.put_edges.Given as goal
 
 abbrev pub invariant-loop-e : goal.invariant-loop-e
 invariant-loop-e l =
     (l.e ≤ l.n) × (length l.t ≡ length l.initial.t)
-    × (l.t ≡ foldTo (putEdge putTangent (asHalfedges l.h) (firstAt (asHalfedges l.h) l.pos l.normals l.face_normals l.refs l.at l.initial.t false)) l.initial.t l.e)
-    × (l.directionless ≡ sum l.e (edgeDirectionless (asHalfedges l.h) l.pos (isInsideQuad (asHalfedges l.h) l.refs l.initial.t false)))
+    × (l.t ≡ fold_to (put_edge put_tangent (as_halfedges l.h) (first_at (as_halfedges l.h) l.pos l.normals l.face_normals l.refs l.at l.initial.t false)) l.initial.t l.e)
+    × (l.directionless ≡ sum l.e (edge_directionless (as_halfedges l.h) l.pos (is_inside_quad (as_halfedges l.h) l.refs l.initial.t false)))
 
 abbrev pub decreases-loop-e : goal.decreases-loop-e
 decreases-loop-e l = l.n - l.e

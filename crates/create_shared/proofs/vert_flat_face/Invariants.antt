@@ -2,15 +2,15 @@
 use Prim.Native.Nat.{ℕ, ◌-◌, ◌≤◌, ◌<◌}
 use mathlib.Core.Path.{◌≡◌}
 use lib.ListN.{length, get_or}
-use Rattle.common.specs.Fold.{foldTo}
-use Rattle.create_shared.specs.Faces.{isFlat, vertFaceAt}
-use Rattle.create_shared.specs.Lent.{faceOf}
+use Rattle.common.specs.Fold.{fold_to}
+use Rattle.create_shared.specs.Faces.{is_flat, vert_face_at}
+use Rattle.create_shared.specs.Lent.{face_of}
 use Rattle.create_shared.specs.declared.FlatFace.TheVariants.{NoFace}
-use Rattle.mesh.specs.Mesh.{asHalfedges}
+use Rattle.mesh.specs.Mesh.{as_halfedges}
 use Rattle.create_shared.proofs.vert_flat_face.Given as goal
 
 abbrev pub invariant-loop-e : goal.invariant-loop-e
-invariant-loop-e l = (l.e ≤ length l.flat) × ((v : ℕ) → v < length l.initial.at → faceOf (get_or l.at v 0) ≡ foldTo (vertFaceAt (asHalfedges l.h) l.refs (isFlat l.flat) v) NoFace l.e)
+invariant-loop-e l = (l.e ≤ length l.flat) × ((v : ℕ) → v < length l.initial.at → face_of (get_or l.at v 0) ≡ fold_to (vert_face_at (as_halfedges l.h) l.refs (is_flat l.flat) v) NoFace l.e)
 
 abbrev pub decreases-loop-e : goal.decreases-loop-e
 decreases-loop-e l = length l.flat - l.e

@@ -2,13 +2,13 @@
 use Prim.Native.Nat.{ℕ, ◌-◌, ◌≤◌, ◌<◌}
 use mathlib.Core.Path.{◌≡◌}
 use lib.ListN.{length, get_or}
-use Rattle.mesh.specs.Mesh.{asHalfedges}
-use Rattle.mesh.specs.Lowest.{lowestFrom}
-use Rattle.create_shared.specs.Faces.{startsElsewhere}
+use Rattle.mesh.specs.Mesh.{as_halfedges}
+use Rattle.mesh.specs.Lowest.{lowest_from}
+use Rattle.create_shared.specs.Faces.{starts_elsewhere}
 use Rattle.create_shared.proofs.vert_halfedge.Given as goal
 
 abbrev pub invariant-loop-e : goal.invariant-loop-e
-invariant-loop-e l = (l.e ≤ l.n) × ((v : ℕ) → v < length l.initial.at → get_or l.at v 0 ≡ lowestFrom (startsElsewhere (asHalfedges l.h) v) (l.n - l.e) l.e)
+invariant-loop-e l = (l.e ≤ l.n) × ((v : ℕ) → v < length l.initial.at → get_or l.at v 0 ≡ lowest_from (starts_elsewhere (as_halfedges l.h) v) (l.n - l.e) l.e)
 
 abbrev pub decreases-loop-e : goal.decreases-loop-e
 decreases-loop-e l = l.e

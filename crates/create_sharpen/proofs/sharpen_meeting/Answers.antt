@@ -1,36 +1,36 @@
 -- `create_sharpen::sharpen_meeting` meets its contract: a walk once round a vertex cycle. The invariant: what is left of the fold gives the whole. Assumes nothing.
-use Rattle.mesh.specs.Mesh.{asHalfedges}
-use Rattle.create_sharpen.specs.Sharpen.{sharpenMeetingAt, sharpenMeeting}
-use Rattle.cycles.proofs.Around.{next-permutes}
-use Rattle.cycles.proofs.Loops.{around-start, around-step, around-less, around-fold-step, around-fold-stop}
-use Rattle.create_shared.specs.Faces.{isFlat}
+use Rattle.mesh.specs.Mesh.{as_halfedges}
+use Rattle.create_sharpen.specs.Sharpen.{sharpen_meeting_at, sharpen_meeting}
+use Rattle.cycles.proofs.Around.{next_permutes}
+use Rattle.cycles.proofs.Loops.{around_start, around_step, around_less, around_fold_step, around_fold_stop}
+use Rattle.create_shared.specs.Faces.{is_flat}
 use native.Mathlib.Nat.{le_refl}
 use mathlib.Core.Path.{refl, ◌∙◌}
 use Rattle.create_sharpen.proofs.sharpen_meeting.Goals as goal
 
 pub loop-current-init : goal.loop-current-init
 loop-current-init c =
-    let pre = c.requires in (around-start (next-permutes pre.1.tangents.sound) (le_refl _) pre.0, refl, refl)
+    let pre = c.requires in (around_start (next_permutes pre.1.tangents.sound) (le_refl _) pre.0, refl, refl)
 
 pub loop-current-smaller : goal.loop-current-smaller
 loop-current-smaller c =
-    around-less (next-permutes c.requires.1.tangents.sound) c.loop-current.invariant.0 c.next_around-current.ensures c.if-current-first.false
+    around_less (next_permutes c.requires.1.tangents.sound) c.loop-current.invariant.0 c.next_around-current.ensures c.if-current-first.false
 
 pub loop-current-preserved : goal.loop-current-preserved
 loop-current-preserved c =
     let m = c.sharpen_meeting_at in
     let l = c.loop-current in
     let a = c.args in
-    let Q = next-permutes c.requires.1.tangents.sound in (
-      around-step Q l.invariant.0 c.next_around-current.ensures c.if-current-first.false,
+    let Q = next_permutes c.requires.1.tangents.sound in (
+      around_step Q l.invariant.0 c.next_around-current.ensures c.if-current-first.false,
       m.auto.t ∙ l.invariant.1,
-      around-fold-step Q l.invariant.0 c.next_around-current.ensures (sharpenMeetingAt (asHalfedges a.h.now) (isFlat a.flat.now) a.mean) l.t l.invariant.2 m.ensures c.if-current-first.false,
+      around_fold_step Q l.invariant.0 c.next_around-current.ensures (sharpen_meeting_at (as_halfedges a.h.now) (is_flat a.flat.now) a.mean) l.t l.invariant.2 m.ensures c.if-current-first.false,
     )
 
 pub returns : goal.returns
-unfolding sharpenMeeting
+unfolding sharpen_meeting
 returns c =
     let m = c.sharpen_meeting_at in
     let l = c.loop-current in
     let a = c.args in
-    around-fold-stop (next-permutes c.requires.1.tangents.sound) l.invariant.0 c.next_around-current.ensures (sharpenMeetingAt (asHalfedges a.h.now) (isFlat a.flat.now) a.mean) l.t l.invariant.2 m.ensures c.if-current-first.true
+    around_fold_stop (next_permutes c.requires.1.tangents.sound) l.invariant.0 c.next_around-current.ensures (sharpen_meeting_at (as_halfedges a.h.now) (is_flat a.flat.now) a.mean) l.t l.invariant.2 m.ensures c.if-current-first.true

@@ -1,10 +1,10 @@
 -- `create_sharpen::sharpen_sides` meets its contract: a walk once round a vertex cycle. The invariant: what is left of the fold gives the whole. Assumes nothing.
-use Rattle.mesh.specs.Mesh.{asHalfedges}
-use Rattle.create_sharpen.specs.Sharpen.{sidesOf, sharpenSide}
+use Rattle.mesh.specs.Mesh.{as_halfedges}
+use Rattle.create_sharpen.specs.Sharpen.{sides_of, sharpen_side}
 use Rattle.cycles.proofs.Loops.{Walking}
-use Rattle.cycles.proofs.Paths.{isAt, stepsLeft}
-use Rattle.cycles.specs.Cycles.{nextAround, vertexCycle}
-use Rattle.cycles.specs.Walk.{cycleFrom}
+use Rattle.cycles.proofs.Paths.{is_at, steps_left}
+use Rattle.cycles.specs.Cycles.{next_around, vertex_cycle}
+use Rattle.cycles.specs.Walk.{cycle_from}
 use lib.ListN.{length}
 use mathlib.Core.List.{foldl}
 use mathlib.Core.Path.{◌≡◌}
@@ -12,8 +12,8 @@ use Rattle.create_sharpen.proofs.sharpen_sides.Given as goal
 
 abbrev pub invariant-loop-current : goal.invariant-loop-current
 invariant-loop-current l =
-    Walking (nextAround (asHalfedges l.h)) l.n (isAt l.first) l.n l.first l.current × (length l.t ≡ length l.initial.t)
-    × (foldl (sharpenSide l.first l.second l.beyond) (sidesOf l.t l.s) (cycleFrom (nextAround (asHalfedges l.h)) l.n l.first l.current) ≡ foldl (sharpenSide l.first l.second l.beyond) (sidesOf l.initial.t l.between) (vertexCycle (asHalfedges l.h) l.n l.first))
+    Walking (next_around (as_halfedges l.h)) l.n (is_at l.first) l.n l.first l.current × (length l.t ≡ length l.initial.t)
+    × (foldl (sharpen_side l.first l.second l.beyond) (sides_of l.t l.s) (cycle_from (next_around (as_halfedges l.h)) l.n l.first l.current) ≡ foldl (sharpen_side l.first l.second l.beyond) (sides_of l.initial.t l.between) (vertex_cycle (as_halfedges l.h) l.n l.first))
 
 abbrev pub decreases-loop-current : goal.decreases-loop-current
-decreases-loop-current l = stepsLeft (nextAround (asHalfedges l.h)) (isAt l.first) l.n l.current
+decreases-loop-current l = steps_left (next_around (as_halfedges l.h)) (is_at l.first) l.n l.current

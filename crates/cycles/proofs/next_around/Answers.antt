@@ -1,8 +1,8 @@
 -- `cycles::next_around` meets its contract.
-use Rattle.cycles.specs.Cycles.{nextAround}
+use Rattle.cycles.specs.Cycles.{next_around}
 use Rattle.cycles.proofs.next_around.Goals as goal
 
 pub returns : goal.returns
-unfolding nextAround
+unfolding next_around
 returns c =
     cc

@@ -1,8 +1,8 @@
 -- `cycles::prev_around` meets its contract.
-use Rattle.cycles.specs.Cycles.{prevAround}
+use Rattle.cycles.specs.Cycles.{prev_around}
 use Rattle.cycles.proofs.prev_around.Goals as goal
 
 pub returns : goal.returns
-unfolding prevAround
+unfolding prev_around
 returns c =
     cc

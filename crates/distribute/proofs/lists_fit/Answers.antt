@@ -1,9 +1,9 @@
 -- `distribute::lists_fit` meets its contract.
-use Rattle.mesh.specs.Mesh.{asHalfedges}
+use Rattle.mesh.specs.Mesh.{as_halfedges}
 use Rattle.distribute.proofs.lists_fit.Goals as goal
 
 pub returns : goal.returns
-unfolding asHalfedges
+unfolding as_halfedges
 returns c =
     rw (
       c.has_length-5.ensures,

@@ -2,12 +2,12 @@
 use mathlib.Core.List.{List}
 use Prim.Native.Nat.{ℕ, suc}
 use lib.Ieee.{Float}
-use Rattle.mesh.specs.Mesh.{asHalfedges}
+use Rattle.mesh.specs.Mesh.{as_halfedges}
 use Rattle.mesh.specs.Sound.{Sound}
-use Rattle.cycles.specs.Cycles.{nextAround}
-use Rattle.cycles.proofs.Paths.{stepsLeft}
-use Rattle.distribute_steps.specs.FloatSteps.{isFixed}
-use Rattle.distribute_steps.specs.Scratch.{planOf}
+use Rattle.cycles.specs.Cycles.{next_around}
+use Rattle.cycles.proofs.Paths.{steps_left}
+use Rattle.distribute_steps.specs.FloatSteps.{is_fixed}
+use Rattle.distribute_steps.specs.Scratch.{plan_of}
 use Rattle.distribute_walks.specs.declared.Counts.{Counts}
 use Rattle.distribute_walks.proofs.Lawful.{lawful}
 use Rattle.distribute_walks.proofs.Bodies.{SecondGoing}
@@ -15,9 +15,9 @@ use Rattle.distribute_walks.proofs.second_walk.Given as goal
 
 abbrev pub invariant-walk : goal.invariant-walk
 invariant-walk l =
-    (s : Sound (asHalfedges l.h) l.n l.p)
+    (s : Sound (as_halfedges l.h) l.n l.p)
     × ((P N : List Float) (k : Counts) (places : List ℕ)
-    → SecondGoing (lawful s P N l.fixed) l.initial.t l.start l.by.count (planOf l.current l.initial.desired l.by 0) l.t l.here l.i (planOf l.current l.desired l.by l.i) k places)
+    → SecondGoing (lawful s P N l.fixed) l.initial.t l.start l.by.count (plan_of l.current l.initial.desired l.by 0) l.t l.here l.i (plan_of l.current l.desired l.by l.i) k places)
 
 abbrev pub decreases-walk : goal.decreases-walk
-decreases-walk l = stepsLeft (nextAround (asHalfedges l.h)) (isFixed l.fixed) (suc l.n) l.here
+decreases-walk l = steps_left (next_around (as_halfedges l.h)) (is_fixed l.fixed) (suc l.n) l.here

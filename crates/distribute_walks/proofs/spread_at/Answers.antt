@@ -2,19 +2,19 @@
 use native.Mathlib.Omega.{arith}
 use mathlib.Core.Path.{sym, ap, ◌∙◌}
 use lib.Seq.{length-take-le}
-use Rattle.distribute_steps.proofs.Angles.{turns-none-of}
-use Rattle.distribute_walks.proofs.Lawful.{angleCount}
-use Rattle.distribute_walks.proofs.Starts.{at-none, at-first, at-both}
+use Rattle.distribute_steps.proofs.Angles.{turns_none_of}
+use Rattle.distribute_walks.proofs.Lawful.{angle_count}
+use Rattle.distribute_walks.proofs.Starts.{at_none, at_first, at_both}
 use Rattle.distribute_walks.proofs.spread_at.Goals as goal
 
 pub returns-then-not-is_start-clause-gives : goal.returns-then-not-is_start-clause-gives
-returns-then-not-is_start-clause-gives c = at-none _ _ _ _ (sym c.is_start.ensures ∙ c.if-not-is_start.true)
+returns-then-not-is_start-clause-gives c = at_none _ _ _ _ (sym c.is_start.ensures ∙ c.if-not-is_start.true)
 
 pub returns-then-turns_none-clause-gives : goal.returns-then-turns_none-clause-gives
 returns-then-turns_none-clause-gives c =
     let f = c.first_walk-ended in
-    at-first _ _ _ _ (sym c.is_start.ensures ∙ c.if-not-is_start.false) _ f.ensures.result_after
-    (turns-none-of _ _ _ (omega (arith, f.ensures.looked_bound.1, f.auto.current, c.requires.lists.current)) c.turns_none.ensures c.if-turns_none.true)
+    at_first _ _ _ _ (sym c.is_start.ensures ∙ c.if-not-is_start.false) _ f.ensures.result_after
+    (turns_none_of _ _ _ (omega (arith, f.ensures.looked_bound.1, f.auto.current, c.requires.lists.current)) c.turns_none.ensures c.if-turns_none.true)
 
 pub second_walk-turned-requires : goal.second_walk-turned-requires
 second_walk-turned-requires c =
@@ -27,19 +27,19 @@ second_walk-turned-requires c =
       whole = p.whole;
       flags = p.flags;
       tangents = p.tangents;
-      current-in = omega (arith, q, f.ensures.looked_bound.1, f.auto.current, p.current);
-      desired-in = omega (arith, q, f.ensures.looked_bound.1, f.auto.desired, p.desired);
-      start-below = c.requires.start_lt_n.0;
-      start-is = sym c.is_start.ensures ∙ c.if-not-is_start.false;
+      current_in = omega (arith, q, f.ensures.looked_bound.1, f.auto.current, p.current);
+      desired_in = omega (arith, q, f.ensures.looked_bound.1, f.auto.desired, p.desired);
+      start_below = c.requires.start_lt_n.0;
+      start_is = sym c.is_start.ensures ∙ c.if-not-is_start.false;
       positions = a.pos.now;
       normals = a.normals.now;
       looked = a.counts.looked;
-      angles = q ∙ sym (length-take-le _ _ (omega (arith, f.ensures.looked_bound.1, f.auto.desired, p.desired))) ∙ ap (λ x. angleCount x.gathered) f.ensures.result_after;
+      angles = q ∙ sym (length-take-le _ _ (omega (arith, f.ensures.looked_bound.1, f.auto.desired, p.desired))) ∙ ap (λ x. angle_count x.gathered) f.ensures.result_after;
     }
 
 pub returns-clause-gives : goal.returns-clause-gives
 returns-clause-gives c =
     let f = c.first_walk-ended in
-    at-both _ _ _ _ (sym c.is_start.ensures ∙ c.if-not-is_start.false) _ f.ensures.result_after
-    (turns-none-of _ _ _ (omega (arith, f.ensures.looked_bound.1, f.auto.current, c.requires.lists.current)) c.turns_none.ensures c.if-turns_none.false) c.plan-by.ensures.result_value
+    at_both _ _ _ _ (sym c.is_start.ensures ∙ c.if-not-is_start.false) _ f.ensures.result_after
+    (turns_none_of _ _ _ (omega (arith, f.ensures.looked_bound.1, f.auto.current, c.requires.lists.current)) c.turns_none.ensures c.if-turns_none.false) c.plan-by.ensures.result_value
     (c.second_walk-turned.ensures.0 c.args.pos.now c.args.normals.now (record { looked = f.result.looked; turned = c.args.counts.turned }))

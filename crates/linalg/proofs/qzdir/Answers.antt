@@ -1,9 +1,9 @@
 -- `linalg::qzdir` meets its contract: the code is the definition. Assumes nothing.
 use mathlib.Core.Path.{refl}
-use Rattle.linalg.specs.Vec.{qzdirOf}
+use Rattle.linalg.specs.Vec.{qzdir_of}
 use Rattle.linalg.proofs.qzdir.Goals as goal
 
 pub returns : goal.returns
-unfolding qzdirOf
+unfolding qzdir_of
 returns c =
     refl

@@ -1,16 +1,16 @@
 -- `linearize::linearize_at` meets its contract: each way is what the tests pick. Assumes nothing.
 use mathlib.Core.Path.{sym, ◌∙◌}
-use Rattle.linearize.specs.Linearize.{linearizeAt}
-use Rattle.linearize.proofs.Laws.{end-unflat, other-end}
+use Rattle.linearize.specs.Linearize.{linearize_at}
+use Rattle.linearize.proofs.Laws.{end_unflat, other_end}
 use Rattle.linearize.proofs.linearize_at.Goals as goal
 
 pub returns-then-not-is_forward : goal.returns-then-not-is_forward
-unfolding linearizeAt
+unfolding linearize_at
 returns-then-not-is_forward c =
     simp (← c.is_forward.ensures, c.if-not-is_forward.true)
 
 pub returns-then-is_flat : goal.returns-then-is_flat
-unfolding linearizeAt
+unfolding linearize_at
 returns-then-is_flat c =
     simp (
       ← c.is_forward.ensures,
@@ -23,7 +23,7 @@ returns-then-is_flat c =
     c.linearize_edge.ensures
 
 pub returns-then-not-is_flat : goal.returns-then-not-is_flat
-unfolding linearizeAt
+unfolding linearize_at
 returns-then-not-is_flat c =
     simp (
       ← c.is_forward.ensures,
@@ -32,10 +32,10 @@ returns-then-not-is_flat c =
       ← c.tangent_at-tangent.ensures,
       ← c.tangent_at-other.ensures,
     )
-    (sym (other-end _ _ _ _ _ _ (sym c.is_flat.ensures ∙ c.if-is_flat.false) ∙ end-unflat _ _ _ _ _ (sym c.is_flat-2.ensures ∙ c.if-not-is_flat.true)))
+    (sym (other_end _ _ _ _ _ _ (sym c.is_flat.ensures ∙ c.if-is_flat.false) ∙ end_unflat _ _ _ _ _ (sym c.is_flat-2.ensures ∙ c.if-not-is_flat.true)))
 
 pub returns : goal.returns
-unfolding linearizeAt
+unfolding linearize_at
 returns c =
     simp (
       ← c.is_forward.ensures,
@@ -45,4 +45,4 @@ returns c =
       ← c.tangent_at-other.ensures,
       ← c.edge_vec-edge-2.ensures,
     )
-    (rw c.neg.ensures at c.linearize_end.ensures ∙ sym (other-end _ _ _ _ _ _ (sym c.is_flat.ensures ∙ c.if-is_flat.false)))
+    (rw c.neg.ensures at c.linearize_end.ensures ∙ sym (other_end _ _ _ _ _ _ (sym c.is_flat.ensures ∙ c.if-is_flat.false)))

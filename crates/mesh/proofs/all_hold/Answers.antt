@@ -3,28 +3,28 @@ use Prim.Native.Nat.{◌/◌}
 use mathlib.Core.Path.{◌≡◌, refl, sym, ◌∙◌}
 use mathlib.Core.Bool.{true}
 use lib.ListN.{length}
-use Rattle.mesh.specs.Mesh.{halfedgeStride}
-use Rattle.mesh.specs.Questions.{hasLength}
-use Rattle.mesh.proofs.Search.{search-start, search-on, search-no, search-all}
+use Rattle.mesh.specs.Mesh.{halfedge_stride}
+use Rattle.mesh.specs.Questions.{has_length}
+use Rattle.mesh.proofs.Search.{search_start, search_on, search_no, search_all}
 use Rattle.mesh.proofs.all_hold.Goals as goal
 
 pub loop-t-init : goal.loop-t-init
 loop-t-init c =
-    search-start _ (c.args.n / 3)
+    search_start _ (c.args.n / 3)
 
 pub returns-then-not-triangle_holds : goal.returns-then-not-triangle_holds
 returns-then-not-triangle_holds c =
-    let fits : hasLength (length c.args.h.now) c.args.n halfedgeStride ≡ true = sym c.has_length.ensures ∙ c.if-not-has_length.false in
+    let fits : has_length (length c.args.h.now) c.args.n halfedge_stride ≡ true = sym c.has_length.ensures ∙ c.if-not-has_length.false in
     rw fits
-    (search-no _ _ c.loop-t.t c.loop-t.invariant c.loop-t-test.true c.if-not-triangle_holds.ensures refl)
+    (search_no _ _ c.loop-t.t c.loop-t.invariant c.loop-t-test.true c.if-not-triangle_holds.ensures refl)
 
 pub loop-t-preserved : goal.loop-t-preserved
 loop-t-preserved c =
     let l = c.loop-t in
-    search-on _ _ l.t c.loop-t-test.true c.if-not-triangle_holds.ensures refl l.invariant
+    search_on _ _ l.t c.loop-t-test.true c.if-not-triangle_holds.ensures refl l.invariant
 
 pub returns : goal.returns
 returns c =
-    let fits : hasLength (length c.args.h.now) c.args.n halfedgeStride ≡ true = sym c.has_length.ensures ∙ c.if-not-has_length.false in
+    let fits : has_length (length c.args.h.now) c.args.n halfedge_stride ≡ true = sym c.has_length.ensures ∙ c.if-not-has_length.false in
     rw fits
-    (search-all _ _ c.loop-t.t c.loop-t.invariant c.loop-t-test.false)
+    (search_all _ _ c.loop-t.t c.loop-t.invariant c.loop-t-test.false)

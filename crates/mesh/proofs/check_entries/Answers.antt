@@ -1,8 +1,8 @@
 -- `mesh::check_entries` meets its contract.
-use Rattle.mesh.specs.Check.{checkEntries}
+use Rattle.mesh.specs.Check.{check_entries}
 use Rattle.mesh.proofs.check_entries.Goals as goal
 
 pub returns : goal.returns
-unfolding checkEntries
+unfolding check_entries
 returns c =
     rw c.ask-named.ensures at c.ask.ensures

@@ -1,8 +1,8 @@
 -- `mesh::check_rows` meets its contract.
-use Rattle.mesh.specs.Check.{checkRows}
+use Rattle.mesh.specs.Check.{check_rows}
 use Rattle.mesh.proofs.check_rows.Goals as goal
 
 pub returns : goal.returns
-unfolding checkRows
+unfolding check_rows
 returns c =
     c.ask_numbers.ensures

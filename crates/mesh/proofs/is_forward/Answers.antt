@@ -4,35 +4,35 @@ use native.Mathlib.Omega.{arith}
 use mathlib.Core.Path.{◌≡◌}
 use lib.ListN.{get_or}
 use lib.IntN.{pos}
-use Rattle.mesh.specs.Mesh.{halfedgeStride, numberAt, field, asHalfedges}
-use Rattle.mesh.proofs.Accepted.{inside-list}
-use Rattle.mesh.proofs.Signed.{read, index-order}
+use Rattle.mesh.specs.Mesh.{halfedge_stride, number_at, field, as_halfedges}
+use Rattle.mesh.proofs.Accepted.{inside_list}
+use Rattle.mesh.proofs.Signed.{read, index_order}
 use Rattle.mesh.proofs.is_forward.Goals as goal
 
 pub overflow_mul-at : goal.overflow_mul-at
-overflow_mul-at c = omega (arith, inside-list _ _ c.requires)
+overflow_mul-at c = omega (arith, inside_list _ _ c.requires)
 
 pub offset_bounds-h-at : goal.offset_bounds-h-at
-offset_bounds-h-at c = omega (arith, inside-list _ _ c.requires)
+offset_bounds-h-at c = omega (arith, inside_list _ _ c.requires)
 
 pub bounds-h-at : goal.bounds-h-at
-bounds-h-at c = omega (arith, inside-list _ _ c.requires)
+bounds-h-at c = omega (arith, inside_list _ _ c.requires)
 
 pub overflow_add-result : goal.overflow_add-result
-overflow_add-result c = omega (arith, inside-list _ _ c.requires)
+overflow_add-result c = omega (arith, inside_list _ _ c.requires)
 
 pub offset_bounds-h-at-2 : goal.offset_bounds-h-at-2
-offset_bounds-h-at-2 c = omega (arith, inside-list _ _ c.requires)
+offset_bounds-h-at-2 c = omega (arith, inside_list _ _ c.requires)
 
 pub bounds-h-at-2 : goal.bounds-h-at-2
-bounds-h-at-2 c = omega (arith, inside-list _ _ c.requires)
+bounds-h-at-2 c = omega (arith, inside_list _ _ c.requires)
 
 -- the two numbers, neither negative, stand in the order of the indices
 pub returns : goal.returns
-unfolding asHalfedges field numberAt
+unfolding as_halfedges field number_at
 returns c =
     let e = c.args.e in
     let list = c.args.h.now in
-    let first : e * halfedgeStride + 0 ≡ e * halfedgeStride = omega arith in
-    rw (first, read (get_or list (e * halfedgeStride) (pos 0)) (omega arith), read (get_or list (e * halfedgeStride + 1) (pos 0)) (omega arith))
-    (rw first at (index-order (numberAt list e halfedgeStride 0) (numberAt list e halfedgeStride 1) c.requires.start-index c.requires.end-index))
+    let first : e * halfedge_stride + 0 ≡ e * halfedge_stride = omega arith in
+    rw (first, read (get_or list (e * halfedge_stride) (pos 0)) (omega arith), read (get_or list (e * halfedge_stride + 1) (pos 0)) (omega arith))
+    (rw first at (index_order (number_at list e halfedge_stride 0) (number_at list e halfedge_stride 1) c.requires.start_index c.requires.end_index))

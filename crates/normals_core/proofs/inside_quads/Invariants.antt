@@ -2,14 +2,14 @@
 use Prim.Native.Nat.{◌≤◌, ◌-◌}
 use mathlib.Core.Path.{◌≡◌}
 use lib.ListN.{length}
-use Rattle.common.specs.Fold.{foldTo}
-use Rattle.mesh.specs.Mesh.{asHalfedges}
-use Rattle.normals_core.specs.Flags.{insideQuadStep}
+use Rattle.common.specs.Fold.{fold_to}
+use Rattle.mesh.specs.Mesh.{as_halfedges}
+use Rattle.normals_core.specs.Flags.{inside_quad_step}
 use Rattle.normals_core.proofs.inside_quads.Given as goal
 
 abbrev pub invariant-loop-e : goal.invariant-loop-e
 invariant-loop-e l =
-    (l.e ≤ l.n) × (length l.inside ≡ length l.initial.inside) × (l.inside ≡ foldTo (insideQuadStep (asHalfedges l.h) l.refs l.t l.old) l.initial.inside l.e)
+    (l.e ≤ l.n) × (length l.inside ≡ length l.initial.inside) × (l.inside ≡ fold_to (inside_quad_step (as_halfedges l.h) l.refs l.t l.old) l.initial.inside l.e)
 
 abbrev pub decreases-loop-e : goal.decreases-loop-e
 decreases-loop-e l = l.n - l.e

@@ -2,22 +2,22 @@
 use Prim.Native.Nat.{◌/◌}
 use native.Mathlib.Omega.{arith}
 use mathlib.Core.Path.{◌≡◌, refl, sym, ◌∙◌}
-use Rattle.common.proofs.Fold.{fold-none, fold-next}
-use Rattle.normals_state.specs.Units.{putUnits}
+use Rattle.common.proofs.Fold.{fold_none, fold_next}
+use Rattle.normals_state.specs.Units.{put_units}
 use Rattle.normals_state.proofs.put_units.Goals as goal
 
 pub loop-t-init : goal.loop-t-init
 loop-t-init c =
-    (omega arith, refl, sym (fold-none _ _))
+    (omega arith, refl, sym (fold_none _ _))
 
 pub loop-t-preserved : goal.loop-t-preserved
 loop-t-preserved c =
     let l = c.loop-t in
     let m = c.put_unit in
-    (omega arith, m.auto.units ∙ l.invariant.1, m.ensures ∙ rw l.invariant.2 (sym (fold-next _ _ l.t)))
+    (omega arith, m.auto.units ∙ l.invariant.1, m.ensures ∙ rw l.invariant.2 (sym (fold_next _ _ l.t)))
 
 pub returns : goal.returns
-unfolding putUnits
+unfolding put_units
 returns c =
     let l = c.loop-t in
     let q : l.t ≡ c.args.n / 3 = omega arith in

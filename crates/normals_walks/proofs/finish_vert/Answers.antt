@@ -1,51 +1,51 @@
 -- `normals_walks::finish_vert` meets its contract: each way is what the test picks. Assumes nothing.
 use native.Mathlib.Omega.{arith}
-use Rattle.mesh.specs.Mesh.{asHalfedges}
-use Rattle.normals_state.specs.State.{getNormal}
-use Rattle.normals_steps.proofs.Counts.{face-edges-two}
-use Rattle.normals_walks.specs.Walks.{finishVert, finishVertDirectionless}
-use Rattle.normals_walks.proofs.Lent.{faces-lists, making-in}
-use Rattle.normals_walks.proofs.Bound.{fill-missing-few}
+use Rattle.mesh.specs.Mesh.{as_halfedges}
+use Rattle.normals_state.specs.State.{get_normal}
+use Rattle.normals_steps.proofs.Counts.{face_edges_two}
+use Rattle.normals_walks.specs.Walks.{finish_vert, finish_vert_directionless}
+use Rattle.normals_walks.proofs.Lent.{faces_lists, making_in}
+use Rattle.normals_walks.proofs.Bound.{fill_missing_few}
 use Rattle.normals_walks.proofs.finish_vert.Goals as goal
 
 pub vert_normal_walk-requires : goal.vert_normal_walk-requires
 vert_normal_walk-requires c =
-    let p = c.requires in (p.0, faces-lists p.3)
+    let p = c.requires in (p.0, faces_lists p.3)
 
 pub returns-then-both-clause-tangents : goal.returns-then-both-clause-tangents
-unfolding finishVert
+unfolding finish_vert
 returns-then-both-clause-tangents c =
     simp (← c.some_missing.ensures, ← c.is_zero.ensures, ← c.both.ensures, c.if-both.true, ← c.point_at-normal.ensures, ← c.vert_normal_walk.ensures.tangents)
 
 pub returns-then-both-clause-directionless : goal.returns-then-both-clause-directionless
-unfolding finishVertDirectionless
+unfolding finish_vert_directionless
 returns-then-both-clause-directionless c =
     simp (← c.some_missing.ensures, ← c.is_zero.ensures, ← c.both.ensures, c.if-both.true, ← c.point_at-normal.ensures) c.vert_normal_walk.ensures.directionless
 
 pub align_face_edges-aligned-requires : goal.align_face_edges-aligned-requires
 align_face_edges-aligned-requires c =
-    let p = c.requires in (p.2.face-edges, making-in p.3 c.fill_missing-filled.auto.t p.4)
+    let p = c.requires in (p.2.face_edges, making_in p.3 c.fill_missing-filled.auto.t p.4)
 
 pub overflow_add-result : goal.overflow_add-result
 overflow_add-result c =
     let a = c.args in
     let p = c.requires in
-    let H = asHalfedges a.h.now in
+    let H = as_halfedges a.h.now in
     omega (
       arith,
       c.fill_missing-filled.ensures.directionless,
-      fill-missing-few p.3.state.missing.sound a.pos.now a.normals.now a.face_normals.now (getNormal a.h.now a.rows.now) a.state.last_normal a.t.now a.state.start_halfedge p.2.start-halfedge,
+      fill_missing_few p.3.state.missing.sound a.pos.now a.normals.now a.face_normals.now (get_normal a.h.now a.rows.now) a.state.last_normal a.t.now a.state.start_halfedge p.2.start_halfedge,
       c.align_face_edges-aligned.ensures.directionless,
-      face-edges-two H a.pos.now a.state.face_edges,
+      face_edges_two H a.pos.now a.state.face_edges,
       p.3.tangents,
     )
 
 pub returns-clause-tangents : goal.returns-clause-tangents
-unfolding finishVert
+unfolding finish_vert
 returns-clause-tangents c =
     simp (← c.some_missing.ensures, ← c.is_zero.ensures, ← c.both.ensures, c.if-both.false, ← c.fill_missing-filled.ensures.tangents) c.align_face_edges-aligned.ensures.tangents
 
 pub returns-clause-directionless : goal.returns-clause-directionless
-unfolding finishVertDirectionless
+unfolding finish_vert_directionless
 returns-clause-directionless c =
     simp (← c.some_missing.ensures, ← c.is_zero.ensures, ← c.both.ensures, c.if-both.false, ← c.fill_missing-filled.ensures.directionless, ← c.align_face_edges-aligned.ensures.directionless)

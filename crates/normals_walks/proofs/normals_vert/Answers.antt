@@ -1,64 +1,64 @@
 -- `normals_walks::normals_vert` meets its contract: a test, then two calls in a row. Assumes nothing.
 use native.Mathlib.Omega.{arith}
-use Rattle.common.proofs.Count.{count-within}
-use Rattle.mesh.specs.Mesh.{asHalfedges}
-use Rattle.cycles.proofs.Starts.{startsAt}
-use Rattle.create_shared.specs.Makings.{tangentsOf}
-use Rattle.normals_state.specs.State.{getNormal}
+use Rattle.common.proofs.Count.{count_within}
+use Rattle.mesh.specs.Mesh.{as_halfedges}
+use Rattle.cycles.proofs.Starts.{starts_at}
+use Rattle.create_shared.specs.Makings.{tangents_of}
+use Rattle.normals_state.specs.State.{get_normal}
 use Rattle.normals_steps.specs.Steps.{Walk}
-use Rattle.normals_steps.specs.Carried.{isInside}
-use Rattle.normals_walks.specs.Walks.{normalsVert, normalsVertDirectionless, finishVertDirectionless}
-use Rattle.normals_walks.proofs.Lent.{step-in, point-in, starts-there}
-use Rattle.normals_walks.proofs.Bound.{point-within}
-use Rattle.normals_steps.proofs.Lent.{normals-still}
+use Rattle.normals_steps.specs.Carried.{is_inside}
+use Rattle.normals_walks.specs.Walks.{normals_vert, normals_vert_directionless, finish_vert_directionless}
+use Rattle.normals_walks.proofs.Lent.{step_in, point_in, starts_there}
+use Rattle.normals_walks.proofs.Bound.{point_within}
+use Rattle.normals_steps.proofs.Lent.{normals_still}
 use borrow.Author.Tests.{lt-ltb, le-ltb}
 use lib.ListN.{get_or}
 use mathlib.Core.Path.{ap, ◌∙◌}
 use Rattle.normals_walks.proofs.normals_vert.Goals as goal
 
 pub returns-then-e-n-clause-tangents : goal.returns-then-e-n-clause-tangents
-unfolding normalsVert
+unfolding normals_vert
 returns-then-e-n-clause-tangents c =
-    simp (← c.requires.1.vert-halfedge c.args.v c.requires.0, le-ltb _ _ c.if-e-n.true)
+    simp (← c.requires.1.vert_halfedge c.args.v c.requires.0, le-ltb _ _ c.if-e-n.true)
 
 pub returns-then-e-n-clause-directionless : goal.returns-then-e-n-clause-directionless
-unfolding normalsVertDirectionless
+unfolding normals_vert_directionless
 returns-then-e-n-clause-directionless c =
-    simp (← c.requires.1.vert-halfedge c.args.v c.requires.0, le-ltb _ _ c.if-e-n.true)
+    simp (← c.requires.1.vert_halfedge c.args.v c.requires.0, le-ltb _ _ c.if-e-n.true)
 
 pub normal_walk-walk-requires : goal.normal_walk-walk-requires
 normal_walk-walk-requires c =
-    (c.if-e-n.false, step-in c.requires.1)
+    (c.if-e-n.false, step_in c.requires.1)
 
 pub finish_vert-finish-requires : goal.finish_vert-finish-requires
 finish_vert-finish-requires c =
     let p = c.requires in
     let m = c.normal_walk-walk in
-    (c.if-e-n.false, point-in p.1 p.0, m.ensures.state_in, normals-still m.auto.t (step-in p.1).lists, m.auto.fixed ∙ p.1.fixed)
+    (c.if-e-n.false, point_in p.1 p.0, m.ensures.state_in, normals_still m.auto.t (step_in p.1).lists, m.auto.fixed ∙ p.1.fixed)
 
 pub overflow_add-result : goal.overflow_add-result
 overflow_add-result c =
     let a = c.args in
     let p = c.requires in
     let m = c.normal_walk-walk.ensures in
-    let N = getNormal a.h.now a.rows.now in
+    let N = get_normal a.h.now a.rows.now in
     let e = get_or a.vert_halfedge.now a.v 0 in
-    let finish = c.finish_vert-finish.ensures.directionless ∙ ap (λ (w : Walk). finishVertDirectionless (asHalfedges a.h.now) a.pos.now a.normals.now a.face_normals.now N a.n w a.v e) m.state in
+    let finish = c.finish_vert-finish.ensures.directionless ∙ ap (λ (w : Walk). finish_vert_directionless (as_halfedges a.h.now) a.pos.now a.normals.now a.face_normals.now N a.n w a.v e) m.state in
     omega (
       arith,
       m.directionless,
       finish,
-      point-within p.1.sound a.pos.now a.normals.now a.face_normals.now N c.if-e-n.false (starts-there p.1 p.0 c.if-e-n.false) (isInside a.inside.now) (tangentsOf a.t.now a.fixed.now),
-      count-within (startsAt (asHalfedges a.h.now) a.v) a.n,
+      point_within p.1.sound a.pos.now a.normals.now a.face_normals.now N c.if-e-n.false (starts_there p.1 p.0 c.if-e-n.false) (is_inside a.inside.now) (tangents_of a.t.now a.fixed.now),
+      count_within (starts_at (as_halfedges a.h.now) a.v) a.n,
       p.1.tangents,
     )
 
 pub returns-clause-tangents : goal.returns-clause-tangents
-unfolding normalsVert
+unfolding normals_vert
 returns-clause-tangents c =
-    simp (← c.requires.1.vert-halfedge c.args.v c.requires.0, lt-ltb _ _ c.if-e-n.false, ← c.normal_walk-walk.ensures.state) c.finish_vert-finish.ensures.tangents
+    simp (← c.requires.1.vert_halfedge c.args.v c.requires.0, lt-ltb _ _ c.if-e-n.false, ← c.normal_walk-walk.ensures.state) c.finish_vert-finish.ensures.tangents
 
 pub returns-clause-directionless : goal.returns-clause-directionless
-unfolding normalsVertDirectionless
+unfolding normals_vert_directionless
 returns-clause-directionless c =
-    simp (← c.requires.1.vert-halfedge c.args.v c.requires.0, lt-ltb _ _ c.if-e-n.false, ← c.normal_walk-walk.ensures.state, ← c.normal_walk-walk.ensures.directionless, ← c.finish_vert-finish.ensures.directionless)
+    simp (← c.requires.1.vert_halfedge c.args.v c.requires.0, lt-ltb _ _ c.if-e-n.false, ← c.normal_walk-walk.ensures.state, ← c.normal_walk-walk.ensures.directionless, ← c.finish_vert-finish.ensures.directionless)

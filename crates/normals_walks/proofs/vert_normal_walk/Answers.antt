@@ -1,39 +1,39 @@
 -- `normals_walks::vert_normal_walk` meets its contract: a walk once round a vertex cycle. The invariant: what is left of the counted fold gives the whole. Assumes nothing.
-use Rattle.normals_walks.specs.Walks.{vertNormalWalk, vertNormalWalkDirectionless}
-use Rattle.normals_walks.proofs.Counting.{counting-start, counting-step, counting-less, counting-within, counting-state, counting-count}
-use Rattle.normals_steps.proofs.Counts.{vert-normal-one}
-use Rattle.mesh.specs.Mesh.{asHalfedges}
-use Rattle.cycles.proofs.Around.{next-permutes}
+use Rattle.normals_walks.specs.Walks.{vert_normal_walk, vert_normal_walk_directionless}
+use Rattle.normals_walks.proofs.Counting.{counting_start, counting_step, counting_less, counting_within, counting_state, counting_count}
+use Rattle.normals_steps.proofs.Counts.{vert_normal_one}
+use Rattle.mesh.specs.Mesh.{as_halfedges}
+use Rattle.cycles.proofs.Around.{next_permutes}
 use native.Mathlib.Omega.{arith}
 use mathlib.Core.Path.{refl, ◌∙◌}
 use Rattle.normals_walks.proofs.vert_normal_walk.Goals as goal
 
 pub loop-current-init : goal.loop-current-init
 loop-current-init c =
-    let pre = c.requires in (counting-start (next-permutes pre.1.tangents.sound) pre.0, refl)
+    let pre = c.requires in (counting_start (next_permutes pre.1.tangents.sound) pre.0, refl)
 
 pub overflow_add-directionless : goal.overflow_add-directionless
 overflow_add-directionless c =
     let pre = c.requires in
-    let one = vert-normal-one (asHalfedges c.args.h.now) c.args.pos.now in
-    omega (arith, counting-within (next-permutes pre.1.tangents.sound) c.loop-current.invariant.0 one pre.0, c.vert_normal_step-directionless.ensures.directionless, one c.loop-current.t c.loop-current.current, pre.1.tangents.tangents)
+    let one = vert_normal_one (as_halfedges c.args.h.now) c.args.pos.now in
+    omega (arith, counting_within (next_permutes pre.1.tangents.sound) c.loop-current.invariant.0 one pre.0, c.vert_normal_step-directionless.ensures.directionless, one c.loop-current.t c.loop-current.current, pre.1.tangents.tangents)
 
 pub loop-current-smaller : goal.loop-current-smaller
 loop-current-smaller c =
-    counting-less (next-permutes c.requires.1.tangents.sound) c.loop-current.invariant.0 c.next_around-current.ensures c.if-current-e.false
+    counting_less (next_permutes c.requires.1.tangents.sound) c.loop-current.invariant.0 c.next_around-current.ensures c.if-current-e.false
 
 pub loop-current-preserved : goal.loop-current-preserved
 loop-current-preserved c =
     let m = c.vert_normal_step-directionless in
     let l = c.loop-current in
-    (counting-step (next-permutes c.requires.1.tangents.sound) l.invariant.0 c.next_around-current.ensures m.ensures.tangents m.ensures.directionless c.if-current-e.false, m.auto.t ∙ l.invariant.1)
+    (counting_step (next_permutes c.requires.1.tangents.sound) l.invariant.0 c.next_around-current.ensures m.ensures.tangents m.ensures.directionless c.if-current-e.false, m.auto.t ∙ l.invariant.1)
 
 pub returns : goal.returns
-unfolding vertNormalWalk vertNormalWalkDirectionless
+unfolding vert_normal_walk vert_normal_walk_directionless
 returns c =
     let m = c.vert_normal_step-directionless in
-    let Q = next-permutes c.requires.1.tangents.sound in
+    let Q = next_permutes c.requires.1.tangents.sound in
     let w = c.loop-current.invariant.0 in record {
-      tangents = counting-state Q w c.next_around-current.ensures m.ensures.tangents m.ensures.directionless c.if-current-e.true;
-      directionless = counting-count Q w c.next_around-current.ensures m.ensures.tangents m.ensures.directionless c.if-current-e.true;
+      tangents = counting_state Q w c.next_around-current.ensures m.ensures.tangents m.ensures.directionless c.if-current-e.true;
+      directionless = counting_count Q w c.next_around-current.ensures m.ensures.tangents m.ensures.directionless c.if-current-e.true;
     }

@@ -1,12 +1,12 @@
 -- `program::answer` meets its contract: all of the output where the lists have room, else nothing. Assumes nothing.
 use Rattle.std.proofs.Common.{sym, ◌∙◌, length}
-use Rattle.program.proofs.Inputs.{all-room, renders}
+use Rattle.program.proofs.Inputs.{all_room, renders}
 use Rattle.program.proofs.answer.Goals as goal
 
 pub respond-output-requires : goal.respond-output-requires
 respond-output-requires c =
     let a = c.args in
-    (all-room (length a.pos.now) (length a.h.now) (length a.t.now) (length a.normals.now) (length a.flags.now) (length a.current.now) (length a.desired.now) (length a.out.now) (sym c.has_room-room.ensures ∙ c.if-not-room.false)).0
+    (all_room (length a.pos.now) (length a.h.now) (length a.t.now) (length a.normals.now) (length a.flags.now) (length a.current.now) (length a.desired.now) (length a.out.now) (sym c.has_room-room.ensures ∙ c.if-not-room.false)).0
 
 pub returns : goal.returns
 returns c =

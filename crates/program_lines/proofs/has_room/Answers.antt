@@ -1,15 +1,15 @@
 -- `program_lines::has_room` meets its contract. Assumes nothing.
-use Rattle.program_lines.proofs.Lengths.{few-numbers, no-lines, lines-room}
+use Rattle.program_lines.proofs.Lengths.{few_numbers, no_lines, lines_room}
 use Rattle.program_lines.proofs.has_room.Goals as goal
 
 pub returns-then-numbers-n : goal.returns-then-numbers-n
 returns-then-numbers-n c =
-    few-numbers c.args.n c.args.numbers c.args.room c.if-numbers-n.true
+    few_numbers c.args.n c.args.numbers c.args.room c.if-numbers-n.true
 
 pub returns-then-room-lt2 : goal.returns-then-room-lt2
 returns-then-room-lt2 c =
-    no-lines c.args.n c.args.numbers c.args.room c.if-numbers-n.false c.if-room-lt2.true
+    no_lines c.args.n c.args.numbers c.args.room c.if-numbers-n.false c.if-room-lt2.true
 
 pub returns : goal.returns
 returns c =
-    lines-room c.args.n c.args.numbers c.args.room c.if-numbers-n.false c.if-room-lt2.false
+    lines_room c.args.n c.args.numbers c.args.room c.if-numbers-n.false c.if-room-lt2.false

@@ -1,8 +1,8 @@
 -- `program_lines::put_spread` meets its contract. Assumes nothing.
 use Rattle.program_lines.specs.Text.{ascii}
-use Rattle.program_lines.specs.Lines.{linesOf}
-use Rattle.program_lines.proofs.Lengths.{tangents-length}
-use Rattle.program_lines.proofs.Put.{put-then, put-within}
+use Rattle.program_lines.specs.Lines.{lines_of}
+use Rattle.program_lines.proofs.Lengths.{tangents_length}
+use Rattle.program_lines.proofs.Put.{put_then, put_within}
 use Prim.Native.Nat.{◌+◌, ◌*◌}
 use native.Mathlib.Omega.{arith}
 use Rattle.program_lines.proofs.put_spread.Goals as goal
@@ -10,10 +10,10 @@ use Rattle.program_lines.proofs.put_spread.Goals as goal
 pub put_numbers_line-requires : goal.put_numbers_line-requires
 put_numbers_line-requires c =
     let a = c.args in
-    let p = put-within (96 * (a.n + 1)) (tangents-length a.t.now a.n) c.put_tangents-at.ensures in
+    let p = put_within (96 * (a.n + 1)) (tangents_length a.t.now a.n) c.put_tangents-at.ensures in
     (omega (arith, c.requires.1), omega arith, omega arith)
 
 pub returns : goal.returns
-unfolding linesOf ascii
+unfolding lines_of ascii
 returns c =
-    put-then c.put_tangents-at.ensures c.put_numbers_line.ensures
+    put_then c.put_tangents-at.ensures c.put_numbers_line.ensures

@@ -1,18 +1,18 @@
 -- `program_lines::put_tangents` meets its contract. Assumes nothing.
 use Rattle.program_lines.specs.Text.{ascii}
-use Rattle.program_lines.specs.Lines.{tangentsLines}
-use Rattle.program_lines.proofs.Lengths.{number-line-length}
-use Rattle.program_lines.proofs.Put.{put-then, put-within}
+use Rattle.program_lines.specs.Lines.{tangents_lines}
+use Rattle.program_lines.proofs.Lengths.{number_line_length}
+use Rattle.program_lines.proofs.Put.{put_then, put_within}
 use native.Mathlib.Omega.{arith}
 use Rattle.program_lines.proofs.put_tangents.Goals as goal
 
 pub put_tangent_lines-requires : goal.put_tangent_lines-requires
 unfolding ascii
 put_tangent_lines-requires c =
-    let p = put-within 48 (number-line-length (ascii "tangents ") c.args.n (omega arith)) c.put_number_line-at.ensures in
+    let p = put_within 48 (number_line_length (ascii "tangents ") c.args.n (omega arith)) c.put_number_line-at.ensures in
     (c.requires.0, omega (arith, c.requires.1))
 
 pub returns : goal.returns
-unfolding tangentsLines ascii
+unfolding tangents_lines ascii
 returns c =
-    put-then c.put_number_line-at.ensures c.put_tangent_lines.ensures
+    put_then c.put_number_line-at.ensures c.put_tangent_lines.ensures

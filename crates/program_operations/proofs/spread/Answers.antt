@@ -4,8 +4,8 @@ use mathlib.Core.Path.{◌∙◌}
 use Prim.Native.Nat.{◌*◌}
 use lib.ListN.{take, drop}
 use lib.Seq.{length-take-le}
-use Rattle.mesh.specs.Mesh.{asHalfedges}
-use Rattle.program_operations.proofs.Shown.{spread-shows, spread-tangents, spread-scratch}
+use Rattle.mesh.specs.Mesh.{as_halfedges}
+use Rattle.program_operations.proofs.Shown.{spread_shows, spread_tangents_lem, spread_scratch_lem}
 use Rattle.program_operations.proofs.spread.Goals as goal
 
 pub returns : goal.returns
@@ -13,20 +13,20 @@ returns c =
     let a = c.args in
     let i = c.requires in
     let d = c.distribute_tangents-spreading in
-    let H = asHalfedges (take (4 * a.n) a.h.now) in
+    let H = as_halfedges (take (4 * a.n) a.h.now) in
     let P = take (3 * a.p) a.pos.now in
     let N = take (3 * a.p) a.normals.now in
     let F = take a.n a.flags.now in
     let T = take (4 * a.n) a.t.now in
     let C = take a.n a.current.now in
     let D = take a.n a.desired.now in
-    let lc = length-take-le a.n a.current.now (omega (arith, i.current-in)) in
-    let ld = length-take-le a.n a.desired.now (omega (arith, i.desired-in)) in
-    let shown = spread-shows H P N F T C D a.n a.p d.result c.spread_output.result d.new.t (drop (4 * a.n) a.t.now) lc ld
-    c.spread_output.ensures d.ensures.answer d.ensures.tangents (d.auto.t ∙ length-take-le (4 * a.n) a.t.now (omega (arith, i.mesh-in.tangents-in))) in
+    let lc = length-take-le a.n a.current.now (omega (arith, i.current_in)) in
+    let ld = length-take-le a.n a.desired.now (omega (arith, i.desired_in)) in
+    let shown = spread_shows H P N F T C D a.n a.p d.result c.spread_output.result d.new.t (drop (4 * a.n) a.t.now) lc ld
+    c.spread_output.ensures d.ensures.answer d.ensures.tangents (d.auto.t ∙ length-take-le (4 * a.n) a.t.now (omega (arith, i.mesh_in.tangents_in))) in
     record {
       lines = shown;
-      tangents = spread-tangents H P N F T C D a.n a.p lc ld _ _ d.ensures.tangents;
-      current = spread-scratch H P N F T C D a.n a.p lc ld _ _ d.ensures.current;
-      desired = spread-scratch H P N F T C D a.n a.p lc ld _ _ d.ensures.desired;
+      tangents = spread_tangents_lem H P N F T C D a.n a.p lc ld _ _ d.ensures.tangents;
+      current = spread_scratch_lem H P N F T C D a.n a.p lc ld _ _ d.ensures.current;
+      desired = spread_scratch_lem H P N F T C D a.n a.p lc ld _ _ d.ensures.desired;
     }

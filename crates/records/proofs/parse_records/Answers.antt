@@ -1,12 +1,12 @@
 -- `records::parse_records` meets its contract: each return is the first no. Assumes nothing.
-use Rattle.records.proofs.Parse.{no-operation, unknown-operation, no-counts, bodies-left, within}
+use Rattle.records.proofs.Parse.{no_operation, unknown_operation, no_counts, bodies_left, within}
 use mathlib.Core.Path.{sym, ◌∙◌}
 use native.Mathlib.Omega.{arith}
 use Rattle.records.proofs.parse_records.Goals as goal
 
 pub returns-then-first-ne0 : goal.returns-then-first-ne0
 returns-then-first-ne0 c =
-    no-operation c.args.s.now c.record_refusal-first.result c.record_refusal-first.ensures c.if-first-ne0.true
+    no_operation c.args.s.now c.record_refusal-first.result c.record_refusal-first.ensures c.if-first-ne0.true
 
 pub bounds-s-6 : goal.bounds-s-6
 bounds-s-6 c =
@@ -14,7 +14,7 @@ bounds-s-6 c =
 
 pub returns-then-unknown-ne0 : goal.returns-then-unknown-ne0
 returns-then-unknown-ne0 c =
-    unknown-operation c.args.s.now (sym c.record_refusal-first.ensures ∙ c.if-first-ne0.false) c.operation_refusal-unknown.result c.operation_refusal-unknown.ensures c.if-unknown-ne0.true
+    unknown_operation c.args.s.now (sym c.record_refusal-first.ensures ∙ c.if-first-ne0.false) c.operation_refusal-unknown.result c.operation_refusal-unknown.ensures c.if-unknown-ne0.true
 
 pub record_refusal-second-requires : goal.record_refusal-second-requires
 record_refusal-second-requires c =
@@ -22,7 +22,7 @@ record_refusal-second-requires c =
 
 pub returns-then-second-ne0 : goal.returns-then-second-ne0
 returns-then-second-ne0 c =
-    no-counts c.args.s.now (sym c.record_refusal-first.ensures ∙ c.if-first-ne0.false) (sym c.operation_refusal-unknown.ensures ∙ c.if-unknown-ne0.false) c.record_refusal-second.result c.record_refusal-second.ensures c.if-second-ne0.true
+    no_counts c.args.s.now (sym c.record_refusal-first.ensures ∙ c.if-first-ne0.false) (sym c.operation_refusal-unknown.ensures ∙ c.if-unknown-ne0.false) c.record_refusal-second.result c.record_refusal-second.ensures c.if-second-ne0.true
 
 pub u16_at-points-requires : goal.u16_at-points-requires
 u16_at-points-requires c =
@@ -40,4 +40,4 @@ pub returns : goal.returns
 returns c =
     let x = c.u16_at-points in
     c.parse_bodies.ensures
-    ∙ bodies-left c.args.s.now (sym c.record_refusal-first.ensures ∙ c.if-first-ne0.false) (sym c.operation_refusal-unknown.ensures ∙ c.if-unknown-ne0.false) (sym c.record_refusal-second.ensures ∙ c.if-second-ne0.false) x.result c.u16_at-halfedges.result x.ensures c.u16_at-halfedges.ensures
+    ∙ bodies_left c.args.s.now (sym c.record_refusal-first.ensures ∙ c.if-first-ne0.false) (sym c.operation_refusal-unknown.ensures ∙ c.if-unknown-ne0.false) (sym c.record_refusal-second.ensures ∙ c.if-second-ne0.false) x.result c.u16_at-halfedges.result x.ensures c.u16_at-halfedges.ensures

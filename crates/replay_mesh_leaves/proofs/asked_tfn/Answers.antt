@@ -1,10 +1,10 @@
 -- `replay_mesh_leaves::asked_tfn` is safe and ends: only an accepted mesh is passed on. Assumes nothing.
 use mathlib.Core.Path.{sym, ◌∙◌}
-use Rattle.mesh.specs.Mesh.{asHalfedges}
-use Rattle.replay_mesh_leaves.proofs.Lent.{normal-lists}
+use Rattle.mesh.specs.Mesh.{as_halfedges}
+use Rattle.replay_mesh_leaves.proofs.Lent.{normal_lists}
 use Rattle.replay_mesh_leaves.proofs.asked_tfn.Goals as goal
 
 pub tfn_all-requires : goal.tfn_all-requires
-unfolding asHalfedges
+unfolding as_halfedges
 tfn_all-requires c =
-    normal-lists _ _ _ (sym c.check_mesh-checked.ensures ∙ c.in-Accepted.is) _ _ _ c.has_length.ensures c.has_length-2.ensures c.has_length-3.ensures c.has_length-4.ensures c.both.ensures c.both-2.ensures c.both-lengths.ensures
+    normal_lists _ _ _ (sym c.check_mesh-checked.ensures ∙ c.in-Accepted.is) _ _ _ c.has_length.ensures c.has_length-2.ensures c.has_length-3.ensures c.has_length-4.ensures c.both.ensures c.both-2.ensures c.both-lengths.ensures

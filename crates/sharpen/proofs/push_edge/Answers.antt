@@ -2,13 +2,13 @@
 use Prim.Native.Nat.{ℕ, ◌+◌}
 use native.Mathlib.Omega.{arith}
 use mathlib.Core.Path.{◌≡◌}
-use Rattle.sharpen.specs.Entries.{pushEntry, pushEdge}
+use Rattle.sharpen.specs.Entries.{push_entry, push_edge}
 use Rattle.sharpen.proofs.push_edge.Goals as goal
 
-two-more : (k : ℕ) → k + 2 ≡ k + 1 + 1
-two-more k = omega arith
+two_more : (k : ℕ) → k + 2 ≡ k + 1 + 1
+two_more k = omega arith
 
 pub returns : goal.returns
-unfolding pushEdge pushEntry
+unfolding push_edge push_entry
 returns c =
-    cc (two-more c.args.entries)
+    cc (two_more c.args.entries)

@@ -1,7 +1,7 @@
 -- `validate::all_valid` meets its contract: what is asked of a marked halfedge holds below e. Assumes nothing.
 use Rattle.std.proofs.Common.{ℕ, ◌+◌, ◌%◌, ◌<◌, ◌≡◌, sym, ◌∙◌, arith}
-use Rattle.mesh.specs.Mesh.{asHalfedges}
-use Rattle.validate.proofs.Laws.{none-passed, three-passed, all-passed, triangle-passed, triangle-invalid, triangle-in}
+use Rattle.mesh.specs.Mesh.{as_halfedges}
+use Rattle.validate.proofs.Laws.{none_passed, three_passed, all_passed, triangle_passed, triangle_invalid, triangle_in}
 use Rattle.validate.proofs.all_valid.Goals as goal
 
 -- a whole triangle is left
@@ -9,27 +9,27 @@ whole : {e n : ℕ} → e % 3 ≡ 0 → n % 3 ≡ 0 → e < n → e + 2 < n
 whole a b h = omega arith
 
 pub loop-e-init : goal.loop-e-init
-loop-e-init c = (omega arith, omega arith, none-passed (asHalfedges c.args.h.now) c.args.t.now)
+loop-e-init c = (omega arith, omega arith, none_passed (as_halfedges c.args.h.now) c.args.t.now)
 
 pub triangle_valid-requires : goal.triangle_valid-requires
 triangle_valid-requires c =
-    triangle-in c.requires c.loop-e.e (whole c.loop-e.invariant.1 c.requires.sound.triangles c.loop-e-test.true)
+    triangle_in c.requires c.loop-e.e (whole c.loop-e.invariant.1 c.requires.sound.triangles c.loop-e-test.true)
 
 pub returns-then-not-triangle_valid : goal.returns-then-not-triangle_valid
 returns-then-not-triangle_valid c =
     let l = c.loop-e in
-    sym (triangle-invalid _ _ l.e l.invariant.1 _ (whole l.invariant.1 c.requires.sound.triangles c.loop-e-test.true) (sym c.triangle_valid.ensures ∙ c.if-not-triangle_valid.true))
+    sym (triangle_invalid _ _ l.e l.invariant.1 _ (whole l.invariant.1 c.requires.sound.triangles c.loop-e-test.true) (sym c.triangle_valid.ensures ∙ c.if-not-triangle_valid.true))
 
 pub loop-e-preserved : goal.loop-e-preserved
 loop-e-preserved c =
     let l = c.loop-e in
-    let H = asHalfedges c.args.h.now in (
+    let H = as_halfedges c.args.h.now in (
       omega (arith, c.requires.sound.triangles),
       omega arith,
-      three-passed H _ l.e l.invariant.2 (triangle-passed H _ l.e l.invariant.1 (sym c.triangle_valid.ensures ∙ c.if-not-triangle_valid.false)),
+      three_passed H _ l.e l.invariant.2 (triangle_passed H _ l.e l.invariant.1 (sym c.triangle_valid.ensures ∙ c.if-not-triangle_valid.false)),
     )
 
 pub returns : goal.returns
 returns c =
     let done : c.loop-e.e ≡ c.args.n = omega arith in
-    sym (all-passed _ _ c.requires.sound (rw done at c.loop-e.invariant.2))
+    sym (all_passed _ _ c.requires.sound (rw done at c.loop-e.invariant.2))

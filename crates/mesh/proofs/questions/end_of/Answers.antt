@@ -1,8 +1,8 @@
 -- `mesh::questions::end_of` meets its contract.
-use Rattle.mesh.specs.Mesh.{asHalfedges}
+use Rattle.mesh.specs.Mesh.{as_halfedges}
 use Rattle.mesh.proofs.questions.end_of.Goals as goal
 
 pub returns : goal.returns
-unfolding asHalfedges
+unfolding as_halfedges
 returns c =
     c.field.ensures

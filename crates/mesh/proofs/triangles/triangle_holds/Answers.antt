@@ -6,18 +6,18 @@ use lib.IntN.{ℤ}
 use lib.Signed.{mag}
 use mir.Syntax.{w32}
 use mir.Val.{to_z, of_z}
-use Rattle.mesh.specs.Mesh.{halfedgeStride, numberAt, indexOf, field, startVert, asHalfedges}
-use Rattle.mesh.specs.All.{triangleHolds}
+use Rattle.mesh.specs.Mesh.{halfedge_stride, number_at, index_of, field, start_vert, as_halfedges}
+use Rattle.mesh.specs.All.{triangle_holds}
 use Rattle.mesh.proofs.Signed.{read}
 use Rattle.mesh.proofs.triangles.triangle_holds.Goals as goal
 
 -- a start, read as x and passed on
-passed : (H : List ℤ) (e : ℕ) (x : ℤ) → mag x < 2 ^ 31 → x ≡ numberAt H e halfedgeStride 0 → indexOf (to_z w32 (of_z w32 x)) ≡ startVert (asHalfedges H) e
-unfolding asHalfedges field
-passed H e x f q = ap indexOf (read x f ∙ q)
+passed : (H : List ℤ) (e : ℕ) (x : ℤ) → mag x < 2 ^ 31 → x ≡ number_at H e halfedge_stride 0 → index_of (to_z w32 (of_z w32 x)) ≡ start_vert (as_halfedges H) e
+unfolding as_halfedges field
+passed H e x f q = ap index_of (read x f ∙ q)
 
 pub returns-then-not-are_points : goal.returns-then-not-are_points
-unfolding triangleHolds
+unfolding triangle_holds
 returns-then-not-are_points c =
     rw (
       ← passed _ _ _ c.number_in-a.type_inv c.number_in-a.ensures,
@@ -27,7 +27,7 @@ returns-then-not-are_points c =
     )
 
 pub returns-then-not-halfedge_holds : goal.returns-then-not-halfedge_holds
-unfolding triangleHolds
+unfolding triangle_holds
 returns-then-not-halfedge_holds c =
     rw (
       ← passed _ _ _ c.number_in-a.type_inv c.number_in-a.ensures,
@@ -38,7 +38,7 @@ returns-then-not-halfedge_holds c =
     )
 
 pub returns-then-not-halfedge_holds-2 : goal.returns-then-not-halfedge_holds-2
-unfolding triangleHolds
+unfolding triangle_holds
 returns-then-not-halfedge_holds-2 c =
     rw (
       ← passed _ _ _ c.number_in-a.type_inv c.number_in-a.ensures,
@@ -50,7 +50,7 @@ returns-then-not-halfedge_holds-2 c =
     )
 
 pub returns : goal.returns
-unfolding triangleHolds
+unfolding triangle_holds
 returns c =
     rw (
       ← passed _ _ _ c.number_in-a.type_inv c.number_in-a.ensures,
