@@ -5,7 +5,7 @@ use mathlib.Core.Path.{◌≡◌, refl, sym, ap, ◌∙◌}
 use Rattle.mesh.specs.declared.Checked.{Checked}
 use Rattle.mesh.specs.declared.Checked.TheVariants.{Accepted, Refused}
 use Rattle.create_shared.specs.declared.Making.{Making}
-use Rattle.create_shared.specs.Answer.{directionless_of, answer_of, Values}
+use Rattle.create_shared.specs.Answer.{directionless_of, answer_of, checked_of, Values}
 
 values_are : (c : Checked) (k : ℕ) → Values c k (answer_of c k)
 values_are Accepted k = record { number = refl; place = refl; directionless = refl }
@@ -17,6 +17,11 @@ values_of c k e = rw e (values_are c k)
 within : (c : Checked) (k m : ℕ) → (c ≡ Accepted → k ≤ m) → directionless_of (answer_of c k) ≤ m
 within Accepted k m h = h refl
 within (Refused number place) k m h = omega arith
+
+-- what the questions were answered, out of the answer again
+pub checked_answer : (c : Checked) (k : ℕ) → checked_of (answer_of c k) ≡ c
+checked_answer Accepted k = refl
+checked_answer (Refused number place) k = refl
 
 -- a refusal counts none
 pub answer_within : (c : Checked) (k m : ℕ) {r : Making} → r ≡ answer_of c k → (c ≡ Accepted → k ≤ m) → directionless_of r ≤ m

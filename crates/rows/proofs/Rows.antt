@@ -38,7 +38,9 @@ rows_unread list other n s =
       spread_tangents = λ P N X T C D n p. same list other q _;
       preview_answer = λ P N X T Y n p. same list other q _;
       preview_bytes = λ P N X T Y n p. same list other q _;
+      sharp_questions = λ P N A R I Q T X F M D W L n p. same list other q _;
       sharp_answer = λ P N A R I Q T X F M D W L old n p. same list other q _;
+      entries_questions = λ P N A R E T X F M D W L n p. same list other q _;
       entries_answer = λ P N A R E T X F M D W L old n p. same list other q _;
       sharp_tangents = λ checked P N A R E T old n p. same list other q _;
     }

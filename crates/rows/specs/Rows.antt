@@ -38,7 +38,9 @@ pub record RowUnread (list other : List ℤ) : Type 0 where
   pub spread_tangents : (P N : List Float) (X : List ℕ) (T C D : List Float) (n p : ℕ) → Same list other (λ H. Distribute.tangents_after H P N X T C D n p)
   pub preview_answer : (P N : List Float) (X : List ℕ) (T : List Float) (Y : List ℕ) (n p : ℕ) → Same list other (λ H. Preview.preview_tangents H P N X T Y n p)
   pub preview_bytes : (P N : List Float) (X : List ℕ) (T : List Float) (Y : List ℕ) (n p : ℕ) → Same list other (λ H. Preview.bytes_after H P N X T Y n p)
+  pub sharp_questions : (P N A : List Float) (R : List ℤ) (I : List ℕ) (Q T : List Float) (X F : List ℕ) (M D : List Float) (W L : List ℕ) (n p : ℕ) → Same list other (λ H. Create.check_lists H P N A R I Q T X F M D W L n p)
   pub sharp_answer : (P N A : List Float) (R : List ℤ) (I : List ℕ) (Q T : List Float) (X F : List ℕ) (M D : List Float) (W L : List ℕ) (old : Bool) (n p : ℕ) → Same list other (λ H. Create.create_answer H P N A R I Q T X F M D W L old n p)
+  pub entries_questions : (P N A : List Float) (R : List ℤ) (E : List Smoothness) (T : List Float) (X F : List ℕ) (M D : List Float) (W L : List ℕ) (n p : ℕ) → Same list other (λ H. CreateEntries.check_lists H P N A R E T X F M D W L n p)
   pub entries_answer : (P N A : List Float) (R : List ℤ) (E : List Smoothness) (T : List Float) (X F : List ℕ) (M D : List Float) (W L : List ℕ) (old : Bool) (n p : ℕ) → Same list other (λ H. CreateEntries.create_answer H P N A R E T X F M D W L old n p)
   pub sharp_tangents : (checked : Checked) (P N A : List Float) (R : List ℤ) (E : List Smoothness) (T : List Float) (old : Bool) (n p : ℕ) → Same list other (λ H. Create.tangents_after checked H P N A R E T old n p)
 

@@ -1,16 +1,19 @@
 -- The steps of `tangent_from_normal` that are worked out apart make it; and what both halfedges of an edge share. Assumes nothing.
-use Prim.Native.Nat.{ℕ, ◌/◌}
+use Prim.Native.Nat.{ℕ, ◌*◌, ◌/◌, ◌<◌}
 use mathlib.Core.Path.{◌≡◌, refl, sym, ap, ◌∙◌}
 use mathlib.Core.List.{List}
+use lib.ListN.{length}
 use lib.Ieee.{Float}
 use Rattle.linalg.specs.declared.Vec3.{Vec3}
 use Rattle.linalg.specs.Vec.{cross_of, dot_of}
-use Rattle.mesh.specs.Mesh.{start_vert, end_vert, paired_halfedge, Halfedges}
+use Rattle.mesh.specs.Mesh.{halfedge_stride, start_vert, end_vert, paired_halfedge, Halfedges}
+use Rattle.mesh.specs.Sound.{Sound}
 use Rattle.smoothing.specs.declared.EdgeVecs.{EdgeVecs}
 use Rattle.smoothing.specs.Directions.{angle_between, is_degenerate, directionless, circular_tangent}
 use Rattle.smoothing.specs.Lists.{point_at}
 use Rattle.smoothing.specs.Edges.{edge_vec, bi_tangent, tangent_from_normal}
-use Rattle.smoothing.specs.Inner.{angle_of_cosine, LengthOf, edge_normal, direction_from_normal, EdgesIn, edge_vecs}
+use Rattle.smoothing.specs.Inner.{angle_of_cosine, LengthOf, edge_normal, direction_from_normal, EdgesIn, PairIn, edge_vecs}
+use Rattle.smoothing.proofs.Edges.{edge_in, normals_in}
 use Rattle.smoothing.proofs.Floats.{add3_flip, dot_sub3}
 
 pub angle_between_is : (a b : Vec3) → angle_between a b ≡ angle_of_cosine (dot_of a b)
@@ -26,6 +29,14 @@ unfolding direction_from_normal
 tangent_by_direction = tangent_across
 
 -- ---- halfedge e and its pair
+
+-- on an accepted mesh
+pub pair_in : (H : Halfedges) (n p : ℕ) (P A : List Float) → Sound H n p → H.numbers ≡ n * halfedge_stride → length P ≡ p * 3 → length A ≡ n → (e : ℕ) → e < n → PairIn H P A e
+pair_in H n p P A s whole l m e h = record {
+  edges = record { edge = edge_in H n p P s whole l e h; paired_start = s.paired_start e h; paired_end = s.paired_end e h };
+  normals = normals_in H n p A s whole m e h;
+  paired_back = s.paired_back e h;
+}
 
 pub normal_there : (H : Halfedges) (A : List Float) (e : ℕ) → paired_halfedge H (paired_halfedge H e) ≡ e → edge_normal H A (paired_halfedge H e) ≡ edge_normal H A e
 unfolding edge_normal

@@ -1,7 +1,7 @@
 -- The reciprocal square root r of n by two of Newton's steps, and the root as n * r: the laws behind `estimate`, `newton_step` and `sqrt_significand`, with bounds of what is rounded off. Assumes nothing.
 use mathlib.Core.Path.{◌≡◌, ap}
 use mathlib.Core.Logic.{⊎_elim}
-use Prim.Native.Nat.{ℕ, ◌+◌, ◌-◌, ◌*◌, ◌/◌, ◌^◌, ◌≤◌, ◌<◌}
+use Prim.Native.Nat.{ℕ, zero, suc, ◌+◌, ◌-◌, ◌*◌, ◌/◌, ◌^◌, ◌≤◌, ◌<◌}
 use native.Mathlib.Nat.{le_trans, le_of_eq, le_of_lt, mul_assoc, mul-le-mul, mul-le-mul_left, mul-le-mul_right, mul-lt-mul_of_pos_left}
 use native.Mathlib.Omega.{arith}
 use lib.Dec.{lit≤, lit<}
@@ -50,6 +50,12 @@ near_seed i t c n s g = ⊎_elim narrow wide (le_or_lt 64 i)
 
     wide : i < 64 → NearSeed t n
     wide l = at (128 + 2 * i) (130 + 2 * i) (omega arith) (omega arith) (s.wide l).0 (s.wide l).1 (g.wide l).0 (g.wide l).1
+
+-- m of 53 bits, or its double, by p: the segment is m / 2 ^ 46, less 64 for the double
+pub in_segment : (m p i : ℕ) → 2 ^ 52 ≤ m → m < 2 ^ 53 → p < 2 → i + 64 * p ≡ m / 2 ^ 46 → InSegment i (m * (p + 1))
+in_segment m zero i lo hi h e = omega arith
+in_segment m (suc zero) i lo hi h e = omega arith
+in_segment m (suc (suc p)) i lo hi h e = absurd (omega arith)
 
 pub segment_range : (i n : ℕ) → InSegment i n → (2 ^ 52 ≤ n) × (n < 2 ^ 54)
 segment_range i n g = ⊎_elim (λ l. omega (arith, g.place, g.narrow l)) (λ l. omega (arith, g.wide l)) (le_or_lt 64 i)
