@@ -245,7 +245,7 @@ fn sqrt_bits(b: u64) -> u64
     x.f / 2 * HIDDEN_BIT + q
 }
 
-// IEEE 754-2019's square_root at binary64 with roundTiesToEven, for every f64.
+// IEEE 754-2019's squareRoot at binary64 with roundTiesToEven, for every f64.
 pub fn sqrt(x: f64) -> f64
     ensures root { result ≡ sqrt_of x }
     ensures ieee { IsRoot x result }
