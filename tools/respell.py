@@ -4,7 +4,7 @@
 usage: python3 tools/respell.py [--names] [FOLDER]
 
 FOLDER is the top of a checkout (this one, if left out), after the kit's port.py where it is of an older kit. A second run changes nothing.
-What turns: definitions, lemmas, fields and local names, as `circularTangent` and `pair-smaller`, in .antt files, in .rt files and must-fail edits,
+What turns: definitions, lemmas, fields and local names, as `circularTangent` and `same-map`, in .antt files, in .rt files and must-fail edits,
 and in the code spans of comments and pages. What stays: types, names of the library, names that the kit makes for goals and steps, functions of
 src/, strings. --names only prints the rows. A lemma that would have its definition's name gets `_lem`, as the kit's own.
 """
