@@ -5,8 +5,8 @@ usage: python3 tools/respell.py [--names] [FOLDER]
 
 FOLDER is the top of a checkout (this one, if left out), after the kit's port.py where it is of an older kit. A second run changes nothing.
 What turns: definitions, lemmas, fields and local names, as `circularTangent` and `same-map`, in .antt files, in .rt files and must-fail edits,
-and in the code spans of comments and pages. What stays: types, names of the library, names that the kit makes for goals and steps, functions of
-src/, strings. --names only prints the rows. A lemma that would have its definition's name gets `_lem`, as the kit's own.
+in the code spans of comments and pages, and in comments also bare words with a hump. What stays: types, names of the library, names that the kit
+makes for goals and steps, functions of src/, strings. --names only prints the rows, of a tree that is not turned yet. A lemma that would have its definition's name gets `_lem`, as the kit's own.
 """
 
 import os
@@ -82,7 +82,7 @@ def turned(text, rows):
 
 
 def comment(text, rows):
-    """A comment: its code spans, and bare words with a hump, which are no English."""
+    """A comment: its code spans, and bare words with a hump."""
     humps = {w: n for w, n in rows.items() if "-" not in w}
     out, at = [], 0
     for m in SPAN.finditer(text):
