@@ -6,16 +6,16 @@ use lib.ListN.{replicate}
 use Rattle.common.specs.Pillow.{straightened_bits}
 use Rattle.little_endian.specs.Numbers.{little_endian, i32_of, f64_item, i32_item, byte_item}
 use Rattle.little_endian.specs.Filled.{items}
-use Rattle.records.specs.Records.{record_fits, record_refusal, body_bytes, records_length, last_kind, operation_refusal, refusal_from, records_refusal, input_refusal, parse_input}
+use Rattle.records.specs.Records.{operation_of_number, record_fits, check_record, check_bodies, check_records, check_input, parse_input}
 use Rattle.records.proofs.Bytes.{numbers, record_of, pillow_records}
 use Rattle.program_lines.specs.Text.{ascii, decimal_up_to, decimal, hex_digit, hex_up_to, hex}
 use Rattle.program_lines.specs.Lines.{number_line, numbers_line, bits_field, tangent_line, tangent_lines, tangents_lines, lines_of}
-use Rattle.program_operations.specs.Operations.{straighten_lines, spread_lines, check_lines, operation_lines}
+use Rattle.program_operations.specs.Operations.{straighten_lines, spread_lines, check_lines}
 use Rattle.program.specs.Program.{output_of}
 use Rattle.cases.proofs.Hold.{floats, meshes, calls, spreads}
 
 unfoldable programs : Unit {0}
-unfolding little_endian i32_of f64_item i32_item byte_item items record_fits record_refusal body_bytes records_length last_kind operation_refusal refusal_from records_refusal input_refusal parse_input ascii decimal_up_to decimal hex_digit hex_up_to hex number_line numbers_line bits_field tangent_line tangent_lines tangents_lines lines_of straighten_lines spread_lines check_lines operation_lines output_of
+unfolding little_endian i32_of f64_item i32_item byte_item items operation_of_number record_fits check_record check_bodies check_records check_input parse_input ascii decimal_up_to decimal hex_digit hex_up_to hex number_line numbers_line bits_field tangent_line tangent_lines tangents_lines lines_of straighten_lines spread_lines check_lines output_of
 programs = tt
 
 -- the bytes of the straightened tangents

@@ -1,5 +1,5 @@
 -- The lines of document 01 that are marked (P): in each, what the definitions compute and what document 01 states. The stated side has literals only: numbers, bit patterns of floats, and fractions where document 01 writes them so.
-use Rattle.std.specs.Prelude.{ℕ, zero, suc, true, false, List, [], ◌∷◌, ◌++◌, pos, negsuc, Float}
+use Rattle.std.specs.Prelude.{ℕ, zero, suc, true, false, List, [], ◌∷◌, ◌++◌, pos, negsuc, Float, Ok}
 use Rattle.std.specs.Float.{nan, fin}
 use Rattle.std.specs.Float.Ieee.{neg}
 use Rattle.common.specs.Pillow.{points, halfedges, pillow_with, pillow, positions, straightened, floats_of}
@@ -10,16 +10,12 @@ use Rattle.math.specs.Acos.{acos_of}
 use Rattle.linalg.specs.declared.Vec3.{Vec3}
 use Rattle.linalg.specs.declared.Vec4.{Vec4}
 use Rattle.mesh.specs.Mesh.{as_halfedges, next_halfedge, prev_halfedge}
-use Rattle.mesh.specs.declared.Checked.{Checked}
-use Rattle.mesh.specs.declared.Checked.TheVariants.{Refused}
+use Rattle.mesh.specs.Check.{Checked, refused}
+use Rattle.mesh.specs.declared.Question.TheVariants.{Mutual}
 use Rattle.smoothing.specs.Directions.{circular_tangent}
 use Rattle.linearize.specs.Linearize.{linearize_answer, tangents_after}
-use Rattle.validate.specs.declared.Validity.{Validity}
-use Rattle.validate.specs.declared.Validity.TheVariants.{Valid}
-use Rattle.validate.specs.Validate.{valid_answer}
-use Rattle.distribute.specs.declared.Spreading.{Spreading}
-use Rattle.distribute.specs.declared.Spreading.TheVariants.{Spread}
-use Rattle.distribute.specs.Distribute.{distribute_tangents}
+use Rattle.validate.specs.Validate.{Validity, valid_answer}
+use Rattle.distribute.specs.Distribute.{Spreading, counts_of, distribute_tangents}
 use Rattle.cases.specs.Pillow.{no_tangents, weighted, zero_normals, zero_angles}
 
 -- the kinds of value that a line speaks of
@@ -97,15 +93,15 @@ minus = neg one
 -- Pillow, weights all 1: marks valid. Mark only halfedge 0: not valid. Mark 0 and 5: valid. Mark 0, 5, 1 and 4: not valid.
 abbrev pub pillow_marks : List Line
 pillow_marks =
-    (marks (one ∷ one ∷ one ∷ one ∷ one ∷ one ∷ []) is validity (Valid true))
-    ∷ (marks (minus ∷ one ∷ one ∷ one ∷ one ∷ one ∷ []) is validity (Valid false))
-    ∷ (marks (minus ∷ one ∷ one ∷ one ∷ one ∷ minus ∷ []) is validity (Valid true))
-    ∷ (marks (minus ∷ minus ∷ one ∷ one ∷ minus ∷ minus ∷ []) is validity (Valid false))
+    (marks (one ∷ one ∷ one ∷ one ∷ one ∷ one ∷ []) is validity (Ok true))
+    ∷ (marks (minus ∷ one ∷ one ∷ one ∷ one ∷ one ∷ []) is validity (Ok false))
+    ∷ (marks (minus ∷ one ∷ one ∷ one ∷ one ∷ minus ∷ []) is validity (Ok true))
+    ∷ (marks (minus ∷ minus ∷ one ∷ one ∷ minus ∷ minus ∷ []) is validity (Ok false))
     ∷ []
 
--- Pillow with the pair of 0 set to 0: refused 5, place 5.
+-- Pillow with the pair of 0 set to 0: refused 5 (`Mutual`), place 5.
 abbrev pub pillow_refused : List Line
-pillow_refused = (checked (linearize_answer (as_halfedges (pillow_with 0)) positions no_tangents halfedges points) is checked (Refused 5 5)) ∷ []
+pillow_refused = (checked (linearize_answer (as_halfedges (pillow_with 0)) positions no_tangents halfedges points) is checked (refused Mutual 5)) ∷ []
 
 -- the answer to spreading the straightened pillow, point normals all 0, with these flags
 abbrev pub spreading : List ℕ → Value
@@ -114,9 +110,9 @@ spreading flags = counts (distribute_tangents (as_halfedges pillow) positions ze
 -- Pillow, straightened tangents of the listing below, point normals all 0, flag on 0 only: looked 2, turned 0. All flags: looked 6, turned 0. No flags: looked 0, turned 0.
 abbrev pub pillow_spread : List Line
 pillow_spread =
-    (spreading (1 ∷ 0 ∷ 0 ∷ 0 ∷ 0 ∷ 0 ∷ []) is counts (Spread 2 0))
-    ∷ (spreading (1 ∷ 1 ∷ 1 ∷ 1 ∷ 1 ∷ 1 ∷ []) is counts (Spread 6 0))
-    ∷ (spreading (0 ∷ 0 ∷ 0 ∷ 0 ∷ 0 ∷ 0 ∷ []) is counts (Spread 0 0))
+    (spreading (1 ∷ 0 ∷ 0 ∷ 0 ∷ 0 ∷ 0 ∷ []) is counts (Ok (counts_of 2 0)))
+    ∷ (spreading (1 ∷ 1 ∷ 1 ∷ 1 ∷ 1 ∷ 1 ∷ []) is counts (Ok (counts_of 6 0)))
+    ∷ (spreading (0 ∷ 0 ∷ 0 ∷ 0 ∷ 0 ∷ 0 ∷ []) is counts (Ok (counts_of 0 0)))
     ∷ []
 
 -- The whole listing: the pillow straightened, all tangents 0.

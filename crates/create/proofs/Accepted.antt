@@ -1,6 +1,6 @@
 -- What an accepted call establishes of its lists, and what it makes. Assumes nothing.
 use Prim.Native.Nat.{ℕ, ◌*◌, ◌≤◌, ◌<◌}
-use mathlib.Core.Path.{◌≡◌, sym, ap₂, ◌∙◌}
+use mathlib.Core.Path.{◌≡◌, sym, subst, ◌∙◌}
 use mathlib.Core.Bool.{Bool, true, ◌&&◌}
 use mathlib.Core.List.{List}
 use lib.ListN.{length, get_or}
@@ -9,9 +9,8 @@ use lib.Ieee.{Float, nan}
 use Rattle.mesh.specs.Mesh.{Halfedges}
 use Rattle.mesh.specs.Sound.{Sound}
 use Rattle.mesh.specs.Questions.{has_length, sign_clear}
-use Rattle.mesh.specs.Check.{check_mesh, check_refs}
-use Rattle.mesh.specs.declared.Checked.{Checked}
-use Rattle.mesh.specs.declared.Checked.TheVariants.{Accepted}
+use Rattle.std.specs.Prelude.{Ok}
+use Rattle.mesh.specs.Check.{Checked, check_mesh, check_refs, answer_of}
 use Rattle.common.proofs.Tests.{and_true}
 use Rattle.mesh.proofs.Tests.{has_length_lem, has_one}
 use Rattle.mesh.proofs.Accepted.{accepted, refs_accepted, entries_accepted}
@@ -21,9 +20,7 @@ use Rattle.create_core.proofs.Lent.{create_lists_in}
 use Rattle.create_core.specs.Core.{create_directionless}
 use Rattle.create_core.specs.Filled.{Lists, create_filled, filled_directionless}
 use Rattle.create_core.proofs.Filled.{filled_same, create_within}
-use Rattle.create_shared.specs.Answer.{directionless_of, answer_of, checked_of}
-use Rattle.create_shared.specs.declared.Making.{Making}
-use Rattle.create_shared.proofs.Answered.{answer_within}
+use Rattle.create_shared.specs.Answer.{Making, directionless_of, checked_of}
 use Rattle.create_shared.proofs.Lengths.{MeshListsFit, mesh_lists_fit_lem}
 use Rattle.create.specs.Create.{lists_fit, scratch_fits, check_create, check_lists, tangents_after}
 
@@ -78,7 +75,7 @@ pub record AcceptedLists (H : Halfedges) (P N A : List Float) (I : List ℕ) (Q 
   pub lists : {S' : List Float} → length S' ≡ length S → Lists H P N A T X F S' D C L n p
 
 pub accepted_lists : (H : Halfedges) (P N A : List Float) (R : List ℤ) (I : List ℕ) (Q T : List Float) (X F : List ℕ) (S D : List Float) (C L : List ℕ) (n p : ℕ)
-    → check_lists H P N A R I Q T X F S D C L n p ≡ Accepted → AcceptedLists H P N A I Q T X F S D C L n p
+    → check_lists H P N A R I Q T X F S D C L n p ≡ Ok tt → AcceptedLists H P N A I Q T X F S D C L n p
 unfolding check_create
 accepted_lists H P N A R I Q T X F S D C L n p e =
     let lengths = lists_fit H.numbers (length P) (length N) (length A) (length R) (length I) (length Q) (length T) n p && scratch_fits (length X) (length F) (length S) (length D) (length C) (length L) n p in
@@ -100,7 +97,7 @@ accepted_lists H P N A R I Q T X F S D C L n p e =
       };
     }
 
--- What a call answers and leaves, whose questions are answered c, and whose sharp entries E pass them: U are the tangents, and k the count, of the core with the smoothness M that the entries give; r is the answer.
+-- What a call answers and leaves, whose questions are answered c, and whose sharp entries E pass them: U are the tangents, and k the count, of the core with the smoothness M that the entries give.
 module _ (H : Halfedges) (P N A : List Float) (R : List ℤ) (I : List ℕ) (Q T : List Float) (X F : List ℕ) (S D : List Float) (C L : List ℕ) (n p : ℕ) (E : List Smoothness) (old : Bool)
     {c : Checked} (is : c ≡ check_lists H P N A R I Q T X F S D C L n p) (entries : AcceptedLists H P N A I Q T X F S D C L n p → EntriesIn E n) where
   abbrev checked : Checked
@@ -109,16 +106,16 @@ module _ (H : Halfedges) (P N A : List Float) (R : List ℤ) (I : List ℕ) (Q T
   abbrev count : ℕ
   count = create_directionless H P R E T old n p
 
-  within : checked ≡ Accepted → count ≤ 2 * n
+  within : checked ≡ Ok tt → count ≤ 2 * n
   within a =
       let w = accepted_lists H P N A R I Q T X F S D C L n p a in
       create_within w.sound R E (entries w) P T old
 
-  pub made : c ≡ Accepted → {M U : List Float} {k : ℕ} {r : Making}
-      → M ≡ entry_smoothness E (length S) → U ≡ create_filled H P N A R M T old n p → k ≡ filled_directionless H P R M T old n p → r ≡ answer_of c k
-      → (r ≡ answer_of checked count) × (U ≡ tangents_after (checked_of r) H P N A R E T old n p) × (directionless_of r ≤ 2 * n)
-  made a m u q r =
+  pub made : c ≡ Ok tt → {M U : List Float} {k : ℕ}
+      → M ≡ entry_smoothness E (length S) → U ≡ create_filled H P N A R M T old n p → k ≡ filled_directionless H P R M T old n p
+      → (Ok k ≡ answer_of checked count) × (U ≡ tangents_after (Ok tt) H P N A R E T old n p) × (k ≤ 2 * n)
+  made a m u q =
       let w = accepted_lists H P N A R I Q T X F S D C L n p (sym is ∙ a) in
       let same = filled_same w.sound R E (entries w) w.smooth m P N A T old in
-      let told = r ∙ ap₂ answer_of is (q ∙ same.1) in
-      (told, rw (r, a) (u ∙ same.0), answer_within checked count (2 * n) told within)
+      let told = q ∙ same.1 in
+      (rw (sym is ∙ a, told), u ∙ same.0, subst (λ (d : ℕ). d ≤ 2 * n) (sym told) (within (sym is ∙ a)))

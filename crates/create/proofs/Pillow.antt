@@ -10,9 +10,9 @@ use Rattle.common.specs.Pillow.{pillow, refs}
 use Rattle.mesh.specs.Mesh.{next_halfedge, number_at, index_of, field, as_halfedges}
 use Rattle.mesh.specs.Lowest.{lowest, lowest_from}
 use Rattle.mesh.specs.Questions.{sign_clear}
-use Rattle.mesh.specs.Check.{check_mesh, check_refs, check_entries}
-use Rattle.mesh.specs.declared.Checked.{Checked}
-use Rattle.mesh.specs.declared.Checked.TheVariants.{Accepted, Refused}
+use Rattle.std.specs.Prelude.{Ok}
+use Rattle.mesh.specs.Check.{Checked, refused, check_mesh, check_refs, check_entries}
+use Rattle.mesh.specs.declared.Question.TheVariants.{Lengths, Mesh, Entry, Sign}
 use Rattle.create.specs.Create.{check_create, check_lists}
 
 -- the answer, with so many places in the last scratch list, face references and sharp entries
@@ -25,31 +25,31 @@ unfoldable all : Unit {0}
 unfolding check_create check_entries check_refs check_mesh lowest lowest_from next_halfedge number_at index_of field as_halfedges sign_clear neg of_bits
 all = tt
 
-accepted : answer 6 refs (0 ∷ 5 ∷ 0 ∷ []) (half ∷ one ∷ zero ∷ []) ≡ Accepted
+accepted : answer 6 refs (0 ∷ 5 ∷ 0 ∷ []) (half ∷ one ∷ zero ∷ []) ≡ Ok tt
 unfolding all
 accepted = refl
 
 -- scratch is too long
-too_long : answer 7 refs [] [] ≡ Refused 2 0
+too_long : answer 7 refs [] [] ≡ refused Lengths 0
 unfolding all
 too_long = refl
 
 -- more entries than values
-unequal : answer 6 refs (0 ∷ []) [] ≡ Refused 2 0
+unequal : answer 6 refs (0 ∷ []) [] ≡ refused Lengths 0
 unfolding all
 unequal = refl
 
 -- triangle 1 has the mesh number 0
-no_mesh : answer 6 (map pos (1 ∷ 0 ∷ 0 ∷ 0 ∷ 1 ∷ 1 ∷ [])) (6 ∷ []) (half ∷ []) ≡ Refused 8 1
+no_mesh : answer 6 (map pos (1 ∷ 0 ∷ 0 ∷ 0 ∷ 1 ∷ 1 ∷ [])) (6 ∷ []) (half ∷ []) ≡ refused Mesh 1
 unfolding all
 no_mesh = refl
 
 -- entry 1 names no halfedge
-no_halfedge : answer 6 refs (0 ∷ 6 ∷ []) (neg zero ∷ half ∷ []) ≡ Refused 9 1
+no_halfedge : answer 6 refs (0 ∷ 6 ∷ []) (neg zero ∷ half ∷ []) ≡ refused Entry 1
 unfolding all
 no_halfedge = refl
 
 -- document 01's exact line: a smoothness of -0
-negative_zero : answer 6 refs (0 ∷ []) (neg zero ∷ []) ≡ Refused 10 0
+negative_zero : answer 6 refs (0 ∷ []) (neg zero ∷ []) ≡ refused Sign 0
 unfolding all
 negative_zero = refl

@@ -2,11 +2,9 @@
 use Rattle.std.specs.Prelude.{ℕ, List, Bool, ◌&&◌, length, ℤ, Float}
 use Rattle.mesh.specs.Mesh.{Halfedges}
 use Rattle.mesh.specs.Questions.{has_length}
-use Rattle.mesh.specs.Check.{check_mesh, check_refs, check_entries, when_accepted}
-use Rattle.mesh.specs.declared.Checked.{Checked}
+use Rattle.mesh.specs.Check.{Checked, check_mesh, check_refs, check_entries, answer_of, when_accepted}
 use Rattle.create_shared.specs.Lengths.{mesh_lists_fit}
-use Rattle.create_shared.specs.Answer.{answer_of}
-use Rattle.create_shared.specs.declared.Making.{Making}
+use Rattle.create_shared.specs.Answer.{Making}
 use Rattle.create_smoothness.specs.declared.Smoothness.{Smoothness}
 use Rattle.create_smoothness.specs.Entries.{entries_of}
 use Rattle.create_core.specs.Core.{create_tangents, create_directionless}

@@ -11,8 +11,7 @@ ghost use Rattle.create_smoothness.specs.Entries.{entries_of};
 ghost use Rattle.create_core.specs.Core.{create_directionless};
 ghost use Rattle.create.specs.Create.{lists_fit, scratch_fits, check_create, check_lists, tangents_after, create_answer};
 
-use create_shared::Making;
-use mesh::Checked;
+use mesh::Refusal;
 
 // Question 2 of the lists that the call reads, and of the tangents, from the length of each.
 pub fn lists_fit(
@@ -102,7 +101,7 @@ fn check_create(
     entries: &[usize],
     values: &[f64],
     lengths: bool,
-) -> Checked
+) -> Result<(), Refusal>
     ensures { result ≡ check_create (as_halfedges h.now) refs.now entries.now values.now n p lengths }
 {
     let checked = mesh::check_mesh(h, n, p, lengths);
@@ -131,7 +130,7 @@ pub fn create_tangents(
     desired: &mut [f64],
     at: &mut [usize],
     link: &mut [usize],
-) -> Making
+) -> Result<usize, Refusal>
     ensures answer { result ≡ create_answer (as_halfedges h.now) pos.now normals.now face_normals.now refs.now entries.now values.now t.old fixed.old flat.old smooth.old desired.old at.old link.old old n p }
     ensures tangents { t.new ≡ tangents_after (checked_of result) (as_halfedges h.now) pos.now normals.now face_normals.now refs.now (entries_of entries.now values.now) t.old old n p }
     ensures fixed { fixed.new ≡ when_accepted (checked_of result) (replicate n 0) fixed.old }
@@ -158,8 +157,8 @@ pub fn create_tangents(
     let scratch = scratch_lists_fit(n, p, fixed, flat, smooth, desired, at, link);
     let lengths = common::both(lists, scratch);
     let checked = check_create(n, p, h, refs, entries, values, lengths);
-    let Checked::Accepted = checked else {
-        return create_shared::answer(checked, 0);
+    let Ok(()) = checked else {
+        return mesh::refused(checked);
     };
     create_smoothness::entry_smoothness(entries, values, smooth);
     let directionless = create_core::make_tangents(
@@ -179,5 +178,5 @@ pub fn create_tangents(
         at,
         link,
     );
-    create_shared::answer(checked, directionless)
+    Ok(directionless)
 }

@@ -49,7 +49,7 @@ fn shape_tangents(
         at,
     );
     create_creases::find_creases(n, h, refs, flat, smooth, at, link);
-    common::fill_bytes(fixed, 0);
+    fixed.fill(0);
     let creases = create_sharpen::shape_verts(n, h, pos, flat, smooth, at, link, t, fixed);
     first + creases
 }
@@ -74,19 +74,6 @@ fn finish_tangents(
 {
     linearize::linearize_all(n, p, h, pos, t);
     distribute::spread_tangents(n, p, h, pos, normals, fixed, t, smooth, desired);
-}
-
-// Zeros in the scratch lists that spreading does not have.
-fn clear_scratch(fixed: &mut [u8], flat: &mut [u8], at: &mut [usize], link: &mut [usize])
-    ensures fixed { fixed.new ≡ replicate (length fixed.old) 0 }
-    ensures flat { flat.new ≡ replicate (length flat.old) 0 }
-    ensures at { at.new ≡ replicate (length at.old) 0 }
-    ensures link { link.new ≡ replicate (length link.old) 0 }
-{
-    common::fill_bytes(fixed, 0);
-    common::fill_bytes(flat, 0);
-    common::fill_numbers(at, 0);
-    common::fill_numbers(link, 0);
 }
 
 // The tangents of an accepted call, where `smooth` holds the smoothness of the entries, and zeros in all scratch lists; and the
@@ -134,6 +121,9 @@ pub fn make_tangents(
         link,
     );
     finish_tangents(n, p, h, pos, normals, fixed, t, smooth, desired);
-    clear_scratch(fixed, flat, at, link);
+    fixed.fill(0);
+    flat.fill(0);
+    at.fill(0);
+    link.fill(0);
     directionless
 }

@@ -37,7 +37,8 @@ pub struct Sums {
 
 // ---- the creases of each point
 
-// Puts e in front of the list of the point where it starts.
+// Puts e in front of the list of the point where it starts. The number n + 1 + e stands for e; a number and no enum, since both
+// lists are lent by the caller, for C too.
 fn link_halfedge(n: usize, h: &[i32], at: &mut [usize], link: &mut [usize], e: usize)
     requires { (e < length link.old) × (start_vert (as_halfedges h.now) e < length at.old) × (n + 1 + e < 2 ^ 64) × Inside (as_halfedges h.now) e }
     ensures { (link.new ≡ set link.old e (get_or at.old (start_vert (as_halfedges h.now) e) 0)) × (at.new ≡ set at.old (start_vert (as_halfedges h.now) e) (suc n + e)) }
@@ -66,9 +67,7 @@ pub fn link_creases(n: usize, h: &[i32], smooth: &[f64], at: &mut [usize], link:
     requires { Lists (as_halfedges h.now) smooth.now at.old link.old n × ((v : ℕ) → v < length at.old → get_or at.old v 0 ≡ vert_halfedge (as_halfedges h.now) n v) }
     ensures { LinkedAll (as_halfedges h.now) smooth.now at.new link.new n }
 {
-    let mut f = n;
-    while 0 < f {
-        f -= 1;
+    for f in (0..n).rev() {
         link_edge(n, h, smooth, at, link, f);
     }
 }
@@ -93,6 +92,7 @@ pub fn find_creases(
 }
 
 // The halfedge that stands at a point after `link_creases`: that of its first crease, or with no crease its lowest, n for none.
+// No Option: at a meeting, which is walked round from it, it is always there, and a branch for none would be one that nothing takes.
 pub fn first_crease(n: usize, at: &[usize], v: usize) -> usize
     requires { (v < length at.now) × (n + 1 < 2 ^ 64) }
     ensures { result ≡ halfedge_of n (get_or at.now v 0) }

@@ -41,10 +41,8 @@ pub fn add_flat_boundaries(h: &[i32], refs: &[i32], flat: &[u8], smooth: &mut [f
     requires { FlatIn (as_halfedges h.now) (length flat.now) × (length smooth.old ≡ length flat.now) }
     ensures { smooth.new ≡ smoothness (as_halfedges h.now) refs.now (is_flat flat.now) smooth.old (length flat.now) }
 {
-    let mut e = 0;
-    while e < flat.len() {
+    for e in 0..flat.len() {
         add_flat_boundary(h, refs, flat, smooth, e);
-        e += 1;
     }
 }
 

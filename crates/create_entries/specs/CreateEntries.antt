@@ -1,9 +1,8 @@
 -- Making from sharp edges as a public call, with the sharp entries E as a list of structs. The other letters are those of `create`.
 use Rattle.std.specs.Prelude.{ℕ, List, Bool, ℤ, Float}
 use Rattle.mesh.specs.Mesh.{Halfedges}
-use Rattle.mesh.specs.declared.Checked.{Checked}
-use Rattle.create_shared.specs.Answer.{answer_of}
-use Rattle.create_shared.specs.declared.Making.{Making}
+use Rattle.mesh.specs.Check.{Checked, answer_of}
+use Rattle.create_shared.specs.Answer.{Making}
 use Rattle.create_smoothness.specs.Entries.{halfedges_of, smoothness_of}
 use Rattle.create_smoothness.specs.declared.Smoothness.{Smoothness}
 use Rattle.create_core.specs.Core.{create_directionless}

@@ -5,19 +5,17 @@
 ghost use Rattle.std.specs.Prelude.{◌≡◌, ◌*◌, ◌≤◌, ◌&&◌, length, replicate};
 ghost use Rattle.float.specs.Ops.{zero};
 ghost use Rattle.mesh.specs.Mesh.{as_halfedges};
-ghost use Rattle.mesh.specs.Check.{check_mesh, check_refs, when_accepted};
+ghost use Rattle.mesh.specs.Check.{check_mesh, check_refs, check_entries, when_accepted};
 ghost use Rattle.create_shared.specs.Answer.{directionless_of, checked_of, Values};
-ghost use Rattle.create_smoothness.specs.Questions.{check_passed};
+ghost use Rattle.create_smoothness.specs.Entries.{halfedges_of, smoothness_of};
 ghost use Rattle.create.specs.Create.{lists_fit, scratch_fits, tangents_after};
 ghost use Rattle.create_core.specs.Core.{create_directionless};
 ghost use Rattle.create_entries.specs.CreateEntries.{check_lists, create_answer};
 
-use create_shared::Making;
-use create_smoothness::{Passed, Smoothness};
-use mesh::Checked;
+use create_smoothness::Smoothness;
+use mesh::Refusal;
 
-// The questions 1 to 10, of which 9 and 10 were put to the `sharp` entries before. Of the lists that are written only the
-// lengths are asked.
+// The questions 1 to 10. Of the lists that are written only the lengths are asked.
 fn check_lists(
     n: usize,
     p: usize,
@@ -26,8 +24,7 @@ fn check_lists(
     normals: &[f64],
     face_normals: &[f64],
     refs: &[i32],
-    passed: Passed,
-    sharp: usize,
+    sharp: &[Smoothness],
     t: usize,
     fixed: usize,
     flat: usize,
@@ -35,9 +32,10 @@ fn check_lists(
     desired: usize,
     at: usize,
     link: usize,
-) -> Checked
-    ensures { result ≡ check_passed (check_refs (check_mesh (as_halfedges h.now) n p (lists_fit (as_halfedges h.now).numbers (length pos.now) (length normals.now) (length face_normals.now) (length refs.now) sharp sharp t n p && scratch_fits fixed flat smooth desired at link n p)) refs.now n) passed sharp }
+) -> Result<(), Refusal>
+    ensures { result ≡ check_entries (check_refs (check_mesh (as_halfedges h.now) n p (lists_fit (as_halfedges h.now).numbers (length pos.now) (length normals.now) (length face_normals.now) (length refs.now) (length sharp.now) (length sharp.now) t n p && scratch_fits fixed flat smooth desired at link n p)) refs.now n) (halfedges_of sharp.now) (smoothness_of sharp.now) n }
 {
+    let entries = sharp.len();
     let lists = create::lists_fit(
         n,
         p,
@@ -46,13 +44,13 @@ fn check_lists(
         normals.len(),
         face_normals.len(),
         refs.len(),
-        sharp,
-        sharp,
+        entries,
+        entries,
         t,
     );
     let scratch = create::scratch_fits(n, p, fixed, flat, smooth, desired, at, link);
     let checked = mesh::check_mesh(h, n, p, common::both(lists, scratch));
-    create_smoothness::check_passed(mesh::check_refs(checked, refs, n), passed, sharp)
+    create_smoothness::check_sharp(mesh::check_refs(checked, refs, n), sharp, n)
 }
 
 // Making from sharp edges, for lists of any length and content: `create::create_tangents` with the sharp entries as structs.
@@ -73,7 +71,7 @@ pub fn create_entries(
     desired: &mut [f64],
     at: &mut [usize],
     link: &mut [usize],
-) -> Making
+) -> Result<usize, Refusal>
     ensures answer { result ≡ create_answer (as_halfedges h.now) pos.now normals.now face_normals.now refs.now sharp.now t.old fixed.old flat.old smooth.old desired.old at.old link.old old n p }
     ensures tangents { t.new ≡ tangents_after (checked_of result) (as_halfedges h.now) pos.now normals.now face_normals.now refs.now sharp.now t.old old n p }
     ensures fixed { fixed.new ≡ when_accepted (checked_of result) (replicate n 0) fixed.old }
@@ -93,8 +91,7 @@ pub fn create_entries(
         normals,
         face_normals,
         refs,
-        create_smoothness::scan(sharp, n),
-        sharp.len(),
+        sharp,
         t.len(),
         fixed.len(),
         flat.len(),
@@ -103,8 +100,8 @@ pub fn create_entries(
         at.len(),
         link.len(),
     );
-    let Checked::Accepted = checked else {
-        return create_shared::answer(checked, 0);
+    let Ok(()) = checked else {
+        return mesh::refused(checked);
     };
     create_smoothness::sharp_smoothness(sharp, smooth);
     let directionless = create_core::make_tangents(
@@ -124,5 +121,5 @@ pub fn create_entries(
         at,
         link,
     );
-    create_shared::answer(checked, directionless)
+    Ok(directionless)
 }

@@ -13,7 +13,7 @@ use Rattle.mesh.specs.Mesh.{halfedge_stride, no_index, as_halfedges, prop_vert}
 use Rattle.mesh.specs.Questions.{has_length}
 use Rattle.mesh.specs.Check.{check_mesh, check_rows}
 use Rattle.mesh.specs.Sound.{Sound}
-use Rattle.mesh.specs.declared.Checked.TheVariants.{Accepted}
+use Rattle.std.specs.Prelude.{Ok}
 use Rattle.common.proofs.Tests.{and_true}
 use Rattle.mesh.proofs.Tests.{has_length_lem, has_one}
 use Rattle.mesh.proofs.Accepted.{accepted, rows_accepted, refs_accepted, list_numbers}
@@ -71,7 +71,7 @@ rows_in list G n whole thirds rows e h = record {
 
 -- the lists of an accepted call
 pub lists_of : (list : List ℤ) (P N A : List Float) (R : List ℤ) (G T : List Float) (X Q : List ℕ) (C D : List Float) (F : List ℕ) (n p : ℕ)
-    → check_lists list P N A R G T X Q C D F n p ≡ Accepted → Lists list P N A G T X Q C D F n p
+    → check_lists list P N A R G T X Q C D F n p ≡ Ok tt → Lists list P N A G T X Q C D F n p
 unfolding check_normals
 lists_of list P N A R G T X Q C D F n p e =
     let H = as_halfedges list in

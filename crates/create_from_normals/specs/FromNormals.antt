@@ -2,11 +2,9 @@
 use Rattle.std.specs.Prelude.{ℕ, ◌/◌, ◌%◌, List, Bool, ◌&&◌, length, eqb, ℤ, Float}
 use Rattle.mesh.specs.Mesh.{as_halfedges}
 use Rattle.mesh.specs.Questions.{has_length}
-use Rattle.mesh.specs.Check.{check_mesh, check_rows, check_refs, when_accepted}
-use Rattle.mesh.specs.declared.Checked.{Checked}
+use Rattle.mesh.specs.Check.{Checked, check_mesh, check_rows, check_refs, answer_of, when_accepted}
 use Rattle.create_shared.specs.Lengths.{mesh_lists_fit}
-use Rattle.create_shared.specs.Answer.{answer_of}
-use Rattle.create_shared.specs.declared.Making.{Making}
+use Rattle.create_shared.specs.Answer.{Making}
 use Rattle.normals_state.specs.State.{get_normal}
 use Rattle.normals_core.specs.Core.{create_tangents_from_normals, from_normals_directionless}
 

@@ -11,8 +11,7 @@ ghost use Rattle.normals_state.specs.State.{get_normal};
 ghost use Rattle.normals_core.specs.Core.{from_normals_directionless};
 ghost use Rattle.create_from_normals.specs.FromNormals.{lists_fit, scratch_fits, check_normals, check_lists, tangents_after, create_answer};
 
-use create_shared::Making;
-use mesh::Checked;
+use mesh::Refusal;
 
 // Question 2 of the lists that the call reads, and of the tangents, from the length of each.
 fn lists_fit(
@@ -67,7 +66,14 @@ fn scratch_fits(
 }
 
 // The questions 1 to 7, 12 and 8; `lengths` is the answer to question 2, `rows` how many rows there are.
-fn check_normals(n: usize, p: usize, h: &[i32], refs: &[i32], rows: usize, lengths: bool) -> Checked
+fn check_normals(
+    n: usize,
+    p: usize,
+    h: &[i32],
+    refs: &[i32],
+    rows: usize,
+    lengths: bool,
+) -> Result<(), Refusal>
     ensures { result ≡ check_normals h.now refs.now rows n p lengths }
 {
     let checked = mesh::check_mesh(h, n, p, lengths);
@@ -95,7 +101,7 @@ pub fn create_tangents_from_normals(
     current: &mut [f64],
     desired: &mut [f64],
     first: &mut [usize],
-) -> Making
+) -> Result<usize, Refusal>
     ensures answer { result ≡ create_answer h.now pos.now normals.now face_normals.now refs.now rows.now t.old fixed.old inside.old current.old desired.old first.old old n p }
     ensures tangents { t.new ≡ tangents_after (checked_of result) h.now pos.now normals.now face_normals.now refs.now rows.now t.old old n p }
     ensures fixed { fixed.new ≡ when_accepted (checked_of result) (replicate n 0) fixed.old }
@@ -120,8 +126,8 @@ pub fn create_tangents_from_normals(
     let scratch = scratch_fits(n, p, fixed, inside, current, desired, first);
     let lengths = common::both(lists, scratch);
     let checked = check_normals(n, p, h, refs, rows.len() / 3, lengths);
-    let Checked::Accepted = checked else {
-        return create_shared::answer(checked, 0);
+    let Ok(()) = checked else {
+        return mesh::refused(checked);
     };
     let directionless = normals_core::make_tangents(
         n,
@@ -140,5 +146,5 @@ pub fn create_tangents_from_normals(
         desired,
         first,
     );
-    create_shared::answer(checked, directionless)
+    Ok(directionless)
 }

@@ -113,10 +113,8 @@ fn put_each(
     ensures directionless { result ≡ firsts_directionless (as_halfedges h.now) pos.now (is_inside_quad (as_halfedges h.now) refs.now t.old true) n }
 {
     let mut directionless = 0;
-    let mut e = 0;
-    while e < n {
+    for e in 0..n {
         directionless += put_first_tangent(n, h, refs, pos, normals, face_normals, at, t, e);
-        e += 1;
     }
     directionless
 }
@@ -177,6 +175,8 @@ fn put_edge(
     if tangents.directionless { 2 } else { 0 }
 }
 
+// A loop of its own, and not a test of `old` in that of `put_each`: each keeps another invariant, this one that of both halfedges
+// of an edge.
 fn put_edges(
     n: usize,
     h: &[i32],
@@ -192,10 +192,8 @@ fn put_edges(
     ensures directionless { result ≡ firsts_directionless (as_halfedges h.now) pos.now (is_inside_quad (as_halfedges h.now) refs.now t.old false) n }
 {
     let mut directionless = 0;
-    let mut e = 0;
-    while e < n {
+    for e in 0..n {
         directionless += put_edge(n, h, refs, pos, normals, face_normals, at, t, e);
-        e += 1;
     }
     directionless
 }

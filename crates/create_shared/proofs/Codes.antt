@@ -1,18 +1,15 @@
 -- How a scratch list holds the flat faces at a point. Assumes nothing.
-use Prim.Native.Nat.{ℕ, zero, suc, ◌+◌, ◌-◌, ◌*◌, ◌/◌, ◌%◌, ◌<◌}
+use Prim.Native.Nat.{ℕ, zero, suc, ◌+◌, ◌-◌, ◌*◌, ◌/◌, ◌%◌}
 use native.Mathlib.Omega.{arith}
-use mathlib.Core.Path.{◌≡◌, refl, ap, sym, ◌∙◌}
+use mathlib.Core.Path.{◌≡◌, refl, ◌∙◌}
 use mathlib.Core.List.{List}
 use mathlib.Core.Bool.{Bool, true, false, cond}
-use lib.ListN.{length, get_or, set}
-use lib.Seq.{get_or-set_same, get_or-set_other}
 use lib.IntN.{ℤ}
 use lib.Dec.{eqb}
-use borrow.Author.Tests.{eq-eqb, ne_eqb, eqb-true, eqb-false}
+use borrow.Author.Tests.{eq-eqb, ne_eqb}
 use Rattle.mesh.specs.Mesh.{same_face}
 use Rattle.create_shared.specs.Faces.{add_flat_face}
 use Rattle.create_shared.specs.Lent.{face_of}
-use Rattle.create_shared.specs.declared.FlatFace.{FlatFace}
 use Rattle.create_shared.specs.declared.FlatFace.TheVariants.{NoFace, OneFace, MoreFaces}
 
 pub face_none : face_of 0 ≡ NoFace
@@ -45,14 +42,3 @@ add_some R false u t = refl
 -- one more triangle at a point that has a flat face
 pub face_again : (R : List ℤ) (c t : ℕ) → (c ≡ 0 → ⊥) → add_flat_face R (face_of c) t ≡ cond (same_face R ((c - 1) / 2) t) (face_of c) (MoreFaces t)
 face_again R c t h = rw (face_some c h) (add_some R (eqb ((c - 1) % 2) 0) ((c - 1) / 2) t)
-
--- the flat faces at each point after those at u have changed by g
-pub face_put : (L : List ℕ) (u c : ℕ) (g : FlatFace → FlatFace) (v : ℕ) → v < length L → face_of c ≡ g (face_of (get_or L u 0)) → face_of (get_or (set L u c) v 0) ≡ cond (eqb u v) (g (face_of (get_or L v 0))) (face_of (get_or L v 0))
-face_put L u c g v l e = go (eqb u v) refl
-  where
-    go : (b : Bool) → eqb u v ≡ b → face_of (get_or (set L u c) v 0) ≡ cond b (g (face_of (get_or L v 0))) (face_of (get_or L v 0))
-    go true q =
-        let p : u ≡ v = eqb-true u v q in
-        let e' : face_of c ≡ g (face_of (get_or L v 0)) = rw p at e in
-        rw (p, get_or-set_same L v c 0 l) e'
-    go false q = ap face_of (get_or-set_other L u v c 0 (λ p. eqb-false u v q (sym p)))

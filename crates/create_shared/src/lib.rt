@@ -11,10 +11,10 @@ ghost use Rattle.create_shared.specs.Faces.{neighbor_tri, is_face_neighbor, face
 ghost use Rattle.create_shared.specs.Lent.{FlatIn, VertsIn, face_of, flat_flags};
 ghost use Rattle.create_shared.specs.Lengths.{mesh_lists_fit};
 ghost use Rattle.create_shared.specs.Makings.{MakingIn, tangents_of, put_circular_tangent, align_tangents, directionless_at, aligned_directionless};
-ghost use Rattle.create_shared.specs.Answer.{number_of, place_of, directionless_of, answer_of};
+ghost use Rattle.create_shared.specs.Answer.{directionless_of};
 
 use linalg::Vec3;
-use mesh::Checked;
+use mesh::Refusal;
 
 // The flat faces at a point, the Rust's -1, triangle and -2: none; one, with its lowest triangle; or more, with the last
 // triangle that brought another face.
@@ -23,14 +23,6 @@ pub enum FlatFace {
     NoFace,
     OneFace(usize),
     MoreFaces(usize),
-}
-
-// The answer of a making: how many circular tangents it computed on an edge without direction, or the first question answered no
-// and its lowest place.
-#[derive(Clone, Copy)]
-pub enum Making {
-    Made { directionless: usize },
-    Refused { number: usize, place: usize },
 }
 
 // ---- flat faces
@@ -43,6 +35,7 @@ fn neighbor_tri(h: &[i32], t: usize, j: usize) -> usize
     mesh::paired_halfedge(h, t * 3 + j) / 3
 }
 
+#[tactic(auto, unfolding(crate::specs::Faces::is_face_neighbor))]
 fn is_face_neighbor(h: &[i32], refs: &[i32], t: usize, j: usize) -> bool
     requires { Inside (as_halfedges h.now) (t * 3 + j) }
     ensures { result ≡ is_face_neighbor (as_halfedges h.now) refs.now t j }
@@ -50,6 +43,7 @@ fn is_face_neighbor(h: &[i32], refs: &[i32], t: usize, j: usize) -> bool
     mesh::same_face(refs, neighbor_tri(h, t, j), t)
 }
 
+#[tactic(auto, unfolding(crate::specs::Faces::face_neighbors))]
 fn face_neighbors(h: &[i32], refs: &[i32], t: usize) -> usize
     requires { (j : ℕ) → j < 3 → Inside (as_halfedges h.now) (t * 3 + j) }
     ensures { result ≡ face_neighbors (as_halfedges h.now) refs.now t }
@@ -60,6 +54,7 @@ fn face_neighbors(h: &[i32], refs: &[i32], t: usize) -> usize
     a + b + c
 }
 
+#[tactic(auto, unfolding(crate::specs::Faces::mark_neighbor))]
 fn mark_neighbor(h: &[i32], refs: &[i32], flat: &mut [u8], t: usize, j: usize)
     requires { (t * 3 + j < length flat.old) × FlatIn (as_halfedges h.now) (length flat.old) }
     ensures { flat.new ≡ mark_neighbor (as_halfedges h.now) refs.now t flat.old j }
@@ -70,6 +65,7 @@ fn mark_neighbor(h: &[i32], refs: &[i32], flat: &mut [u8], t: usize, j: usize)
     }
 }
 
+#[tactic(auto, unfolding(crate::specs::Faces::mark_flat, common::specs::Fold::fold_to))]
 fn mark_flat(h: &[i32], refs: &[i32], flat: &mut [u8], t: usize)
     requires { (t * 3 + 2 < length flat.old) × FlatIn (as_halfedges h.now) (length flat.old) }
     ensures { flat.new ≡ mark_flat (as_halfedges h.now) refs.now flat.old t }
@@ -88,15 +84,14 @@ pub fn flat_faces(h: &[i32], refs: &[i32], flat: &mut [u8])
     requires { FlatIn (as_halfedges h.now) (length flat.old) }
     ensures { flat.new ≡ flat_flags (as_halfedges h.now) refs.now (length flat.old) }
 {
-    common::fill_bytes(flat, 0);
-    let mut t = 0;
-    while t < flat.len() / 3 {
+    flat.fill(0);
+    for t in 0..flat.len() / 3 {
         mark_flat(h, refs, flat, t);
-        t += 1;
     }
 }
 
-// What stands for the flat faces at a point after another triangle t.
+// What stands for the flat faces at a point after another triangle t: 0 for none, t * 2 + 1 for one, t * 2 + 2 for more. They
+// stand as numbers and not as `FlatFace`, since the list that holds them is lent by the caller, for C too, and has no heap of its own.
 fn add_flat_face(refs: &[i32], code: usize, t: usize) -> usize
     requires { t * 2 + 2 < 2 ^ 64 }
     ensures { face_of result ≡ add_flat_face refs.now (face_of code) t }
@@ -110,6 +105,7 @@ fn add_flat_face(refs: &[i32], code: usize, t: usize) -> usize
     t * 2 + 2
 }
 
+#[tactic(auto, unfolding(crate::specs::Faces::vert_face_at))]
 fn vert_face_at(h: &[i32], refs: &[i32], flat: &[u8], at: &mut [usize], e: usize)
     requires { (e < length flat.now) × VertsIn (as_halfedges h.now) (length flat.now) (length at.old) }
     ensures { (v : ℕ) → v < length at.old → face_of (get_or at.new v 0) ≡ vert_face_at (as_halfedges h.now) refs.now (is_flat flat.now) v (face_of (get_or at.old v 0)) e }
@@ -128,11 +124,9 @@ pub fn vert_flat_face(h: &[i32], refs: &[i32], flat: &[u8], at: &mut [usize])
     requires { VertsIn (as_halfedges h.now) (length flat.now) (length at.old) }
     ensures { (v : ℕ) → v < length at.old → face_of (get_or at.new v 0) ≡ vert_flat_face (as_halfedges h.now) refs.now (is_flat flat.now) (length flat.now) v }
 {
-    common::fill_numbers(at, 0);
-    let mut e = 0;
-    while e < flat.len() {
+    at.fill(0);
+    for e in 0..flat.len() {
         vert_face_at(h, refs, flat, at, e);
-        e += 1;
     }
 }
 
@@ -157,10 +151,8 @@ pub fn vert_halfedge(h: &[i32], at: &mut [usize], n: usize)
     requires { VertsIn (as_halfedges h.now) n (length at.old) }
     ensures { (v : ℕ) → v < length at.old → get_or at.new v 0 ≡ vert_halfedge (as_halfedges h.now) n v }
 {
-    common::fill_numbers(at, n);
-    let mut e = n;
-    while 0 < e {
-        e -= 1;
+    at.fill(n);
+    for e in (0..n).rev() {
         let v = mesh::start_vert(h, e);
         at[v] = e;
     }
@@ -194,6 +186,7 @@ pub fn mesh_lists_fit(
 // ---- two halfedges of a point along one line
 
 // The circular tangent of halfedge e that leaves in the direction `dir`, and 1 where its edge has no direction.
+#[tactic(auto, unfolding(crate::specs::Makings::put_circular_tangent, crate::specs::Makings::directionless_at))]
 fn put_circular_tangent(h: &[i32], pos: &[f64], t: &mut [f64], e: usize, dir: Vec3) -> usize
     requires { (e * 4 + 4 ≤ length t.old) × EdgeIn (as_halfedges h.now) pos.now e }
     ensures tangents { t.new ≡ put_circular_tangent (as_halfedges h.now) pos.now t.old e dir }
@@ -229,42 +222,9 @@ pub fn align_tangents(
 
 // ---- the answer
 
-pub fn number_of(making: Making) -> usize
-    ensures { result ≡ number_of making }
-{
-    match making {
-        Making::Made { directionless: _ } => 0,
-        Making::Refused { number, place: _ } => number,
-    }
-}
-
-pub fn place_of(making: Making) -> usize
-    ensures { result ≡ place_of making }
-{
-    match making {
-        Making::Made { directionless: _ } => 0,
-        Making::Refused { number: _, place } => place,
-    }
-}
-
-pub fn directionless_of(making: Making) -> usize
+// How many circular tangents a making computed on an edge without direction; 0 where it is refused, which computes none.
+pub fn directionless_of(making: Result<usize, Refusal>) -> usize
     ensures { result ≡ directionless_of making }
 {
-    match making {
-        Making::Made { directionless } => directionless,
-        Making::Refused {
-            number: _,
-            place: _,
-        } => 0,
-    }
-}
-
-// The answer with the count, or the refusal with its number and place.
-pub fn answer(checked: Checked, directionless: usize) -> Making
-    ensures { result ≡ answer_of checked directionless }
-{
-    match checked {
-        Checked::Accepted => Making::Made { directionless },
-        Checked::Refused { number, place } => Making::Refused { number, place },
-    }
+    making.unwrap_or(0)
 }

@@ -243,10 +243,8 @@ pub fn shape_verts(
     ensures directionless { result ≡ creases_directionless (as_halfedges h.now) pos.now (pairs_at (as_halfedges h.now) smooth.now n) (length at.now) }
 {
     let mut directionless = 0;
-    let mut v = 0;
-    while v < at.len() {
+    for v in 0..at.len() {
         directionless += shape_vert(n, h, pos, flat, smooth, at, link, t, fixed, v);
-        v += 1;
     }
     directionless
 }

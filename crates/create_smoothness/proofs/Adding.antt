@@ -10,7 +10,7 @@ use lib.Ieee.{Float}
 use Rattle.float.specs.Ops.{one}
 use Rattle.create_smoothness.specs.EntrySmoothness.{EntriesIn, add_entry, add_smoothness, entry_smoothness}
 use Rattle.create_smoothness.specs.declared.Smoothness.{Smoothness}
-use Rattle.create_smoothness.proofs.Passing.{get_map}
+use Rattle.std.proofs.lemmas.List.{get_or-map}
 
 -- a fold over the first k of a list, and one more
 fold_more : {A B : Type 0} (f : B → A → B) (d : A) (s : B) (l : List A) (k : ℕ) → k < length l → foldl f s (take (suc k) l) ≡ f (foldl f s (take k l)) (get_or l k d)
@@ -33,4 +33,4 @@ all_added S E n e = ap (foldl add_smoothness S) (take_all (length E) E (le_refl 
 
 -- the halfedge of entry k
 pub named_at : {E : List Smoothness} {n : ℕ} → EntriesIn E n → (d : Smoothness) (k : ℕ) → k < length E → (get_or E k d).halfedge < n
-named_at {E} {n} i d k h = subst (λ (m : ℕ). m < n) (get_map (λ e. e.halfedge) d 0 E k h) (i.named k h)
+named_at {E} {n} i d k h = subst (λ (m : ℕ). m < n) (get_or-map (λ e. e.halfedge) E k d 0 h) (i.named k h)

@@ -1,5 +1,4 @@
 -- The laws of `create_smoothness`. Those that the crates above cite are public.
 pub mod Adding
 pub mod Flat
-pub mod Passing
 mod Counting

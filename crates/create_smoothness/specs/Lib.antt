@@ -1,4 +1,3 @@
 -- The specs of `create_smoothness`.
 pub mod Entries
 pub mod EntrySmoothness
-pub mod Questions

@@ -8,7 +8,7 @@ use lib.ListN.{length}
 use Rattle.mesh.specs.Mesh.{start_vert, paired_halfedge, next_halfedge, prev_halfedge, Halfedges}
 use Rattle.mesh.specs.Sound.{Sound}
 use Rattle.mesh.specs.Check.{check_mesh}
-use Rattle.mesh.specs.declared.Checked.TheVariants.{Accepted}
+use Rattle.std.specs.Prelude.{Ok}
 use Rattle.mesh.proofs.Accepted.{accepted}
 use Rattle.mesh.proofs.Halfedges as Halfedges
 use Rattle.cycles.specs.Count.{count, ◌∈◌}
@@ -108,5 +108,5 @@ module _ {H : Halfedges} {n p : ℕ} (S : Sound H n p) where
   }
 
 -- so a mesh that got through the questions has them
-pub accepted_cycles : (H : Halfedges) (n p : ℕ) (lengths : Bool) → check_mesh H n p lengths ≡ Accepted → Cycles H n
+pub accepted_cycles : (H : Halfedges) (n p : ℕ) (lengths : Bool) → check_mesh H n p lengths ≡ Ok tt → Cycles H n
 accepted_cycles H n p lengths a = cycles (accepted H n p lengths a).1

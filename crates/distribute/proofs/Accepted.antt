@@ -9,7 +9,7 @@ use lib.ListN.{length}
 use lib.Ieee.{Float}
 use Rattle.mesh.specs.Mesh.{halfedge_stride, Halfedges}
 use Rattle.mesh.specs.Questions.{has_length}
-use Rattle.mesh.specs.declared.Checked.TheVariants.{Accepted}
+use Rattle.std.specs.Prelude.{Ok}
 use Rattle.common.proofs.Tests.{and_true}
 use Rattle.mesh.proofs.Accepted.{accepted, flags_accepted}
 use Rattle.distribute_walks.specs.Walks.{Lists}
@@ -32,7 +32,7 @@ read_of H P N X T n p e =
     let flags : length X ≡ n * 1 = eqb-true _ _ b.1 in
     record { whole = eqb-true _ _ d.0; positions = eqb-true _ _ d.1; normals = eqb-true _ _ c.1; flags = flags ∙ mul-one n; tangents = eqb-true _ _ a.1 }
 
-pub lists_of : (H : Halfedges) (P N : List Float) (X : List ℕ) (T C D : List Float) (n p : ℕ) → check_lists H P N X T C D n p ≡ Accepted → Lists H P N X T C D n p
+pub lists_of : (H : Halfedges) (P N : List Float) (X : List ℕ) (T C D : List Float) (n p : ℕ) → check_lists H P N X T C D n p ≡ Ok tt → Lists H P N X T C D n p
 unfolding check_lists
 lists_of H P N X T C D n p e =
     let m = accepted H n p (lengths_fit H P N X T C D n p) (flags_accepted _ n X e).0 in

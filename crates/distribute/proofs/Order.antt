@@ -5,8 +5,7 @@ use Prim.Native.Nat.{ℕ}
 use lib.Ieee.{Float}
 use Rattle.mesh.specs.Mesh.{Halfedges}
 use Rattle.distribute_spread.proofs.Order.{order_free}
-use Rattle.distribute.specs.Distribute.{distribute_tangents, tangents_after, AnyOrder}
-use Rattle.distribute.specs.declared.Spreading.{Spreading}
+use Rattle.distribute.specs.Distribute.{Spreading, distribute_tangents, tangents_after, AnyOrder}
 use Rattle.distribute_walks.proofs.Lawful.{lawful}
 use Rattle.distribute.proofs.Accepted.{lists_of}
 

@@ -5,7 +5,7 @@ use Rattle.float.specs.Ops as float
 use Rattle.float.specs.Ops.{◌⊗◌}
 use Rattle.common.specs.Fold.{fold_to}
 use Rattle.mesh.specs.Mesh.{Halfedges}
-use Rattle.mesh.specs.declared.Checked.TheVariants.{Accepted}
+use Rattle.std.specs.Prelude.{Ok}
 use Rattle.cycles.specs.Walk.{iter}
 use Rattle.distribute_spread.specs.Steps.{Steps}
 use Rattle.distribute_spread.specs.Spread.{State, turn_at, second_walk}
@@ -16,7 +16,7 @@ use Rattle.distribute.specs.Distribute.{check_lists}
 
 -- Both walks go from `start` on an accepted mesh: it is fixed, and unmarked in the tangents T' that the starts before it left. T' may be any list with four numbers for each halfedge.
 pub record WalksGo (H : Halfedges) (P N : List Float) (X : List ℕ) (T C D : List Float) (n p : ℕ) (T' : List Float) (start : ℕ) : Type 0 where
-  pub accepted : check_lists H P N X T C D n p ≡ Accepted
+  pub accepted : check_lists H P N X T C D n p ≡ Ok tt
   pub whole : length T' ≡ n * 4
   pub below : start < n
   pub is_start : FixedUnmarked (float_steps H P N X n) T' start

@@ -1,39 +1,30 @@
 -- Spreading as a public call: `distribute_tangents` of src/smoothing_tangents.rs, with document 01's two counts and its questions. H are the halfedges, P the positions, N the point normals, X the flags, T the tangents, C and D the scratch lists, n and p the counts of halfedges and points.
-use Rattle.std.specs.Prelude.{ℕ, ◌≡◌, List, Bool, ◌&&◌, length, replicate, Float}
+use Rattle.std.specs.Prelude.{ℕ, ◌≡◌, List, Bool, ◌&&◌, length, replicate, Float, Result, Ok, Err}
 use Rattle.float.specs.Ops.{zero}
 use Rattle.mesh.specs.Mesh.{halfedge_stride, Halfedges}
 use Rattle.mesh.specs.Questions.{has_length}
-use Rattle.mesh.specs.Check as mesh
-use Rattle.mesh.specs.Check.{check_mesh, check_flags, when_accepted}
-use Rattle.mesh.specs.declared.Checked.{Checked}
-use Rattle.mesh.specs.declared.Checked.TheVariants.{Accepted, Refused}
+use Rattle.mesh.specs.Check.{Checked, number_of, place_of, check_mesh, check_flags, answer_of, when_accepted}
+use Rattle.mesh.specs.declared.Refusal.{Refusal}
 use Rattle.distribute_spread.specs.Steps.{Steps}
 use Rattle.distribute_spread.specs.Spread.{State, pass}
 use Rattle.distribute_spread.specs.Order.{NamesFixed, OrderFree}
 use Rattle.distribute_steps.specs.FloatSteps.{float_steps}
 use Rattle.distribute_walks.specs.declared.Counts.{Counts}
-use Rattle.distribute.specs.declared.Spreading.{Spreading}
-use Rattle.distribute.specs.declared.Spreading.TheVariants.{Spread, Refused as RefusedSpreading}
 
 -- ---- document 01's values of an answer
 
--- number and place of a refusal; 0 for a mesh that got through
-abbrev pub number_of : Spreading → ℕ
-number_of (Spread looked turned) = 0
-number_of (RefusedSpreading number place) = number
-
-abbrev pub place_of : Spreading → ℕ
-place_of (Spread looked turned) = 0
-place_of (RefusedSpreading number place) = place
+-- the two counts, or the refusal
+abbrev pub Spreading : Type 0
+Spreading = Result Counts Refusal
 
 -- looked and turned; 0 for a refusal, which looks at nothing
 abbrev pub looked_of : Spreading → ℕ
-looked_of (Spread looked turned) = looked
-looked_of (RefusedSpreading number place) = 0
+looked_of (Ok counts) = counts.looked
+looked_of (Err refusal) = 0
 
 abbrev pub turned_of : Spreading → ℕ
-turned_of (Spread looked turned) = turned
-turned_of (RefusedSpreading number place) = 0
+turned_of (Ok counts) = counts.turned
+turned_of (Err refusal) = 0
 
 -- ---- the questions
 
@@ -63,14 +54,14 @@ pub record Reports (S : Steps) (st : State S) (ts : S.Tangents) (k : Counts) : T
   pub looked_is : k.looked ≡ st.looked
   pub turned_is : k.turned ≡ st.turned
 
-abbrev pub answer_of : Checked → ℕ → ℕ → Spreading
-answer_of Accepted looked turned = Spread looked turned
-answer_of (Refused number place) looked turned = RefusedSpreading number place
+-- the two counts
+abbrev pub counts_of : ℕ → ℕ → Counts
+counts_of looked turned = record { looked = looked; turned = turned }
 
 -- the answer, for every input
 abbrev pub distribute_tangents : Halfedges → List Float → List Float → List ℕ → List Float → List Float → List Float → ℕ → ℕ → Spreading
 distribute_tangents H P N X T C D n p =
-    answer_of (check_lists H P N X T C D n p) (spread_tangents H P N X T n).looked (spread_tangents H P N X T n).turned
+    answer_of (check_lists H P N X T C D n p) (counts_of (spread_tangents H P N X T n).looked (spread_tangents H P N X T n).turned)
 
 -- the tangents after the call, for every input: as lent when it is refused
 abbrev pub tangents_after : Halfedges → List Float → List Float → List ℕ → List Float → List Float → List Float → ℕ → ℕ → List Float
@@ -83,12 +74,12 @@ scratch_after checked lent n = when_accepted checked (replicate n zero) lent
 -- Demand 3 of an accepted call that found the tangents T and left them as `after`, and answered r: for every list of starts that names each fixed halfedge once.
 abbrev pub AnyOrder : Halfedges → List Float → List Float → List ℕ → List Float → List Float → List Float → ℕ → ℕ → List Float → Spreading → Type 0
 AnyOrder H P N X T C D n p after r =
-    check_lists H P N X T C D n p ≡ Accepted → (starts : List ℕ) → NamesFixed (float_steps H P N X n) starts
+    check_lists H P N X T C D n p ≡ Ok tt → (starts : List ℕ) → NamesFixed (float_steps H P N X n) starts
     → OrderFree (float_steps H P N X n) starts T after (looked_of r) (turned_of r)
 
 -- what the definitions give of an answer `r`, after the answer `checked` of the questions, where spreading comes to the state `st`: number, place, looked and turned
 pub record Values (checked : Checked) (S : Steps) (st : State S) (r : Spreading) : Type 0 where
-  pub number : number_of r ≡ mesh.number_of checked
-  pub place : place_of r ≡ mesh.place_of checked
+  pub number : number_of r ≡ number_of checked
+  pub place : place_of r ≡ place_of checked
   pub looked : looked_of r ≡ when_accepted checked st.looked 0
   pub turned : turned_of r ≡ when_accepted checked st.turned 0

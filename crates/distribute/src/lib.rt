@@ -7,63 +7,28 @@ ghost use Rattle.float.specs.Ops.{zero};
 ghost use Rattle.mesh.specs.Mesh.{as_halfedges};
 ghost use Rattle.distribute_steps.specs.FloatSteps.{float_steps};
 ghost use Rattle.distribute_walks.specs.Walks.{Lists};
-ghost use Rattle.distribute.specs.Distribute.{number_of, place_of, looked_of, turned_of, lists_fit, lengths_fit, check_lists, spread_tangents, Reports, answer_of, distribute_tangents, tangents_after, scratch_after, AnyOrder, Values};
+ghost use Rattle.distribute.specs.Distribute.{looked_of, turned_of, lists_fit, lengths_fit, check_lists, spread_tangents, Reports, distribute_tangents, tangents_after, scratch_after, AnyOrder, Values};
 
-use distribute_walks::Counts;
-use mesh::Checked;
+pub use distribute_walks::Counts;
+use mesh::Refusal;
 
-// The answer: looked and turned, or the first question answered no and its lowest place.
-#[derive(Clone, Copy)]
-pub enum Spreading {
-    Spread { looked: usize, turned: usize },
-    Refused { number: usize, place: usize },
-}
-
-pub fn number_of(spreading: Spreading) -> usize
-    ensures { result ≡ number_of spreading }
-{
-    match spreading {
-        Spreading::Spread {
-            looked: _,
-            turned: _,
-        } => 0,
-        Spreading::Refused { number, place: _ } => number,
-    }
-}
-
-pub fn place_of(spreading: Spreading) -> usize
-    ensures { result ≡ place_of spreading }
-{
-    match spreading {
-        Spreading::Spread {
-            looked: _,
-            turned: _,
-        } => 0,
-        Spreading::Refused { number: _, place } => place,
-    }
-}
-
-pub fn looked_of(spreading: Spreading) -> usize
+// How many steps were looked at; 0 where the call is refused.
+pub fn looked_of(spreading: Result<Counts, Refusal>) -> usize
     ensures { result ≡ looked_of spreading }
 {
     match spreading {
-        Spreading::Spread { looked, turned: _ } => looked,
-        Spreading::Refused {
-            number: _,
-            place: _,
-        } => 0,
+        Ok(spread) => spread.looked,
+        Err(_) => 0,
     }
 }
 
-pub fn turned_of(spreading: Spreading) -> usize
+// How many tangents were turned; 0 where the call is refused.
+pub fn turned_of(spreading: Result<Counts, Refusal>) -> usize
     ensures { result ≡ turned_of spreading }
 {
     match spreading {
-        Spreading::Spread { looked: _, turned } => turned,
-        Spreading::Refused {
-            number: _,
-            place: _,
-        } => 0,
+        Ok(spread) => spread.turned,
+        Err(_) => 0,
     }
 }
 
@@ -174,25 +139,12 @@ fn check_lists(
     t: &[f64],
     current: &[f64],
     desired: &[f64],
-) -> Checked
+) -> Result<(), Refusal>
     ensures { result ≡ check_lists (as_halfedges h.now) pos.now normals.now fixed.now t.now current.now desired.now n p }
 {
     let lengths = lengths_fit(n, p, h, pos, normals, fixed, t, current, desired);
     let checked = mesh::check_mesh(h, n, p, lengths);
     mesh::check_flags(checked, fixed, n)
-}
-
-// The answer with the counts, or the refusal with its number and place.
-pub fn answer(checked: Checked, counts: Counts) -> Spreading
-    ensures { result ≡ answer_of checked counts.looked counts.turned }
-{
-    match checked {
-        Checked::Accepted => Spreading::Spread {
-            looked: counts.looked,
-            turned: counts.turned,
-        },
-        Checked::Refused { number, place } => Spreading::Refused { number, place },
-    }
 }
 
 // Spreading, for lists of any length and content. `pos` and `normals` have three numbers for each point, `fixed` a flag
@@ -208,7 +160,7 @@ pub fn distribute_tangents(
     t: &mut [f64],
     current: &mut [f64],
     desired: &mut [f64],
-) -> Spreading
+) -> Result<Counts, Refusal>
     ensures answer { result ≡ distribute_tangents (as_halfedges h.now) pos.now normals.now fixed.now t.old current.old desired.old n p }
     ensures tangents { t.new ≡ tangents_after (as_halfedges h.now) pos.now normals.now fixed.now t.old current.old desired.old n p }
     ensures current { current.new ≡ scratch_after (check_lists (as_halfedges h.now) pos.now normals.now fixed.now t.old current.old desired.old n p) current.old n }
@@ -217,15 +169,9 @@ pub fn distribute_tangents(
     ensures values { Values (check_lists (as_halfedges h.now) pos.now normals.now fixed.now t.old current.old desired.old n p) (float_steps (as_halfedges h.now) pos.now normals.now fixed.now n) (spread_tangents (as_halfedges h.now) pos.now normals.now fixed.now t.old n) result }
 {
     let checked = check_lists(n, p, h, pos, normals, fixed, t, current, desired);
-    let Checked::Accepted = checked else {
-        return answer(
-            checked,
-            Counts {
-                looked: 0,
-                turned: 0,
-            },
-        );
+    let Ok(()) = checked else {
+        return mesh::refused(checked);
     };
     let counts = spread_tangents(n, p, h, pos, normals, fixed, t, current, desired);
-    answer(checked, counts)
+    Ok(counts)
 }

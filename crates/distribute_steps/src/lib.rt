@@ -10,10 +10,7 @@ ghost use Rattle.distribute_steps.specs.FloatSteps.{is_mark, is_fixed, is_start,
 ghost use Rattle.distribute_steps.specs.Scratch.{gathered_of, plan_of, EdgeFrom, GatherRoom, TurnRoom};
 
 use linalg::{Vec3, Vec4};
-
-const K_PI: f64 = 3.14159265358979323846264338327950288;
-
-const K_TWO_PI: f64 = 6.28318530717958647692528676655900577;
+use std::f64::consts::{PI, TAU};
 
 // What the first walk carries besides the angles, `count` of them in each list.
 #[derive(Clone, Copy)]
@@ -116,7 +113,7 @@ fn angle_around(approx: Vec3, tangent: Vec3, first: Vec3) -> f64
 {
     let angle = smoothing::angle_of_cosine(linalg::dot(tangent, first));
     if linalg::dot(approx, linalg::cross(tangent, first)) < 0.0 {
-        return K_TWO_PI - angle;
+        return TAU - angle;
     }
     angle
 }
@@ -126,7 +123,7 @@ fn next_current(back: bool, approx: Vec3, tangent: Vec3, first: Vec3) -> f64
     ensures { result ≡ next_current back approx tangent first }
 {
     if back {
-        return K_TWO_PI;
+        return TAU;
     }
     angle_around(approx, tangent, first)
 }
@@ -206,7 +203,7 @@ fn scale_of(current: &[f64], desired: &[f64], k: usize) -> f64
     requires { (k ≤ length current.now) × (k ≤ length desired.now) }
     ensures { result ≡ scale_of current.now desired.now k }
 {
-    last_or(current, k, K_TWO_PI) / last_or(desired, k, K_TWO_PI)
+    last_or(current, k, TAU) / last_or(desired, k, TAU)
 }
 
 // The offset, of k angles: 0 unless the first walk came back to its start.
@@ -242,14 +239,14 @@ pub fn plan(current: &[f64], desired: &[f64], start: usize, last: usize, g: Carr
 fn clamp_angle(angle: f64, last: f64, more: bool, following: f64) -> f64
     ensures { result ≡ clamp_angle angle last more following }
 {
-    if angle - last > K_PI {
-        return last + K_PI;
+    if angle - last > PI {
+        return last + PI;
     }
     if !more {
         return angle;
     }
-    if following - angle > K_PI {
-        return following - K_PI;
+    if following - angle > PI {
+        return following - PI;
     }
     angle
 }

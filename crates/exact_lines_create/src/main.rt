@@ -3,32 +3,20 @@
 // has what the documents and the unchanged Rust say.
 #![tactic(auto)]
 
-use create_shared::Making;
+use exact_lines_shared::{POSITIONS, halfedges, put};
+use mesh::Refusal;
 
-const PILLOW: [f64; 9] = [0.0, 0.0, 0.0, 3.0, 0.0, 0.0, 0.0, 6.0, 0.0];
+// The pillow's point normals, face normals and references.
+const NORMALS: [f64; 9] = [1.0, 2.0, 3.0, 1.0, 2.0, 3.0, 1.0, 2.0, 3.0];
 
-// The call, what it is asked about, and the number and place of its answer: 0 0 if it is accepted. A failed write is silent.
-fn put(rt: &impl Print, call: &str, asked: &str, making: Making) {
-    let (number, place) = (
-        create_shared::number_of(making),
-        create_shared::place_of(making),
-    );
-    let _ = println!(rt; "{call}{asked}{number} {place}");
-}
+const FACE_NORMALS: [f64; 6] = [0.0, 0.0, 1.0, 0.0, 0.0, -1.0];
+
+const REFS: [i32; 6] = [1, 0, 0, 1, 0, 1];
 
 // The call, and how many circular tangents it computed on an edge without direction.
-fn put_count(rt: &impl Print, call: &str, asked: &str, making: Making) {
+fn put_count(rt: &impl Print, call: &str, asked: &str, making: Result<usize, Refusal>) {
     let count = create_shared::directionless_of(making);
     let _ = println!(rt; "{call}{asked}{count} without direction");
-}
-
-// The pillow's halfedges, with this start for halfedge 2; each has its own number as row.
-fn pillow(vert: i32) -> [i32; 24] {
-    let mut h = [
-        0, 1, 5, 0, 1, 2, 4, 1, 2, 0, 3, 2, 0, 2, 2, 3, 2, 1, 1, 4, 1, 0, 0, 5,
-    ];
-    h[8] = vert;
-    h
 }
 
 // Making from sharp edges of the pillow's lists, with so many halfedges, this start for halfedge 2, these positions and entries.
@@ -39,15 +27,15 @@ fn make_sharp(
     entries: &[usize],
     values: &[f64],
     t: &mut [f64],
-) -> Making {
+) -> Result<usize, Refusal> {
     create::create_tangents(
         n,
         3,
-        &pillow(vert),
+        &halfedges(vert),
         pos,
-        &[1.0, 2.0, 3.0, 1.0, 2.0, 3.0, 1.0, 2.0, 3.0],
-        &[0.0, 0.0, 1.0, 0.0, 0.0, -1.0],
-        &[1, 0, 0, 1, 0, 1],
+        &NORMALS,
+        &FACE_NORMALS,
+        &REFS,
         entries,
         values,
         false,
@@ -62,15 +50,15 @@ fn make_sharp(
 }
 
 // Making from normals of the pillow's lists with these positions, all normals missing.
-fn make_from_normals(n: usize, vert: i32, pos: &[f64]) -> Making {
+fn make_from_normals(n: usize, vert: i32, pos: &[f64]) -> Result<usize, Refusal> {
     create_from_normals::create_tangents_from_normals(
         n,
         3,
-        &pillow(vert),
+        &halfedges(vert),
         pos,
-        &[1.0, 2.0, 3.0, 1.0, 2.0, 3.0, 1.0, 2.0, 3.0],
-        &[0.0, 0.0, 1.0, 0.0, 0.0, -1.0],
-        &[1, 0, 0, 1, 0, 1],
+        &NORMALS,
+        &FACE_NORMALS,
+        &REFS,
         &[0.0; 18],
         false,
         &mut [0.0; 24],
@@ -88,30 +76,21 @@ fn make(rt: &impl Print, asked: &str, n: usize, vert: i32) {
         rt,
         "making from sharp edges, ",
         asked,
-        make_sharp(n, vert, &PILLOW, &[0], &[0.0], &mut [0.0; 24]),
+        make_sharp(n, vert, &POSITIONS, &[0], &[0.0], &mut [0.0; 24]),
     );
     put(
         rt,
         "making from normals, ",
         asked,
-        make_from_normals(n, vert, &PILLOW),
+        make_from_normals(n, vert, &POSITIONS),
     );
 }
 
-// Are the bits of two lists of so many numbers the same?
-fn same(xs: &[f64], ys: &[f64], count: usize) -> bool {
-    if xs.len() < count {
-        return false;
-    }
-    if ys.len() < count {
-        return false;
-    }
-    for k in 0..count {
-        if float::bits(xs[k]) != float::bits(ys[k]) {
-            return false;
-        }
-    }
-    true
+// Are the bits of the tangents the same?
+fn same(xs: &[f64; 24], ys: &[f64; 24]) -> bool {
+    xs.iter()
+        .zip(ys)
+        .all(|(x, y)| float::bits(*x) == float::bits(*y))
 }
 
 // Making from sharp edges of the pillow, with an entry of 0 for halfedge 0 and one of this smoothness for halfedge 4.
@@ -120,17 +99,17 @@ fn make_with(rt: &impl Print, asked: &str, smoothness: f64, t: &mut [f64]) {
         rt,
         "making from sharp edges, ",
         asked,
-        make_sharp(6, 2, &PILLOW, &[0, 4], &[0.0, smoothness], t),
+        make_sharp(6, 2, &POSITIONS, &[0, 4], &[0.0, smoothness], t),
     );
 }
 
 // The same, and whether the tangents are those that are made without the second entry.
 fn entry(rt: &impl Print, asked: &str, smoothness: f64) {
     let mut without = [0.0; 24];
-    make_sharp(6, 2, &PILLOW, &[0], &[0.0], &mut without);
+    let _ = make_sharp(6, 2, &POSITIONS, &[0], &[0.0], &mut without);
     let mut with = [7.0; 24];
     make_with(rt, asked, smoothness, &mut with);
-    if same(&with, &without, 24) {
+    if same(&with, &without) {
         let _ = println!(rt; "same tangents as without it");
     } else {
         let _ = println!(rt; "other tangents than without it");
@@ -162,7 +141,7 @@ fn main(rt: HostRuntime) {
     entry(&rt, "smoothness 1: ", 1.0);
     entry(&rt, "smoothness 1/2: ", 0.5);
     make_with(&rt, "smoothness -0: ", -0.0, &mut [0.0; 24]);
-    count(&rt, "the pillow: ", &PILLOW);
+    count(&rt, "the pillow: ", &POSITIONS);
     count(&rt, "all points one point: ", &[3.0; 9]);
     put_count(
         &rt,

@@ -5,11 +5,21 @@
 ghost use Rattle.std.specs.Prelude.{◌≡◌};
 ghost use Rattle.linalg.specs.Vec.{add3, sub3, neg3, scale3, div3, dot_of, cross_of, qxdir_of, qydir_of, qzdir_of, qrot_of, length2_of, length_of, normalize_of, rotation_quat_axis_angle};
 
+use std::ops::{Add, Div, Mul, Neg, Sub};
+
 #[derive(Clone, Copy)]
 pub struct Vec3 {
     pub x: f64,
     pub y: f64,
     pub z: f64,
+}
+
+impl Vec3 {
+    pub const ZERO: Vec3 = Vec3 {
+        x: 0.0,
+        y: 0.0,
+        z: 0.0,
+    };
 }
 
 // A tangent, with its weight w.
@@ -21,6 +31,7 @@ pub struct Vec4 {
     pub w: f64,
 }
 
+// The Rust's own type, apart from `Vec4`, which has the same fields.
 #[derive(Clone, Copy)]
 pub struct Quat {
     pub x: f64,
@@ -29,62 +40,119 @@ pub struct Quat {
     pub w: f64,
 }
 
+impl Add for Vec3 {
+    type Output = Vec3;
+
+    ghost add_gives = { λ a b r. r ≡ add3 a b };
+
+    #[tactic(auto, unfolding(crate::specs::Vec::add3))]
+    fn add(self, b: Vec3) -> Vec3 {
+        Vec3 {
+            x: self.x + b.x,
+            y: self.y + b.y,
+            z: self.z + b.z,
+        }
+    }
+}
+
+impl Sub for Vec3 {
+    type Output = Vec3;
+
+    ghost sub_gives = { λ a b r. r ≡ sub3 a b };
+
+    #[tactic(auto, unfolding(crate::specs::Vec::sub3))]
+    fn sub(self, b: Vec3) -> Vec3 {
+        Vec3 {
+            x: self.x - b.x,
+            y: self.y - b.y,
+            z: self.z - b.z,
+        }
+    }
+}
+
+impl Neg for Vec3 {
+    type Output = Vec3;
+
+    ghost neg_gives = { λ a r. r ≡ neg3 a };
+
+    #[tactic(auto, unfolding(crate::specs::Vec::neg3))]
+    fn neg(self) -> Vec3 {
+        Vec3 {
+            x: -self.x,
+            y: -self.y,
+            z: -self.z,
+        }
+    }
+}
+
+impl Mul<f64> for Vec3 {
+    type Output = Vec3;
+
+    ghost mul_gives = { λ a s r. r ≡ scale3 a s };
+
+    #[tactic(auto, unfolding(crate::specs::Vec::scale3))]
+    fn mul(self, s: f64) -> Vec3 {
+        Vec3 {
+            x: self.x * s,
+            y: self.y * s,
+            z: self.z * s,
+        }
+    }
+}
+
+impl Div<f64> for Vec3 {
+    type Output = Vec3;
+
+    ghost div_gives = { λ a s r. r ≡ div3 a s };
+
+    #[tactic(auto, unfolding(crate::specs::Vec::div3))]
+    fn div(self, s: f64) -> Vec3 {
+        Vec3 {
+            x: self.x / s,
+            y: self.y / s,
+            z: self.z / s,
+        }
+    }
+}
+
 pub fn add(a: Vec3, b: Vec3) -> Vec3
     ensures { result ≡ add3 a b }
 {
-    Vec3 {
-        x: a.x + b.x,
-        y: a.y + b.y,
-        z: a.z + b.z,
-    }
+    a + b
 }
 
 pub fn sub(a: Vec3, b: Vec3) -> Vec3
     ensures { result ≡ sub3 a b }
 {
-    Vec3 {
-        x: a.x - b.x,
-        y: a.y - b.y,
-        z: a.z - b.z,
-    }
+    a - b
 }
 
 pub fn neg(a: Vec3) -> Vec3
     ensures { result ≡ neg3 a }
 {
-    Vec3 {
-        x: -a.x,
-        y: -a.y,
-        z: -a.z,
-    }
+    -a
 }
 
 pub fn scale(a: Vec3, s: f64) -> Vec3
     ensures { result ≡ scale3 a s }
 {
-    Vec3 {
-        x: a.x * s,
-        y: a.y * s,
-        z: a.z * s,
-    }
+    a * s
 }
 
 pub fn divide(a: Vec3, s: f64) -> Vec3
     ensures { result ≡ div3 a s }
 {
-    Vec3 {
-        x: a.x / s,
-        y: a.y / s,
-        z: a.z / s,
-    }
+    a / s
 }
 
+#[tactic(auto, unfolding(crate::specs::Vec::dot_of))]
 pub fn dot(a: Vec3, b: Vec3) -> f64
     ensures { result ≡ dot_of a b }
 {
     a.x * b.x + a.y * b.y + a.z * b.z
 }
 
+#[tactic(auto, unfolding(crate::specs::Vec::cross_of))]
 pub fn cross(a: Vec3, b: Vec3) -> Vec3
     ensures { result ≡ cross_of a b }
 {
@@ -95,6 +163,7 @@ pub fn cross(a: Vec3, b: Vec3) -> Vec3
     }
 }
 
+#[tactic(auto, unfolding(crate::specs::Vec::qxdir_of))]
 pub fn qxdir(q: Quat) -> Vec3
     ensures { result ≡ qxdir_of q }
 {
@@ -105,6 +174,7 @@ pub fn qxdir(q: Quat) -> Vec3
     }
 }
 
+#[tactic(auto, unfolding(crate::specs::Vec::qydir_of))]
 pub fn qydir(q: Quat) -> Vec3
     ensures { result ≡ qydir_of q }
 {
@@ -115,6 +185,7 @@ pub fn qydir(q: Quat) -> Vec3
     }
 }
 
+#[tactic(auto, unfolding(crate::specs::Vec::qzdir_of))]
 pub fn qzdir(q: Quat) -> Vec3
     ensures { result ≡ qzdir_of q }
 {
@@ -125,34 +196,36 @@ pub fn qzdir(q: Quat) -> Vec3
     }
 }
 
+#[tactic(auto, unfolding(crate::specs::Vec::qrot_of))]
 pub fn qrot(q: Quat, v: Vec3) -> Vec3
     ensures { result ≡ qrot_of q v }
 {
-    add(
-        add(scale(qxdir(q), v.x), scale(qydir(q), v.y)),
-        scale(qzdir(q), v.z),
-    )
+    qxdir(q) * v.x + qydir(q) * v.y + qzdir(q) * v.z
 }
 
+#[tactic(auto, unfolding(crate::specs::Vec::length2_of))]
 pub fn length2(a: Vec3) -> f64
     ensures { result ≡ length2_of a }
 {
     dot(a, a)
 }
 
+#[tactic(auto, unfolding(crate::specs::Vec::length_of))]
 pub fn length(a: Vec3) -> f64
     ensures { result ≡ length_of a }
 {
     sqrt::sqrt(length2(a))
 }
 
+#[tactic(auto, unfolding(crate::specs::Vec::normalize_of))]
 pub fn normalize(a: Vec3) -> Vec3
     ensures { result ≡ normalize_of a }
 {
-    divide(a, length(a))
+    a / length(a)
 }
 
 // A rotation by an angle about an axis.
+#[tactic(auto, unfolding(crate::specs::Vec::rotation_quat_axis_angle))]
 pub fn rotation_quat_axis_angle(axis: Vec3, angle: f64) -> Quat
     ensures { result ≡ rotation_quat_axis_angle axis angle }
 {

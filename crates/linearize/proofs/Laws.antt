@@ -16,7 +16,7 @@ use Rattle.linalg.specs.declared.Vec4.{Vec4}
 use Rattle.linalg.specs.Vec.{neg3}
 use Rattle.mesh.specs.Mesh.{halfedge_stride, is_forward, Halfedges}
 use Rattle.mesh.specs.Questions.{has_length}
-use Rattle.mesh.specs.declared.Checked.TheVariants.{Accepted}
+use Rattle.std.specs.Prelude.{Ok}
 use Rattle.common.proofs.Tests.{and_true}
 use Rattle.common.proofs.Fold.{fold_keeps}
 use Rattle.mesh.proofs.Accepted.{accepted}
@@ -91,7 +91,7 @@ marked_kept H P d T n q = all_kept H P d T n (rw weight_of (mark_unflat (weight_
 
 -- ---- the lists of an accepted call
 
-pub accepted_lists : (H : Halfedges) (P T : List Float) (n p : ℕ) → linearize_answer H P T n p ≡ Accepted → Lists H P T n p
+pub accepted_lists : (H : Halfedges) (P T : List Float) (n p : ℕ) → linearize_answer H P T n p ≡ Ok tt → Lists H P T n p
 accepted_lists H P T n p e =
     let a = accepted H n p (lengths_fit H P T n p) e in
     let l = and_true (has_length H.numbers n halfedge_stride && has_length (length P) p 3) (has_length (length T) n 4) a.0 in

@@ -8,7 +8,7 @@ ghost use Rattle.mesh.specs.Check.{Values};
 ghost use Rattle.linearize.specs.Linearize.{is_flat, with_unit_weight, linearized, linearize_end, linearize_edge, linearize_at, linearize_flat_tangents, lengths_fit, linearize_answer, tangents_after, HalfedgeIn, Lists};
 
 use linalg::{Vec3, Vec4};
-use mesh::Checked;
+use mesh::Refusal;
 
 fn is_flat(tangent: Vec4) -> bool
     ensures { result ≡ is_flat tangent }
@@ -110,13 +110,19 @@ fn lengths_fit(n: usize, p: usize, h: &[i32], pos: &[f64], t: &[f64]) -> bool
 }
 
 // The public call, for lists of any length and content.
-pub fn linearize_flat_tangents(n: usize, p: usize, h: &[i32], pos: &[f64], t: &mut [f64]) -> Checked
+pub fn linearize_flat_tangents(
+    n: usize,
+    p: usize,
+    h: &[i32],
+    pos: &[f64],
+    t: &mut [f64],
+) -> Result<(), Refusal>
     ensures answer { result ≡ linearize_answer (as_halfedges h.now) pos.now t.old n p }
     ensures tangents { t.new ≡ tangents_after (as_halfedges h.now) pos.now t.old n p }
     ensures values { Values (linearize_answer (as_halfedges h.now) pos.now t.old n p) result }
 {
     let checked = mesh::check_mesh(h, n, p, lengths_fit(n, p, h, pos, t));
-    let Checked::Accepted = checked else {
+    let Ok(()) = checked else {
         return checked;
     };
     linearize_all(n, p, h, pos, t);

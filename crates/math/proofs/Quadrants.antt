@@ -1,4 +1,5 @@
 -- The four arms of `sin` and of `cos` in one expression: the cosine is the sine one quarter turn further on. Assumes nothing.
+use Rattle.std.specs.Prelude.{Some}
 use Rattle.std.proofs.Common.{◌≡◌, ℕ, zero, suc, ◌+◌, ◌%◌, ◌<◌, cond, eqb, ltb, refl, ℤ, pos, negsuc, add-zero, arith}
 use lib.Ieee.{Float, neg}
 use Rattle.math.specs.declared.RemPio2.{RemPio2}
@@ -19,7 +20,7 @@ turned q y0 y1 = cond (ltb (q % 4) 2) (quadrant_kernel q y0 y1) (neg (quadrant_k
 abbrev arms : ℕ → Float → Float → Float → Float → Float
 arms q a b c d = cond (eqb q 0) a (cond (eqb q 1) b (cond (eqb q 2) c d))
 
-sin_arms : (q : ℕ) (y0 y1 : Float) → q < 4 → turned q y0 y1 ≡ arms q (sin_kernel y0 y1 1) (cos_kernel y0 y1) (neg (sin_kernel y0 y1 1)) (neg (cos_kernel y0 y1))
+sin_arms : (q : ℕ) (y0 y1 : Float) → q < 4 → turned q y0 y1 ≡ arms q (sin_kernel y0 (Some y1)) (cos_kernel y0 y1) (neg (sin_kernel y0 (Some y1))) (neg (cos_kernel y0 y1))
 unfolding quadrant_kernel
 sin_arms zero y0 y1 h = refl
 sin_arms (suc zero) y0 y1 h = refl
@@ -27,7 +28,7 @@ sin_arms (suc (suc zero)) y0 y1 h = refl
 sin_arms (suc (suc (suc zero))) y0 y1 h = refl
 sin_arms (suc (suc (suc (suc q)))) y0 y1 h = absurd (let w : ⊥ = omega arith in w)
 
-cos_arms : (q : ℕ) (y0 y1 : Float) → q < 4 → turned (q + 1) y0 y1 ≡ arms q (cos_kernel y0 y1) (neg (sin_kernel y0 y1 1)) (neg (cos_kernel y0 y1)) (sin_kernel y0 y1 1)
+cos_arms : (q : ℕ) (y0 y1 : Float) → q < 4 → turned (q + 1) y0 y1 ≡ arms q (cos_kernel y0 y1) (neg (sin_kernel y0 (Some y1))) (neg (cos_kernel y0 y1)) (sin_kernel y0 (Some y1))
 unfolding quadrant_kernel
 cos_arms zero y0 y1 h = refl
 cos_arms (suc zero) y0 y1 h = refl

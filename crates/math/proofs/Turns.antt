@@ -1,5 +1,6 @@
 -- The eight branches of `rem_pio2` near one to four quarter turns are one expression in the signed number. Assumes nothing.
-use Rattle.std.proofs.Common.{◌≡◌, ℕ, suc, ◌<◌, ◌≤◌, ◌%◌, Bool, true, false, cond, eqb, leb, ltb, refl, ℤ, pos, negsuc, arith, leb-true}
+use Rattle.std.proofs.Common.{◌≡◌, ℕ, suc, ◌<◌, ◌%◌, Bool, true, false, cond, eqb, leb, ltb, refl, ℤ, pos, negsuc, arith, leb-true}
+use Rattle.std.specs.Prelude.{Option, None, Some, unwrap_or, option_map}
 use borrow.Author.Tests.{lt-ltb}
 use lib.Ieee.{Float, binary64, neg, of_int, of_bits, mul}
 use Rattle.float.specs.Ops.{◌⊖◌, ◌⊗◌, one, two, three, four}
@@ -48,25 +49,29 @@ one_is x = rw (one_mul.0, one_mul.1) at (turns_is 0 x one factors.0)
 
 -- ---- the ways of the tests
 
-near_way : (x : Float) (ix : ℕ) → rem_pio2_near x ix ≡ cond (eqb (near_turns ix) 0) (rem_pio2_medium x ix) (less_turns (signed_turns (near_turns ix) x) x)
+-- what a number of quarter turns leads to, and the rest where there is none
+abbrev pub turns_or : Option ℕ → Float → RemPio2 → RemPio2
+turns_or k x rest = unwrap_or (option_map (λ n. less_turns (signed_turns n x) x) k) rest
+
+near_way : (x : Float) (ix : ℕ) → rem_pio2_near x ix ≡ turns_or (near_turns ix) x (rem_pio2_medium x ix)
 unfolding rem_pio2_near near_turns
 near_way x ix = go (eqb (ix % 0x10_0000) 0x9_21fb) (leb ix 0x4002_d97c)
   where
     go : (a b : Bool)
         → cond a (rem_pio2_medium x ix) (cond b (multiple_by_sign (pos 1) (negsuc 0) x pio2_1 pio2_1t) (multiple_by_sign (pos 2) (negsuc 1) x (two ⊗ pio2_1) (two ⊗ pio2_1t)))
-        ≡ cond (eqb (cond a 0 (cond b 1 2)) 0) (rem_pio2_medium x ix) (less_turns (signed_turns (cond a 0 (cond b 1 2)) x) x)
+        ≡ turns_or (cond a None (cond b (Some 1) (Some 2))) x (rem_pio2_medium x ix)
     go true b = refl
     go false true = one_is x
     go false false = turns_is 1 x two factors.1
 
-far_way : (x : Float) (ix : ℕ) → rem_pio2_far x ix ≡ cond (eqb (far_turns ix) 0) (rem_pio2_medium x ix) (less_turns (signed_turns (far_turns ix) x) x)
+far_way : (x : Float) (ix : ℕ) → rem_pio2_far x ix ≡ turns_or (far_turns ix) x (rem_pio2_medium x ix)
 unfolding rem_pio2_far far_turns
 far_way x ix = go (leb ix 0x4015_fdbc) (eqb ix 0x4012_d97c) (eqb ix 0x4019_21fb)
   where
     go : (a b c : Bool)
         → cond a (cond b (rem_pio2_medium x ix) (multiple_by_sign (pos 3) (negsuc 2) x (three ⊗ pio2_1) (three ⊗ pio2_1t)))
         (cond c (rem_pio2_medium x ix) (multiple_by_sign (pos 4) (negsuc 3) x (four ⊗ pio2_1) (four ⊗ pio2_1t)))
-        ≡ cond (eqb (cond a (cond b 0 3) (cond c 0 4)) 0) (rem_pio2_medium x ix) (less_turns (signed_turns (cond a (cond b 0 3) (cond c 0 4)) x) x)
+        ≡ turns_or (cond a (cond b None (Some 3)) (cond c None (Some 4))) x (rem_pio2_medium x ix)
     go true true c = refl
     go true false c = turns_is 2 x three factors.2
     go false b true = refl
@@ -78,37 +83,21 @@ within ix a l e = lt-ltb ix 0x4139_21fb (let h : ix < 0x4139_21fb = omega (arith
 -- the first tests of `rem_pio2`, in the order of the code
 way : (x : Float) (ix : ℕ) (rest : RemPio2)
     → cond (leb ix 0x400f_6a7a) (rem_pio2_near x ix) (cond (leb ix 0x401c_463b) (rem_pio2_far x ix) (cond (ltb ix 0x4139_21fb) (rem_pio2_medium x ix) rest))
-    ≡ cond (eqb (quarter_turns ix) 0) (cond (ltb ix 0x4139_21fb) (rem_pio2_medium x ix) rest) (less_turns (signed_turns (quarter_turns ix) x) x)
+    ≡ turns_or (quarter_turns ix) x (cond (ltb ix 0x4139_21fb) (rem_pio2_medium x ix) rest)
 unfolding quarter_turns
 way x ix rest = go (leb ix 0x400f_6a7a) refl (leb ix 0x401c_463b) refl
   where
     go : (a : Bool) → leb ix 0x400f_6a7a ≡ a → (b : Bool) → leb ix 0x401c_463b ≡ b
         → cond a (rem_pio2_near x ix) (cond b (rem_pio2_far x ix) (cond (ltb ix 0x4139_21fb) (rem_pio2_medium x ix) rest))
-        ≡ cond (eqb (cond a (near_turns ix) (cond b (far_turns ix) 0)) 0) (cond (ltb ix 0x4139_21fb) (rem_pio2_medium x ix) rest)
-        (less_turns (signed_turns (cond a (near_turns ix) (cond b (far_turns ix) 0)) x) x)
+        ≡ turns_or (cond a (near_turns ix) (cond b (far_turns ix) None)) x (cond (ltb ix 0x4139_21fb) (rem_pio2_medium x ix) rest)
     go true e b f = rw (within ix 0x400f_6a7a (omega arith) e) (near_way x ix)
     go false e true f = rw (within ix 0x401c_463b (omega arith) f) (far_way x ix)
     go false e false f = refl
 
 pub rem_way : (x : Float) →
     rem_pio2 x ≡ (let ix = abs_high_word x in
-    cond (eqb (quarter_turns ix) 0)
+    turns_or (quarter_turns ix) x
     (cond (ltb ix 0x4139_21fb) (rem_pio2_medium x ix)
-    (cond (leb 0x7ff0_0000 ix) (record { n = pos 0; y0 = x ⊖ x; y1 = x ⊖ x }) (rem_pio2_large x)))
-    (less_turns (signed_turns (quarter_turns ix) x) x))
+    (cond (leb 0x7ff0_0000 ix) (record { n = pos 0; y0 = x ⊖ x; y1 = x ⊖ x }) (rem_pio2_large x))))
 unfolding rem_pio2
 rem_way x = way x (abs_high_word x) _
-
-pub at_most_4 : (ix : ℕ) → quarter_turns ix ≤ 4
-unfolding quarter_turns near_turns far_turns
-at_most_4 ix = go (leb ix 0x400f_6a7a) (leb ix 0x401c_463b) (eqb (ix % 0x10_0000) 0x9_21fb) (leb ix 0x4002_d97c) (leb ix 0x4015_fdbc) (eqb ix 0x4012_d97c) (eqb ix 0x4019_21fb)
-  where
-    go : (a b c d e f g : Bool) → cond a (cond c 0 (cond d 1 2)) (cond b (cond e (cond f 0 3) (cond g 0 4)) 0) ≤ 4
-    go true b true d e f g = omega arith
-    go true b false true e f g = omega arith
-    go true b false false e f g = omega arith
-    go false true c d true true g = omega arith
-    go false true c d true false g = omega arith
-    go false true c d false f true = omega arith
-    go false true c d false f false = omega arith
-    go false false c d e f g = omega arith

@@ -1,5 +1,5 @@
 -- `sin` and `cos` of src/math.rs.
-use Rattle.std.specs.Prelude.{ℕ, ◌-◌, ◌%◌, cond, leb, ltb, eqb, ℤ, pos, negsuc, Float}
+use Rattle.std.specs.Prelude.{ℕ, ◌-◌, ◌%◌, cond, leb, ltb, eqb, ℤ, pos, negsuc, Float, Some, None}
 use Rattle.std.specs.Float.Ieee.{neg}
 use Rattle.float.specs.Ops.{◌⊖◌, zero, one}
 use Rattle.math.specs.declared.RemPio2.{RemPio2}
@@ -15,9 +15,9 @@ quadrant_of (negsuc k) = 3 - k % 4
 unfoldable pub sin_reduced : RemPio2 → Float
 sin_reduced t =
     let q = quadrant_of t.n in
-    cond (eqb q 0) (sin_kernel t.y0 t.y1 1)
+    cond (eqb q 0) (sin_kernel t.y0 (Some t.y1))
     (cond (eqb q 1) (cos_kernel t.y0 t.y1)
-    (cond (eqb q 2) (neg (sin_kernel t.y0 t.y1 1))
+    (cond (eqb q 2) (neg (sin_kernel t.y0 (Some t.y1)))
     (neg (cos_kernel t.y0 t.y1))))
 
 -- the `match n & 3` of `cos`
@@ -25,15 +25,15 @@ unfoldable pub cos_reduced : RemPio2 → Float
 cos_reduced t =
     let q = quadrant_of t.n in
     cond (eqb q 0) (cos_kernel t.y0 t.y1)
-    (cond (eqb q 1) (neg (sin_kernel t.y0 t.y1 1))
+    (cond (eqb q 1) (neg (sin_kernel t.y0 (Some t.y1)))
     (cond (eqb q 2) (neg (cos_kernel t.y0 t.y1))
-    (sin_kernel t.y0 t.y1 1)))
+    (sin_kernel t.y0 (Some t.y1))))
 
 -- `sin`
 unfoldable pub sin_of : Float → Float
 sin_of x =
     let ix = abs_high_word x in
-    cond (leb ix 0x3fe9_21fb) (cond (ltb ix 0x3e50_0000) x (sin_kernel x zero 0))
+    cond (leb ix 0x3fe9_21fb) (cond (ltb ix 0x3e50_0000) x (sin_kernel x None))
     (cond (leb 0x7ff0_0000 ix) (x ⊖ x) (sin_reduced (rem_pio2 x)))
 
 -- `cos`

@@ -8,7 +8,7 @@ ghost use Rattle.std.specs.Float.{binary64};
 ghost use Rattle.std.specs.Float.Ieee.{is_nan, of_int};
 ghost use Rattle.float.specs.F64.{bits_of};
 ghost use Rattle.math.specs.Kernels.{abs_high_word, sign_bit, sin_kernel, cos_kernel};
-ghost use Rattle.math.specs.Rem.{pred_i32, succ_i32, first_remainder, next_remainder, remainder_value, exponent_field, nearest_multiple, last_remainder, reduced_of, rem_pio2_medium, rem_pio2_large, rem_pio2};
+ghost use Rattle.math.specs.Rem.{first_remainder, next_remainder, remainder_value, exponent_field, nearest_multiple, last_remainder, reduced_of, rem_pio2_medium, rem_pio2_large, rem_pio2};
 ghost use Rattle.math.specs.Turns.{near_turns, far_turns, quarter_turns, signed_turns, quadrant_kernel, sin_turned};
 ghost use Rattle.math.specs.Trig.{quadrant_of, sin_of, cos_of};
 ghost use Rattle.math.specs.Acos.{acos_r, clear_low_word, acos_beyond, acos_small, acos_negative, acos_positive, acos_of};
@@ -105,32 +105,36 @@ pub struct Remainder {
 }
 
 // The upper 32 bits without the sign.
+#[tactic(auto, unfolding(crate::specs::Kernels::abs_high_word))]
 fn abs_high_word(x: f64) -> u64
     ensures { result ≡ abs_high_word x }
 {
     (float::bits(x) >> 32) % 0x8000_0000
 }
 
+#[tactic(auto, unfolding(crate::specs::Kernels::sign_bit))]
 fn sign_bit(x: f64) -> bool
     ensures { result ≡ sign_bit x }
 {
     float::bits(x) >= 0x8000_0000_0000_0000
 }
 
-pub fn sin_kernel(x: f64, y: f64, iy: u32) -> f64
-    ensures { result ≡ sin_kernel x y iy }
+// y is what x leaves out of the angle, if anything: none for the Rust's `iy` of 0.
+#[tactic(auto, unfolding(crate::specs::Kernels::sin_kernel))]
+pub fn sin_kernel(x: f64, y: Option<f64>) -> f64
+    ensures { result ≡ sin_kernel x y }
 {
     let z = x * x;
     let w = z * z;
     let r = S2 + z * (S3 + z * S4) + z * w * (S5 + z * S6);
     let v = z * x;
-    if iy == 0 {
-        x + v * (S1 + z * r)
-    } else {
-        x - ((z * (0.5 * y - v * r) - y) - v * S1)
+    match y {
+        None => x + v * (S1 + z * r),
+        Some(y) => x - ((z * (0.5 * y - v * r) - y) - v * S1),
     }
 }
 
+#[tactic(auto, unfolding(crate::specs::Kernels::cos_kernel))]
 pub fn cos_kernel(x: f64, y: f64) -> f64
     ensures { result ≡ cos_kernel x y }
 {
@@ -142,20 +146,7 @@ pub fn cos_kernel(x: f64, y: f64) -> f64
     w1 + (((1.0 - w1) - hz) + (z * r - x * y))
 }
 
-// The Rust's `n - 1`, with the wrap-around of a release build.
-fn pred_i32(n: i32) -> i32
-    ensures { result ≡ pred_i32 n }
-{
-    if n == -2147483648 { 2147483647 } else { n - 1 }
-}
-
-// The Rust's `n + 1`, likewise.
-fn succ_i32(n: i32) -> i32
-    ensures { result ≡ succ_i32 n }
-{
-    if n == 2147483647 { -2147483648 } else { n + 1 }
-}
-
+#[tactic(auto, unfolding(crate::specs::Rem::first_remainder))]
 fn first_remainder(x: f64, f: f64) -> Remainder
     ensures { result ≡ first_remainder x f }
 {
@@ -165,6 +156,7 @@ fn first_remainder(x: f64, f: f64) -> Remainder
     }
 }
 
+#[tactic(auto, unfolding(crate::specs::Rem::next_remainder))]
 fn next_remainder(t: f64, f: f64, p: f64, rest: f64) -> Remainder
     ensures { result ≡ next_remainder t f p rest }
 {
@@ -176,12 +168,14 @@ fn next_remainder(t: f64, f: f64, p: f64, rest: f64) -> Remainder
     }
 }
 
+#[tactic(auto, unfolding(crate::specs::Rem::remainder_value))]
 fn remainder_value(s: Remainder) -> f64
     ensures { result ≡ remainder_value s }
 {
     s.r - s.w
 }
 
+#[tactic(auto, unfolding(crate::specs::Rem::exponent_field))]
 fn exponent_field(x: f64) -> u64
     ensures { result ≡ exponent_field x }
 {
@@ -189,6 +183,7 @@ fn exponent_field(x: f64) -> u64
 }
 
 // The multiple of half pi that the medium range takes off.
+#[tactic(auto, unfolding(crate::specs::Rem::nearest_multiple, crate::specs::Rem::pred_i32, crate::specs::Rem::succ_i32))]
 fn nearest_multiple(x: f64) -> Multiple
     ensures { result ≡ nearest_multiple x }
 {
@@ -197,13 +192,13 @@ fn nearest_multiple(x: f64) -> Multiple
     let d = remainder_value(first_remainder(x, f));
     if d < -PIO4 {
         return Multiple {
-            n: pred_i32(n),
+            n: n.wrapping_sub(1),
             f: f - 1.0,
         };
     }
     if d > PIO4 {
         return Multiple {
-            n: succ_i32(n),
+            n: n.wrapping_add(1),
             f: f + 1.0,
         };
     }
@@ -211,6 +206,7 @@ fn nearest_multiple(x: f64) -> Multiple
 }
 
 // The remainder by as many digits of half pi as its exponent calls for.
+#[tactic(auto, unfolding(crate::specs::Rem::exponent_field, crate::specs::Rem::last_remainder))]
 fn last_remainder(x: f64, ix: u64, f: f64) -> Remainder
     ensures { result ≡ last_remainder x ix f }
 {
@@ -226,6 +222,7 @@ fn last_remainder(x: f64, ix: u64, f: f64) -> Remainder
     a
 }
 
+#[tactic(auto, unfolding(crate::specs::Rem::reduced_of))]
 fn reduced(n: i32, s: Remainder) -> RemPio2
     ensures { result ≡ reduced_of n s }
 {
@@ -237,6 +234,7 @@ fn reduced(n: i32, s: Remainder) -> RemPio2
     }
 }
 
+#[tactic(auto, unfolding(crate::specs::Rem::rem_pio2_medium))]
 pub fn rem_pio2_medium(x: f64, ix: u64) -> RemPio2
     ensures { result ≡ rem_pio2_medium x ix }
 {
@@ -251,36 +249,39 @@ fn subtract_quarter_turns(x: f64, k: i32) -> RemPio2
     reduced(k, first_remainder(x, k as f64))
 }
 
-// How many quarter turns `rem_pio2` takes off, by the tests of its branches; 0 where these take the medium range's way.
-fn near_turns(ix: u64) -> u32
+// How many quarter turns `rem_pio2` takes off, by the tests of its branches; none where these take the medium range's way.
+#[tactic(auto, unfolding(crate::specs::Turns::near_turns))]
+fn near_turns(ix: u64) -> Option<u8>
     ensures { result ≡ near_turns ix }
 {
     if ix % 0x10_0000 == 0x9_21fb {
-        return 0;
+        return None;
     }
     if ix <= 0x4002_d97c {
-        return 1;
+        return Some(1);
     }
-    2
+    Some(2)
 }
 
-fn far_turns(ix: u64) -> u32
+#[tactic(auto, unfolding(crate::specs::Turns::far_turns))]
+fn far_turns(ix: u64) -> Option<u8>
     ensures { result ≡ far_turns ix }
 {
     if ix <= 0x4015_fdbc {
         if ix == 0x4012_d97c {
-            return 0;
+            return None;
         }
-        return 3;
+        return Some(3);
     }
     if ix == 0x4019_21fb {
-        return 0;
+        return None;
     }
-    4
+    Some(4)
 }
 
-// The same for any `ix`; 0 also beyond the branches.
-fn quarter_turns(ix: u64) -> u32
+// The same for any `ix`; none also beyond the branches.
+#[tactic(auto, unfolding(crate::specs::Turns::quarter_turns))]
+fn quarter_turns(ix: u64) -> Option<u8>
     ensures { result ≡ quarter_turns ix }
 {
     if ix <= 0x400f_6a7a {
@@ -289,20 +290,21 @@ fn quarter_turns(ix: u64) -> u32
     if ix <= 0x401c_463b {
         return far_turns(ix);
     }
-    0
+    None
 }
 
 // k, or -k where x is negative.
-fn signed_turns(k: u32, x: f64) -> i32
-    requires { k ≤ 4 }
+#[tactic(auto, unfolding(crate::specs::Turns::signed_turns))]
+fn signed_turns(k: u8, x: f64) -> i32
     ensures { result ≡ signed_turns k x }
 {
     if sign_bit(x) {
-        return 0 - (k as i32);
+        return -(k as i32);
     }
     k as i32
 }
 
+#[tactic(auto, unfolding(crate::specs::Rem::rem_pio2_large))]
 fn rem_pio2_large(x: f64) -> RemPio2
     ensures { result ≡ rem_pio2_large x }
 {
@@ -315,12 +317,12 @@ fn rem_pio2_large(x: f64) -> RemPio2
 }
 
 // x less a multiple of half pi.
+#[tactic(auto, using(crate::proofs::Turns::rem_way))]
 pub fn rem_pio2(x: f64) -> RemPio2
     ensures { result ≡ rem_pio2 x }
 {
     let ix = abs_high_word(x);
-    let k = quarter_turns(ix);
-    if k != 0 {
+    if let Some(k) = quarter_turns(ix) {
         return subtract_quarter_turns(x, signed_turns(k, x));
     }
     if ix < 0x4139_21fb {
@@ -334,6 +336,7 @@ pub fn rem_pio2(x: f64) -> RemPio2
 }
 
 // The Rust's `n & 3`.
+#[tactic(auto, unfolding(crate::specs::Trig::quadrant_of))]
 fn quadrant(n: i32) -> u32
     ensures { result ≡ quadrant_of n }
 {
@@ -341,11 +344,12 @@ fn quadrant(n: i32) -> u32
 }
 
 // The kernel that `sin` calls at the quadrant q.
+#[tactic(auto, unfolding(crate::specs::Turns::quadrant_kernel))]
 fn quadrant_kernel(q: u32, y0: f64, y1: f64) -> f64
     ensures { result ≡ quadrant_kernel q y0 y1 }
 {
     if q % 2 == 0 {
-        return sin_kernel(y0, y1, 1);
+        return sin_kernel(y0, Some(y1));
     }
     cos_kernel(y0, y1)
 }
@@ -353,6 +357,7 @@ fn quadrant_kernel(q: u32, y0: f64, y1: f64) -> f64
 // `sin` beyond pi / 4, by the Rust's `match`. The arms of `cos` are those of the next quadrant, one more, so that one copy
 // of this serves both.
 #[inline(never)]
+#[tactic(auto, using(crate::proofs::Quadrants::below_4), unfolding(crate::specs::Turns::sin_turned))]
 fn sin_turned(x: f64, more: u32) -> f64
     requires { more ≤ 1 }
     ensures { result ≡ sin_turned more (rem_pio2 x) }
@@ -366,6 +371,7 @@ fn sin_turned(x: f64, more: u32) -> f64
     -value
 }
 
+#[tactic(auto, using(crate::proofs::Quadrants::sin_is), unfolding(crate::specs::Trig::sin_of))]
 pub fn sin(x: f64) -> f64
     ensures { result ≡ sin_of x }
 {
@@ -374,7 +380,7 @@ pub fn sin(x: f64) -> f64
         if ix < 0x3e50_0000 {
             return x;
         }
-        return sin_kernel(x, 0.0, 0);
+        return sin_kernel(x, None);
     }
     if ix >= 0x7ff0_0000 {
         return x - x;
@@ -382,6 +388,7 @@ pub fn sin(x: f64) -> f64
     sin_turned(x, 0)
 }
 
+#[tactic(auto, using(crate::proofs::Quadrants::cos_is), unfolding(crate::specs::Trig::cos_of))]
 pub fn cos(x: f64) -> f64
     ensures { result ≡ cos_of x }
 {
@@ -398,6 +405,7 @@ pub fn cos(x: f64) -> f64
     sin_turned(x, 1)
 }
 
+#[tactic(auto, unfolding(crate::specs::Acos::acos_r))]
 fn acos_r(z: f64) -> f64
     ensures { result ≡ acos_r z }
 {
@@ -406,6 +414,7 @@ fn acos_r(z: f64) -> f64
     p / q
 }
 
+#[tactic(auto, unfolding(crate::specs::Acos::clear_low_word))]
 fn clear_low_word(x: f64) -> f64
     requires { T (not (is_nan x)) }
     ensures { result ≡ clear_low_word x }
@@ -414,6 +423,7 @@ fn clear_low_word(x: f64) -> f64
 }
 
 // `acos` from |x| = 1 on; b has the bits of x.
+#[tactic(auto, unfolding(crate::specs::Acos::acos_beyond, crate::specs::Kernels::sign_bit))]
 fn acos_beyond(x: f64, b: u64, ix: u64) -> f64
     requires { b ≡ bits_of x }
     ensures { result ≡ acos_beyond x ix }
@@ -430,6 +440,7 @@ fn acos_beyond(x: f64, b: u64, ix: u64) -> f64
     0.0
 }
 
+#[tactic(auto, unfolding(crate::specs::Acos::acos_small))]
 fn acos_small(x: f64, ix: u64) -> f64
     ensures { result ≡ acos_small x ix }
 {
@@ -439,6 +450,7 @@ fn acos_small(x: f64, ix: u64) -> f64
     PIO2_HI - (x - (PIO2_LO - x * acos_r(x * x)))
 }
 
+#[tactic(auto, unfolding(crate::specs::Acos::acos_negative))]
 fn acos_negative(x: f64) -> f64
     ensures { result ≡ acos_negative x }
 {
@@ -449,6 +461,7 @@ fn acos_negative(x: f64) -> f64
 }
 
 // x is at least 0 and below 1, so that the root is a number.
+#[tactic(auto, using(crate::proofs::RootNumber::root_number), unfolding(crate::specs::Acos::acos_positive))]
 fn acos_positive(x: f64) -> f64
     requires { bits_of x < 0x3ff0_0000_0000_0000 }
     ensures { result ≡ acos_positive x }
@@ -461,6 +474,7 @@ fn acos_positive(x: f64) -> f64
     2.0 * (df + w)
 }
 
+#[tactic(auto, using(float::proofs::Nan::no_nan), unfolding(crate::specs::Acos::acos_of, crate::specs::Kernels::abs_high_word, crate::specs::Kernels::sign_bit))]
 pub fn acos(x: f64) -> f64
     ensures { result ≡ acos_of x }
 {

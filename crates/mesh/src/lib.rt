@@ -6,15 +6,18 @@
 mod questions;
 mod triangles;
 
-ghost use Rattle.std.specs.Prelude.{◌≡◌, [], ◌&&◌, ◌+◌, ◌*◌, ◌%◌, ◌<◌, ◌≤◌, ◌^◌, length};
+ghost use Rattle.std.specs.Prelude.{◌≡◌, ℕ, Bool, IsErr, IfErr, Err, ◌&&◌, ◌+◌, ◌*◌, ◌%◌, ◌<◌, ◌≤◌, ◌^◌, length};
 ghost use Rattle.mesh.specs.Mesh.{max_halfedges, max_points, halfedge_stride, number_at, field, start_vert, end_vert, paired_halfedge, prop_vert, is_forward, next_halfedge, prev_halfedge, eq_z, ref_at, same_face, as_halfedges, no_index};
 ghost use Rattle.mesh.specs.Inside.{Inside};
 ghost use Rattle.mesh.specs.Scalar.{radians_of};
-ghost use Rattle.mesh.specs.Questions.{has_length, sign_clear, test_at};
+ghost use Rattle.mesh.specs.Questions.{has_length, sign_clear};
 ghost use Rattle.mesh.specs.All.{triangles_hold, ask_each};
-ghost use Rattle.mesh.specs.Check.{number_of, place_of, each, ◌then◌, check_mesh, check_refs, check_entries, check_flags, check_rows};
+ghost use Rattle.mesh.specs.Check.{number_of, place_of, answer_of, once, each, check_mesh, check_refs, check_entries, check_flags, check_rows};
 
-use questions::{counts_fit, test_at};
+use questions::{
+    counts_fit, has_clear_sign, has_mesh, has_pair, has_points, has_row, is_flag, is_joined,
+    is_mutual, is_opposite, names_halfedge,
+};
 use triangles::{index_of, triangle_holds};
 
 // The limits of question 1.
@@ -30,26 +33,33 @@ pub const REF_STRIDE: usize = 3;
 // What a negative entry is read as: a number above every count.
 const NO_INDEX: usize = 4294967296;
 
-// The answer of the questions: each is answered yes, or the first no with the lowest place that breaks it.
-#[derive(Clone, Copy)]
-pub enum Checked {
-    Accepted,
-    Refused { number: usize, place: usize },
+// The questions that a call puts to its mesh and its lists, 1 to 12, and the program to its records, 20 to 24: each with its number.
+#[derive(Clone, Copy, PartialEq, Eq)]
+pub enum Question {
+    Counts = 1,
+    Lengths = 2,
+    Points = 3,
+    Pair = 4,
+    Mutual = 5,
+    Opposite = 6,
+    Joined = 7,
+    Mesh = 8,
+    Entry = 9,
+    Sign = 10,
+    Flag = 11,
+    Row = 12,
+    Fits = 20,
+    Kind = 21,
+    Body = 22,
+    Operation = 23,
+    End = 24,
 }
 
-// The questions 3 to 12, which are put to each place of a list.
-#[derive(Clone, Copy)]
-pub enum Question {
-    Points,
-    Pair,
-    Mutual,
-    Opposite,
-    Joined,
-    Mesh,
-    Entry,
-    Sign,
-    Flag,
-    Row,
+// The first question that is answered no, and the lowest place that breaks it.
+#[derive(Clone, Copy, PartialEq, Eq)]
+pub struct Refusal {
+    pub question: Question,
+    pub place: usize,
 }
 
 // Number k of item e, in a list of `stride` numbers to an item.
@@ -181,65 +191,49 @@ pub fn has_length(len: usize, count: usize, per: usize) -> bool
     len / per == count
 }
 
-pub fn number_of(checked: Checked) -> usize
-    ensures { result ≡ number_of checked }
+// The number of an answer: that of the question that refuses, and 0 where none does.
+pub fn number_of<T: Copy>(answer: Result<T, Refusal>) -> usize
+    ensures { result ≡ number_of answer }
 {
-    match checked {
-        Checked::Accepted => 0,
-        Checked::Refused { number, place: _ } => number,
+    match answer {
+        Ok(_) => 0,
+        Err(refusal) => refusal.question as usize,
     }
 }
 
-pub fn place_of(checked: Checked) -> usize
-    ensures { result ≡ place_of checked }
+// The place of an answer, 0 where none refuses.
+pub fn place_of<T: Copy>(answer: Result<T, Refusal>) -> usize
+    ensures { result ≡ place_of answer }
 {
-    match checked {
-        Checked::Accepted => 0,
-        Checked::Refused { number: _, place } => place,
+    match answer {
+        Ok(_) => 0,
+        Err(refusal) => refusal.place,
     }
 }
 
-// The answers so far, and then that of the question q, put to each of so many places: the one search of all questions.
-fn ask(
-    sofar: Checked,
-    number: usize,
-    q: Question,
-    numbers: &[i32],
-    halfedges: &[usize],
-    smoothness: &[f64],
-    flags: &[u8],
-    n: usize,
-    p: usize,
-    places: usize,
-) -> Checked
-    ensures { result ≡ (sofar then each number (test_at q numbers.now halfedges.now smoothness.now flags.now n p) places) }
+// The refusal that the questions were answered with, as the answer of a call.
+pub fn refused<T>(checked: Result<(), Refusal>) -> Result<T, Refusal>
+    requires { IsErr checked }
+    ensures same { IfErr checked (λ refusal. result ≡ Err refusal) }
+    ensures answer { (value : T) → result ≡ answer_of checked value }
 {
-    let Checked::Accepted = sofar else {
-        return sofar;
-    };
-    let mut place = 0;
-    while place < places {
-        if !test_at(q, numbers, halfedges, smoothness, flags, n, p, place) {
-            return Checked::Refused { number, place };
+    match checked {
+        Ok(()) => unreachable!(),
+        Err(refusal) => Err(refusal),
+    }
+}
+
+// The answer of a question whose test is put to each of so many places: the one search of all questions.
+pub fn ask<F: Fn(usize) -> bool>(question: Question, places: usize, test: F) -> Result<(), Refusal>
+    requires { (k : ℕ) → k < places → F.pre test k }
+    ensures { (t : ℕ → Bool) → ((k : ℕ) (b : Bool) → k < places → F.post test k b → b ≡ t k) → result ≡ each question t places }
+{
+    for place in 0..places {
+        if !test(place) {
+            return Err(Refusal { question, place });
         }
-        place += 1;
     }
-    Checked::Accepted
-}
-
-// The same of a question about halfedges or face references, which reads no other list.
-fn ask_numbers(
-    sofar: Checked,
-    number: usize,
-    q: Question,
-    numbers: &[i32],
-    n: usize,
-    p: usize,
-    places: usize,
-) -> Checked
-    ensures { result ≡ (sofar then each number (test_at q numbers.now [] [] [] n p) places) }
-{
-    ask(sofar, number, q, numbers, &[], &[], &[], n, p, places)
+    Ok(())
 }
 
 // Are the questions 3 to 7 answered yes at every halfedge? One pass, a triangle at a time, which an accepted mesh does not leave early.
@@ -250,99 +244,94 @@ fn all_hold(h: &[i32], n: usize, p: usize) -> bool
     if !has_length(h.len(), n, HALFEDGE_STRIDE) {
         return false;
     }
-    let mut t = 0;
-    while t < n / 3 {
+    for t in 0..n / 3 {
         if !triangle_holds(h, n, p, t * 3) {
             return false;
         }
-        t += 1;
     }
     true
 }
 
 // The questions 3 to 7, one after the other.
-fn ask_each(h: &[i32], n: usize, p: usize) -> Checked
+fn ask_each(h: &[i32], n: usize, p: usize) -> Result<(), Refusal>
     ensures { result ≡ ask_each (as_halfedges h.now) n p }
 {
-    let points = ask_numbers(Checked::Accepted, 3, Question::Points, h, n, p, n);
-    let pair = ask_numbers(points, 4, Question::Pair, h, n, p, n);
-    let mutual = ask_numbers(pair, 5, Question::Mutual, h, n, p, n);
-    let opposite = ask_numbers(mutual, 6, Question::Opposite, h, n, p, n);
-    ask_numbers(opposite, 7, Question::Joined, h, n, p, n)
+    ask(Question::Points, n, |e| has_points(h, p, e))?;
+    ask(Question::Pair, n, |e| has_pair(h, n, e))?;
+    ask(Question::Mutual, n, |e| is_mutual(h, e))?;
+    ask(Question::Opposite, n, |e| is_opposite(h, e))?;
+    ask(Question::Joined, n, |e| is_joined(h, e))
+}
+
+// The answer of a question that is put once: a no has place 0.
+fn once(question: Question, answer: bool) -> Result<(), Refusal>
+    ensures { result ≡ once question answer }
+{
+    if answer {
+        return Ok(());
+    }
+    Err(Refusal { question, place: 0 })
 }
 
 // The questions 1 to 7. `lengths` is the answer to question 2, which the caller finds of its own lists by `has_length`.
-pub fn check_mesh(h: &[i32], n: usize, p: usize, lengths: bool) -> Checked
+pub fn check_mesh(h: &[i32], n: usize, p: usize, lengths: bool) -> Result<(), Refusal>
     ensures { result ≡ check_mesh (as_halfedges h.now) n p lengths }
 {
-    if !counts_fit(n, p) {
-        return Checked::Refused {
-            number: 1,
-            place: 0,
-        };
-    }
-    if !lengths {
-        return Checked::Refused {
-            number: 2,
-            place: 0,
-        };
-    }
+    once(Question::Counts, counts_fit(n, p))?;
+    once(Question::Lengths, lengths)?;
     if all_hold(h, n, p) {
-        return Checked::Accepted;
+        return Ok(());
     }
     ask_each(h, n, p)
 }
 
 // Question 8, after earlier answers: the face references of the triangles.
-pub fn check_refs(sofar: Checked, refs: &[i32], n: usize) -> Checked
+pub fn check_refs(sofar: Result<(), Refusal>, refs: &[i32], n: usize) -> Result<(), Refusal>
     ensures { result ≡ check_refs sofar refs.now n }
 {
-    ask_numbers(sofar, 8, Question::Mesh, refs, n, 0, n / 3)
+    sofar?;
+    ask(Question::Mesh, n / 3, |t| has_mesh(refs, t))
 }
 
 // The questions 9 and 10, after earlier answers: the sharp entries' halfedges and smoothness.
-pub fn check_entries(sofar: Checked, halfedges: &[usize], smoothness: &[f64], n: usize) -> Checked
+pub fn check_entries(
+    sofar: Result<(), Refusal>,
+    halfedges: &[usize],
+    smoothness: &[f64],
+    n: usize,
+) -> Result<(), Refusal>
     ensures { result ≡ check_entries sofar halfedges.now smoothness.now n }
 {
-    let entries = halfedges.len();
-    let numbers: &[i32] = &[];
-    let flags: &[u8] = &[];
-    let named = ask(
-        sofar,
-        9,
-        Question::Entry,
-        numbers,
-        halfedges,
-        smoothness,
-        flags,
-        n,
-        0,
-        entries,
-    );
+    sofar?;
     ask(
-        named,
-        10,
+        Question::Entry,
+        halfedges.len(),
+        |k| names_halfedge(halfedges, n, k),
+    )?;
+    ask(
         Question::Sign,
-        numbers,
-        halfedges,
-        smoothness,
-        flags,
-        n,
-        0,
-        entries,
+        halfedges.len(),
+        |k| has_clear_sign(smoothness, k),
     )
 }
 
-// Question 11, after earlier answers: the flags of the halfedges.
-pub fn check_flags(sofar: Checked, flags: &[u8], n: usize) -> Checked
-    ensures { result ≡ check_flags sofar flags.now n }
+// Question 11, after those of `check_mesh`: the flags of the halfedges.
+pub fn check_flags(mesh: Result<(), Refusal>, flags: &[u8], n: usize) -> Result<(), Refusal>
+    ensures { result ≡ check_flags mesh flags.now n }
 {
-    ask(sofar, 11, Question::Flag, &[], &[], &[], flags, n, 0, n)
+    mesh?;
+    ask(Question::Flag, n, |e| is_flag(flags, e))
 }
 
-// Question 12, after earlier answers: the rows of the halfedges, of which there are so many.
-pub fn check_rows(sofar: Checked, h: &[i32], rows: usize, n: usize) -> Checked
-    ensures { result ≡ check_rows sofar h.now rows n }
+// Question 12, after those of `check_mesh`: the rows of the halfedges, of which there are so many.
+pub fn check_rows(
+    checked: Result<(), Refusal>,
+    h: &[i32],
+    rows: usize,
+    n: usize,
+) -> Result<(), Refusal>
+    ensures { result ≡ check_rows checked h.now rows n }
 {
-    ask_numbers(sofar, 12, Question::Row, h, n, rows, n)
+    checked?;
+    ask(Question::Row, n, |e| has_row(h, rows, e))
 }

@@ -57,10 +57,8 @@ fn inside_quads(n: usize, h: &[i32], refs: &[i32], t: &[f64], old: bool, inside:
     requires { InsideIn (as_halfedges h.now) t.now inside.old n }
     ensures { inside.new ≡ inside_quads (as_halfedges h.now) refs.now t.now old n }
 {
-    let mut e = 0;
-    while e < n {
+    for e in 0..n {
         inside_quad_step(h, refs, t, old, inside, e);
-        e += 1;
     }
 }
 
@@ -85,8 +83,8 @@ fn normal_tangents(
     ensures directionless { result ≡ from_normals_directionless (as_halfedges h.now) pos.now normals.now face_normals.now refs.now (get_normal h.now rows.now) t.old old n (length first.old) }
 {
     inside_quads(n, h, refs, t, old, inside);
-    common::fill_floats(t, 0.0);
-    common::fill_bytes(fixed, 0);
+    t.fill(0.0);
+    fixed.fill(0);
     create_shared::vert_halfedge(h, first, n);
     normals_walks::normals_verts(
         n,
@@ -101,17 +99,6 @@ fn normal_tangents(
         t,
         fixed,
     )
-}
-
-// Zeros in the scratch lists that spreading does not have.
-fn clear_scratch(fixed: &mut [u8], inside: &mut [u8], first: &mut [usize])
-    ensures fixed { fixed.new ≡ replicate (length fixed.old) 0 }
-    ensures inside { inside.new ≡ replicate (length inside.old) 0 }
-    ensures first { first.new ≡ replicate (length first.old) 0 }
-{
-    common::fill_bytes(fixed, 0);
-    common::fill_bytes(inside, 0);
-    common::fill_numbers(first, 0);
 }
 
 // The tangents of an accepted call, and zeros in all scratch lists; and the count. Until spreading, `current` holds the unit
@@ -159,6 +146,8 @@ pub fn make_tangents(
         first,
     );
     distribute::spread_tangents(n, p, h, pos, normals, fixed, t, current, desired);
-    clear_scratch(fixed, inside, first);
+    fixed.fill(0);
+    inside.fill(0);
+    first.fill(0);
     directionless
 }

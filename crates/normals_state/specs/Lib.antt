@@ -2,4 +2,3 @@
 pub mod State
 pub mod Carried
 pub mod Units
-pub mod Packed

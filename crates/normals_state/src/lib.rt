@@ -2,11 +2,9 @@
 #![tactic(auto)]
 
 ghost use Rattle.std.specs.Prelude.{◌≡◌, ◌+◌, ◌*◌, ◌/◌, ◌≤◌, length};
-ghost use Rattle.std.specs.Bool.{xor};
 ghost use Rattle.smoothing.specs.Directions.{safe_normalize};
 ghost use Rattle.normals_state.specs.State.{RowIn, get_normal, is_zero, normal_or, add_face_edge, next_face_edges, set_start, missing_start, next_start, some_missing, next_last, start_state, spoil_face_edges};
 ghost use Rattle.normals_state.specs.Carried.{halfedge_normal, same_bits, same_normal, next_state_of};
-ghost use Rattle.normals_state.specs.Packed.{face_edges_of, start_of, state_of};
 ghost use Rattle.normals_state.specs.Units.{put_unit, put_units};
 
 use linalg::Vec3;
@@ -45,30 +43,6 @@ pub enum StartHalfedge {
 pub struct CycleState {
     pub face_edges: FaceEdges,
     pub start_halfedge: StartHalfedge,
-    pub last_normal: Vec3,
-}
-
-// `FaceEdges` as numbers: how many edges, 3 where it is spoiled, and the edges that there are. The loop carries the two enums in
-// this form, which stays in registers.
-#[derive(Clone, Copy)]
-pub struct PackedEdges {
-    pub count: usize,
-    pub first: usize,
-    pub second: usize,
-}
-
-// `StartHalfedge` as numbers: 0, 1 or 2 for its cases in their order, and the halfedge of the last one.
-#[derive(Clone, Copy)]
-pub struct PackedStart {
-    pub tag: usize,
-    pub at: usize,
-}
-
-// `CycleState` as numbers.
-#[derive(Clone, Copy)]
-pub struct PackedState {
-    pub edges: PackedEdges,
-    pub start: PackedStart,
     pub last_normal: Vec3,
 }
 
@@ -143,10 +117,8 @@ pub fn put_units(n: usize, face_normals: &[f64], units: &mut [f64])
     requires { (length face_normals.now ≡ n) × (length units.old ≡ n) }
     ensures { units.new ≡ put_units face_normals.now units.old n }
 {
-    let mut t = 0;
-    while t < n / 3 {
+    for t in 0..n / 3 {
         put_unit(face_normals, units, t);
-        t += 1;
     }
 }
 
@@ -186,71 +158,56 @@ pub fn halfedge_normal(h: &[i32], face_units: &[f64], rows: &[f64], e: usize) ->
 
 // ---- what the loop carries
 
-fn add_face_edge(edges: PackedEdges, e: usize) -> PackedEdges
-    ensures { face_edges_of result ≡ add_face_edge (face_edges_of edges) e }
+#[tactic(auto, unfolding(crate::specs::State::add_face_edge))]
+fn add_face_edge(edges: FaceEdges, e: usize) -> FaceEdges
+    ensures { result ≡ add_face_edge edges e }
 {
-    if edges.count == 0 {
-        return PackedEdges {
-            count: 1,
-            first: e,
-            second: 0,
-        };
-    }
-    if edges.count == 1 {
-        return PackedEdges {
-            count: 2,
-            first: edges.first,
-            second: e,
-        };
-    }
-    PackedEdges {
-        count: 3,
-        first: 0,
-        second: 0,
+    match edges {
+        FaceEdges::NoEdge => FaceEdges::OneEdge(e),
+        FaceEdges::OneEdge(first) => FaceEdges::TwoEdges { first, second: e },
+        FaceEdges::TwoEdges {
+            first: _,
+            second: _,
+        } => FaceEdges::Spoiled,
+        FaceEdges::Spoiled => FaceEdges::Spoiled,
     }
 }
 
-// Does one of the two hold, and the other not?
-fn differ(a: bool, b: bool) -> bool
-    ensures { result ≡ xor a b }
+fn next_face_edges(here: bool, next: bool, edges: FaceEdges, e: usize) -> FaceEdges
+    ensures { result ≡ next_face_edges here next edges e }
 {
-    if a { !b } else { b }
-}
-
-fn next_face_edges(here: bool, next: bool, edges: PackedEdges, e: usize) -> PackedEdges
-    ensures { face_edges_of result ≡ next_face_edges here next (face_edges_of edges) e }
-{
-    if differ(here, next) {
+    if here != next {
         return add_face_edge(edges, e);
     }
     edges
 }
 
 // Another start, where there is none yet.
-fn set_start(start: PackedStart, to: PackedStart) -> PackedStart
-    ensures { start_of result ≡ set_start (start_of start) (start_of to) }
+#[tactic(auto, unfolding(crate::specs::State::set_start))]
+fn set_start(start: StartHalfedge, to: StartHalfedge) -> StartHalfedge
+    ensures { result ≡ set_start start to }
 {
-    if start.tag == 0 {
-        return to;
+    match start {
+        StartHalfedge::NoneMissing => to,
+        StartHalfedge::SomeMissing => to,
+        StartHalfedge::StartAt(_) => start,
     }
-    if start.tag == 1 {
-        return to;
-    }
-    start
 }
 
 // What a missing normal at halfedge e sets, by whether the next one is missing too.
-fn missing_start(next: bool, e: usize) -> PackedStart
-    ensures { start_of result ≡ missing_start next e }
+#[tactic(auto, unfolding(crate::specs::State::missing_start))]
+fn missing_start(next: bool, e: usize) -> StartHalfedge
+    ensures { result ≡ missing_start next e }
 {
     if next {
-        return PackedStart { tag: 1, at: 0 };
+        return StartHalfedge::SomeMissing;
     }
-    PackedStart { tag: 2, at: e }
+    StartHalfedge::StartAt(e)
 }
 
-fn next_start(here: bool, next: bool, start: PackedStart, e: usize) -> PackedStart
-    ensures { start_of result ≡ next_start here next (start_of start) e }
+#[tactic(auto, unfolding(crate::specs::State::next_start))]
+fn next_start(here: bool, next: bool, start: StartHalfedge, e: usize) -> StartHalfedge
+    ensures { result ≡ next_start here next start e }
 {
     if here {
         return set_start(start, missing_start(next, e));
@@ -269,16 +226,12 @@ fn next_last(here: bool, next: bool, normal: Vec3, last: Vec3) -> Vec3
 }
 
 // What is carried before the first halfedge.
-pub fn start_state() -> PackedState
-    ensures { state_of result ≡ start_state }
+pub fn start_state() -> CycleState
+    ensures { result ≡ start_state }
 {
-    PackedState {
-        edges: PackedEdges {
-            count: 0,
-            first: 0,
-            second: 0,
-        },
-        start: PackedStart { tag: 0, at: 0 },
+    CycleState {
+        face_edges: FaceEdges::NoEdge,
+        start_halfedge: StartHalfedge::NoneMissing,
         last_normal: Vec3 {
             x: 0.0,
             y: 0.0,
@@ -288,82 +241,35 @@ pub fn start_state() -> PackedState
 }
 
 // What is carried after halfedge e, by its normal and the next one round its point, whatever these are.
+#[tactic(auto, unfolding(crate::specs::Carried::next_state_of))]
 pub fn next_state(
-    state: PackedState,
+    state: CycleState,
     here: HalfedgeNormal,
     next: HalfedgeNormal,
     e: usize,
-) -> PackedState
-    ensures { state_of result ≡ next_state_of (state_of state) here next e }
+) -> CycleState
+    ensures { result ≡ next_state_of state here next e }
 {
-    let edges = state.edges;
-    let start = state.start;
+    let edges = state.face_edges;
+    let start = state.start_halfedge;
     let last = state.last_normal;
-    PackedState {
-        edges: next_face_edges(here.flat, next.flat, edges, e),
-        start: next_start(here.zero, next.zero, start, e),
+    CycleState {
+        face_edges: next_face_edges(here.flat, next.flat, edges, e),
+        start_halfedge: next_start(here.zero, next.zero, start, e),
         last_normal: next_last(here.zero, next.zero, here.normal, last),
     }
 }
 
 // There is no single flat face.
-pub fn spoil_face_edges(state: PackedState) -> PackedState
-    ensures { state_of result ≡ spoil_face_edges (state_of state) }
+#[tactic(auto, unfolding(crate::specs::State::spoil_face_edges))]
+pub fn spoil_face_edges(state: CycleState) -> CycleState
+    ensures { result ≡ spoil_face_edges state }
 {
-    let start = state.start;
-    let last_normal = state.last_normal;
-    PackedState {
-        edges: PackedEdges {
-            count: 3,
-            first: 0,
-            second: 0,
-        },
-        start,
-        last_normal,
-    }
-}
-
-// ---- what the loop carried, as the enums
-
-fn unpack_edges(edges: PackedEdges) -> FaceEdges
-    ensures { result ≡ face_edges_of edges }
-{
-    if edges.count == 0 {
-        return FaceEdges::NoEdge;
-    }
-    if edges.count == 1 {
-        return FaceEdges::OneEdge(edges.first);
-    }
-    if edges.count == 2 {
-        return FaceEdges::TwoEdges {
-            first: edges.first,
-            second: edges.second,
-        };
-    }
-    FaceEdges::Spoiled
-}
-
-fn unpack_start(start: PackedStart) -> StartHalfedge
-    ensures { result ≡ start_of start }
-{
-    if start.tag == 0 {
-        return StartHalfedge::NoneMissing;
-    }
-    if start.tag == 1 {
-        return StartHalfedge::SomeMissing;
-    }
-    StartHalfedge::StartAt(start.at)
-}
-
-pub fn unpack(state: PackedState) -> CycleState
-    ensures { result ≡ state_of state }
-{
-    let edges = state.edges;
-    let start = state.start;
+    let start_halfedge = state.start_halfedge;
     let last_normal = state.last_normal;
     CycleState {
-        face_edges: unpack_edges(edges),
-        start_halfedge: unpack_start(start),
+        face_edges: FaceEdges::Spoiled,
+        start_halfedge,
         last_normal,
     }
 }

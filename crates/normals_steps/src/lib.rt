@@ -7,18 +7,17 @@ ghost use Rattle.mesh.specs.Mesh.{as_halfedges};
 ghost use Rattle.smoothing.specs.Edges.{EdgeIn, NormalsIn, FacesIn};
 ghost use Rattle.create_shared.specs.Makings.{MakingIn, tangents_of, directionless_at, aligned_directionless};
 ghost use Rattle.normals_state.specs.State.{RowIn, get_normal};
-ghost use Rattle.normals_state.specs.Packed.{state_of};
 ghost use Rattle.normals_steps.specs.Steps.{FaceEdgesIn, signed_dir, tangent_between, with_weight, inside_quad_weight, missing_normal_weight, walk_of, vert_normal_step, vert_normal_directionless, fill_of, fill_tangent, put_fill_tangent, fill_step, fill_directionless, face_tangent, fix_face_edges, align_face_edges, face_edges_directionless};
 ghost use Rattle.normals_steps.specs.Carried.{is_inside, circular_at, direction_between, tangent_step_of, normal_step_of, normal_step_directionless_of};
 
 use linalg::{Vec3, Vec4};
-use normals_state::{FaceEdges, HalfedgeNormal, PackedState};
+use normals_state::{CycleState, FaceEdges, HalfedgeNormal};
 use smoothing::CircularTangent;
 
 // What the first loop carries after a halfedge, and what the halfedge adds to the count.
 #[derive(Clone, Copy)]
 pub struct NormalStep {
-    pub state: PackedState,
+    pub state: CycleState,
     pub directionless: usize,
 }
 
@@ -109,13 +108,13 @@ fn tangent_step(
     face_normals: &[f64],
     t: &mut [f64],
     fixed: &mut [u8],
-    state: PackedState,
+    state: CycleState,
     here: HalfedgeNormal,
     next: HalfedgeNormal,
     e: usize,
 ) -> NormalStep
     requires { (e < n) × MakingIn (as_halfedges h.now) pos.now t.old fixed.old n × (length face_normals.now ≡ n) }
-    ensures state { walk_of t.new fixed.new (state_of result.state) ≡ tangent_step_of (as_halfedges h.now) pos.now face_normals.now here next (walk_of t.old fixed.old (state_of state)) e }
+    ensures state { walk_of t.new fixed.new result.state ≡ tangent_step_of (as_halfedges h.now) pos.now face_normals.now here next (walk_of t.old fixed.old state) e }
     ensures directionless { result.directionless ≡ directionless_at (as_halfedges h.now) pos.now e }
 {
     let equal = smoothing::equal_units(next.unit, here.unit);
@@ -146,13 +145,13 @@ pub fn normal_step(
     inside: &[u8],
     t: &mut [f64],
     fixed: &mut [u8],
-    state: PackedState,
+    state: CycleState,
     here: HalfedgeNormal,
     next: HalfedgeNormal,
     e: usize,
 ) -> NormalStep
     requires { (e < n) × MakingIn (as_halfedges h.now) pos.now t.old fixed.old n × (length face_normals.now ≡ n) × (length inside.now ≡ n) }
-    ensures state { walk_of t.new fixed.new (state_of result.state) ≡ normal_step_of (as_halfedges h.now) pos.now face_normals.now (is_inside inside.now) here next (walk_of t.old fixed.old (state_of state)) e }
+    ensures state { walk_of t.new fixed.new result.state ≡ normal_step_of (as_halfedges h.now) pos.now face_normals.now (is_inside inside.now) here next (walk_of t.old fixed.old state) e }
     ensures directionless { result.directionless ≡ normal_step_directionless_of (as_halfedges h.now) pos.now (is_inside inside.now) here next e }
 {
     let after = normals_state::next_state(state, here, next, e);

@@ -76,9 +76,8 @@ fn normal_walk(
             break;
         }
     }
-    let unpacked = normals_state::unpack(state);
     NormalWalk {
-        state: unpacked,
+        state,
         directionless,
     }
 }
@@ -267,8 +266,7 @@ pub fn normals_verts(
     ensures directionless { result ≡ normals_verts_directionless (as_halfedges h.now) pos.now normals.now face_normals.now (get_normal h.now rows.now) (is_inside inside.now) n (length vert_halfedge.now) (tangents_of t.old fixed.old) }
 {
     let mut directionless = 0;
-    let mut v = 0;
-    while v < vert_halfedge.len() {
+    for v in 0..vert_halfedge.len() {
         directionless += normals_vert(
             n,
             h,
@@ -283,7 +281,6 @@ pub fn normals_verts(
             fixed,
             v,
         );
-        v += 1;
     }
     directionless
 }

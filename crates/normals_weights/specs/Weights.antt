@@ -4,7 +4,7 @@ use Rattle.float.specs.Ops.{zero}
 use Rattle.linalg.specs.declared.Vec3.{Vec3}
 use Rattle.mesh.specs.Mesh.{Halfedges, as_halfedges}
 use Rattle.mesh.specs.Questions.{sign_clear}
-use Rattle.mesh.specs.declared.Checked.TheVariants.{Accepted}
+use Rattle.std.specs.Prelude.{Ok}
 use Rattle.smoothing.specs.Directions.{circular_tangent}
 use Rattle.smoothing.specs.Lists.{weight_at}
 use Rattle.smoothing.specs.Edges.{edge_vec}
@@ -34,4 +34,4 @@ WeightsOf H P N A R normal T old n p = Weights H P (create_tangents_from_normals
 abbrev pub WeightsAfter : List ℤ → List Float → List Float → List Float → List ℤ → List Float → List Float → List ℕ → List ℕ → List Float → List Float → List ℕ → Bool → ℕ → ℕ → Type 0
 WeightsAfter list P N A R G T X B C D W old n p =
     let answer = check_lists list P N A R G T X B C D W n p in
-    answer ≡ Accepted → Weights (as_halfedges list) P (tangents_after answer list P N A R G T old n p) n
+    answer ≡ Ok tt → Weights (as_halfedges list) P (tangents_after answer list P N A R G T old n p) n

@@ -8,7 +8,7 @@ use lib.ListN.{length, get_or}
 use lib.Ieee.{Float}
 use Rattle.mesh.specs.Mesh.{Halfedges}
 use Rattle.mesh.specs.Questions.{has_length}
-use Rattle.mesh.specs.Check.{check_mesh, check_flags}
+use Rattle.mesh.specs.Check.{check_mesh, check_flags, answer_of}
 use Rattle.cycles.specs.Count.{count, ◌∈◌}
 use Rattle.cycles.proofs.Count.{zero_or_more}
 use Rattle.distribute_spread.specs.Steps.{Steps, Lawful}
@@ -17,8 +17,7 @@ use Rattle.distribute_spread.specs.Order.{NamesFixed, WasTurned, OrderFree}
 use Rattle.distribute_spread.proofs.Order.{order_free}
 use Rattle.distribute_walks.proofs.Lawful.{lawful}
 use Rattle.distribute.specs.Distribute as Distribute
-use Rattle.distribute.specs.Distribute.{lists_fit, answer_of, spread_tangents}
-use Rattle.distribute.specs.declared.Spreading.{Spreading}
+use Rattle.distribute.specs.Distribute.{Spreading, counts_of, lists_fit, spread_tangents}
 use Rattle.preview_walks.specs.Bytes.{turned_byte, turned_bytes}
 use Rattle.preview_walks.proofs.Bytes.{byte_one, byte_zero, bytes_at, bytes_same}
 use Rattle.preview.specs.Preview.{check_lists, preview_tangents, bytes_after, AsSpreading, PreviewFree, AnyOrder}
@@ -64,4 +63,4 @@ module _ (H : Halfedges) (P N : List Float) (X : List ℕ) (T : List Float) (Y :
   as_spreading er C D e = er ∙ ap answer (ap (λ (b : Bool). lists_fit H P N X T n p && b) (sym e) ∙ and_assoc (lists_fit H P N X T n p) (has_length (length C) n 1) (has_length (length D) n 1))
     where
       answer : Bool → Spreading
-      answer b = answer_of (check_flags (check_mesh H n p b) X n) (spread_tangents H P N X T n).looked (spread_tangents H P N X T n).turned
+      answer b = answer_of (check_flags (check_mesh H n p b) X n) (counts_of (spread_tangents H P N X T n).looked (spread_tangents H P N X T n).turned)

@@ -1,16 +1,13 @@
 -- Document 02's request 2, the preview of spreading as a public call: the answer of spreading, and for each halfedge a byte that says whether spreading a copy would turn it. Letters as in crates/distribute/specs/Distribute.antt; Y is the list of bytes.
-use Rattle.std.specs.Prelude.{ℕ, ◌<◌, ◌≡◌, List, Bool, ◌&&◌, length, get_or, Float}
+use Rattle.std.specs.Prelude.{ℕ, ◌<◌, ◌≡◌, List, Bool, ◌&&◌, length, get_or, Float, Ok}
 use Rattle.mesh.specs.Mesh.{Halfedges}
 use Rattle.mesh.specs.Questions.{has_length}
-use Rattle.mesh.specs.Check.{check_mesh, check_flags, when_accepted}
-use Rattle.mesh.specs.declared.Checked.{Checked}
-use Rattle.mesh.specs.declared.Checked.TheVariants.{Accepted}
+use Rattle.mesh.specs.Check.{Checked, check_mesh, check_flags, answer_of, when_accepted}
 use Rattle.distribute_spread.specs.Steps.{Steps}
 use Rattle.distribute_spread.specs.Spread.{spread, pass}
 use Rattle.distribute_spread.specs.Order.{NamesFixed, WasTurned, OrderFree}
 use Rattle.distribute_steps.specs.FloatSteps.{float_steps}
-use Rattle.distribute.specs.Distribute.{lists_fit, spread_tangents, answer_of, looked_of, turned_of, distribute_tangents}
-use Rattle.distribute.specs.declared.Spreading.{Spreading}
+use Rattle.distribute.specs.Distribute.{lists_fit, Spreading, counts_of, spread_tangents, looked_of, turned_of, distribute_tangents}
 use Rattle.preview_walks.specs.Bytes.{turned_bytes}
 
 -- ---- the questions
@@ -28,7 +25,7 @@ check_lists H P N X T Y n p = check_flags (check_mesh H n p (lengths_fit H P N X
 -- the answer, for every input: the counts of spreading, or the refusal
 abbrev pub preview_tangents : Halfedges → List Float → List Float → List ℕ → List Float → List ℕ → ℕ → ℕ → Spreading
 preview_tangents H P N X T Y n p =
-    answer_of (check_lists H P N X T Y n p) (spread_tangents H P N X T n).looked (spread_tangents H P N X T n).turned
+    answer_of (check_lists H P N X T Y n p) (counts_of (spread_tangents H P N X T n).looked (spread_tangents H P N X T n).turned)
 
 -- the bytes after the call, for every input: as lent when it is refused
 abbrev pub bytes_after : Halfedges → List Float → List Float → List ℕ → List Float → List ℕ → ℕ → ℕ → List ℕ
@@ -51,5 +48,5 @@ pub record PreviewFree (S : Steps) (starts : List ℕ) (ts : S.Tangents) (Y : Li
 -- The order rule of an accepted call that left the bytes Z and answered r: for every list of starts that names each fixed halfedge once.
 abbrev pub AnyOrder : Halfedges → List Float → List Float → List ℕ → List Float → List ℕ → ℕ → ℕ → List ℕ → Spreading → Type 0
 AnyOrder H P N X T Y n p Z r =
-    check_lists H P N X T Y n p ≡ Accepted → (starts : List ℕ) → NamesFixed (float_steps H P N X n) starts
+    check_lists H P N X T Y n p ≡ Ok tt → (starts : List ℕ) → NamesFixed (float_steps H P N X n) starts
     → PreviewFree (float_steps H P N X n) starts T Z (looked_of r) (turned_of r)

@@ -9,16 +9,15 @@ ghost use Rattle.distribute.specs.Distribute.{spread_tangents, Values};
 ghost use Rattle.preview_walks.specs.Walks.{Lists, Shows};
 ghost use Rattle.preview.specs.Preview.{check_lists, preview_tangents, bytes_after, AsSpreading, AnyOrder};
 
-use distribute::Spreading;
 use distribute_walks::Counts;
-use mesh::Checked;
+use mesh::Refusal;
 
 // The loop over the halfedges of an accepted mesh, after zeros in all bytes.
 fn preview_all(n: usize, p: usize, h: &[i32], fixed: &[u8], t: &[f64], bytes: &mut [u8]) -> Counts
     requires { Lists (as_halfedges h.now) fixed.now t.now n p × (length bytes.old ≡ n) }
     ensures { (P N : List Float) → Shows (float_steps (as_halfedges h.now) P N fixed.now n) (spread_tangents (as_halfedges h.now) P N fixed.now t.now n) bytes.new result }
 {
-    common::fill_bytes(bytes, 0);
+    bytes.fill(0);
     let mut counts = Counts {
         looked: 0,
         turned: 0,
@@ -39,7 +38,7 @@ fn check_lists(
     fixed: &[u8],
     t: &[f64],
     bytes: &[u8],
-) -> Checked
+) -> Result<(), Refusal>
     ensures { result ≡ check_lists (as_halfedges h.now) pos.now normals.now fixed.now t.now bytes.now n p }
 {
     let lists = distribute::lists_fit(n, p, h, pos, normals, fixed, t);
@@ -59,7 +58,7 @@ pub fn preview_tangents(
     fixed: &[u8],
     t: &[f64],
     bytes: &mut [u8],
-) -> Spreading
+) -> Result<Counts, Refusal>
     ensures answer { result ≡ preview_tangents (as_halfedges h.now) pos.now normals.now fixed.now t.now bytes.old n p }
     ensures bytes { bytes.new ≡ bytes_after (as_halfedges h.now) pos.now normals.now fixed.now t.now bytes.old n p }
     ensures spreading { AsSpreading (as_halfedges h.now) pos.now normals.now fixed.now t.now bytes.old n p result }
@@ -67,15 +66,9 @@ pub fn preview_tangents(
     ensures values { Values (check_lists (as_halfedges h.now) pos.now normals.now fixed.now t.now bytes.old n p) (float_steps (as_halfedges h.now) pos.now normals.now fixed.now n) (spread_tangents (as_halfedges h.now) pos.now normals.now fixed.now t.now n) result }
 {
     let checked = check_lists(n, p, h, pos, normals, fixed, t, bytes);
-    let Checked::Accepted = checked else {
-        return distribute::answer(
-            checked,
-            Counts {
-                looked: 0,
-                turned: 0,
-            },
-        );
+    let Ok(()) = checked else {
+        return mesh::refused(checked);
     };
     let counts = preview_all(n, p, h, fixed, t, bytes);
-    distribute::answer(checked, counts)
+    Ok(counts)
 }

@@ -2,10 +2,9 @@
 use Prim.Native.Nat.{ℕ, ◌+◌, ◌*◌, ◌≤◌}
 use native.Mathlib.Omega.{arith}
 use mathlib.Core.Path.{◌≡◌, refl, sym, ap, ◌∙◌}
-use mathlib.Core.Bool.{Bool, true, false, cond}
+use mathlib.Core.Bool.{true}
 use mathlib.Core.List.{List, ◌++◌}
 use borrow.Author.Tests.{leb-true}
-use lib.Dec.{eqb}
 use lib.ListN.{length, take, drop}
 use lib.Seq.{take_at, drop_at}
 use lib.Ieee.{Float}
@@ -16,15 +15,18 @@ use Rattle.little_endian.specs.Numbers.{f64_item}
 use Rattle.mesh.specs.Mesh.{as_halfedges}
 use Rattle.records.specs.Records.{body_at, parse_input}
 use Rattle.records.specs.Lists.{Lists, if_spread, read_answer, read_lists}
-use Rattle.records.specs.declared.Parsed.{Parsed}
-use Rattle.records.specs.declared.Parsed.TheVariants.{Input, Refused as InputRefused}
-use Rattle.records.proofs.Accepted.{never_short, parsed_bound}
-use Rattle.program_lines.specs.Lines.{lines_of, rendered}
+use Rattle.records.specs.declared.Operation.{Operation}
+use Rattle.records.specs.declared.Operation.TheVariants.{Straighten, Spread, Check}
+use Rattle.records.specs.declared.Kind.TheVariants.{Tangents}
+use Rattle.records.specs.declared.Input.{Input}
+use Rattle.records.proofs.Accepted.{never_short, counts_bound}
+use Rattle.std.specs.Prelude.{Result, Ok, Err}
+use Rattle.mesh.specs.declared.Refusal.{Refusal}
+use Rattle.program_lines.specs.Lines.{lines_of, printed, rendered}
 use Rattle.program_lines.proofs.Whole.{whole}
 use Rattle.program_lines.specs.declared.Output.{Output}
-use Rattle.program_lines.specs.declared.Output.TheVariants.{Refused}
-use Rattle.program_operations.specs.Operations.{straighten_lines, spread_lines, operation_lines, straighten_tangents, spread_tangents, operation_tangents, spread_scratch, operation_scratch, SpreadIn, Shows}
-use Rattle.program.specs.Program.{output_of, halfedges_of, positions_of, tangents_of, normals_of, flags_of, positions_after, halfedges_after, normals_after, flags_after, tangents_after, scratch_after, has_room, Room}
+use Rattle.program_operations.specs.Operations.{operation_lines, operation_tangents, operation_scratch, SpreadIn, Shows}
+use Rattle.program.specs.Program.{output_of, halfedges_of, positions_of, tangents_of, normals_of, flags_of, positions_after, halfedges_after, normals_after, flags_after, tangents_after, scratch_after, when_spreading, has_room, Room}
 
 -- ---- the room
 
@@ -57,11 +59,11 @@ module _ (positions halfedges tangents normals flags current desired out : ℕ) 
       )
 
   -- what is rendered of an output that shows the program's lines
-  pub renders : (s : List ℕ) (o : Output) (T : List Float) → length T ≡ tangents → Shows (output_of s) 1364 o T →
-      rendered o T out ≡ output_of s
+  pub renders : (s : List ℕ) (o : Result Output Refusal) (T : List Float) → length T ≡ tangents → Shows (output_of s) 1364 o T →
+      rendered (printed o) T out ≡ output_of s
   renders s o T l e =
       let r = all_room in
-      whole o T out (omega (arith, r.0.tangent_room, e.halfedges_few)) (omega (arith, r.1, e.halfedges_few)) ∙ e.shown
+      whole (printed o) T out (omega (arith, r.0.tangent_room, e.halfedges_few)) (omega (arith, r.1, e.halfedges_few)) ∙ e.shown
 
 -- ---- the lists of an accepted input
 
@@ -74,19 +76,21 @@ dropped : {A : Type 0} (f : ℕ → A) (k : ℕ) (xs : List A) → drop k (fille
 unfolding filled
 dropped f k xs = drop_at (items f k) (drop k xs) k (items_length f k)
 
--- point normals and flags are spreading's alone
-pub only_spread : {A : Type 0} (o : ℕ) (f : List Float → List ℕ → A) (other : A) (N N' : List Float) (F F' : List ℕ) (b : Bool) → eqb o 2 ≡ b → (eqb o 2 ≡ true → (N ≡ N') × (F ≡ F')) →
-    cond (eqb o 2) (f N F) other ≡ cond (eqb o 2) (f N' F') other
-only_spread o f other N N' F F' true e h = rw ((h e).0, (h e).1)
-only_spread o f other N N' F F' false e h = rw e
+-- point normals and flags are spreading's alone: what the others make does not depend on them
+pub only_spread : {A : Type 0} (o : Operation) (f : Operation → List Float → List ℕ → A) (N N' : List Float) (F F' : List ℕ) →
+    f Straighten N F ≡ f Straighten N' F' → f Check N F ≡ f Check N' F' → (o ≡ Spread → (N ≡ N') × (F ≡ F')) → f o N F ≡ f o N' F'
+only_spread Straighten f N N' F F' a b h = a
+only_spread Spread f N N' F F' a b h = rw ((h refl).0, (h refl).1)
+only_spread Check f N N' F F' a b h = b
 
-spread_filled : {A : Type 0} (f : ℕ → A) (b : Bool) (k : ℕ) (xs : List A) → filled f (cond b k 0) xs ≡ cond b (items f k ++ drop k xs) xs
+spread_filled : {A : Type 0} (f : ℕ → A) (o : Operation) (k : ℕ) (xs : List A) → filled f (if_spread o k) xs ≡ when_spreading o (items f k ++ drop k xs) xs
 unfolding filled items
-spread_filled f true k xs = refl
-spread_filled f false k xs = refl
+spread_filled f Straighten k xs = refl
+spread_filled f Spread k xs = refl
+spread_filled f Check k xs = refl
 
 -- r is the answer to reading s into the lists L, which have room and become L'
-pub record Reading (s : List ℕ) (L L' : Lists) (r : Parsed) : Type 0 where
+pub record Reading (s : List ℕ) (L L' : Lists) (r : Result Input Refusal) : Type 0 where
   pub position_room : 8187 ≤ length L.positions
   pub halfedge_room : 5456 ≤ length L.halfedges
   pub tangent_room : 5456 ≤ length L.tangents
@@ -95,24 +99,24 @@ pub record Reading (s : List ℕ) (L L' : Lists) (r : Parsed) : Type 0 where
   pub answer : r ≡ read_answer s L
   pub lists : L' ≡ read_lists r s L
 
-module _ {s : List ℕ} {L L' : Lists} {r : Parsed} (w : Reading s L L' r) where
-  parsed : (q : Parsed) → r ≡ q → parse_input s ≡ q
+module _ {s : List ℕ} {L L' : Lists} {r : Result Input Refusal} (w : Reading s L L' r) where
+  parsed : (q : Result Input Refusal) → r ≡ q → parse_input s ≡ q
   parsed q e = sym (never_short s L w.position_room w.halfedge_room w.tangent_room w.normal_room w.flag_room) ∙ sym w.answer ∙ e
 
   -- the lists that only the reading writes
-  pub read_left : (q : Parsed) → r ≡ q →
+  pub read_left : (q : Result Input Refusal) → r ≡ q →
       (L'.positions ≡ positions_after s L.positions)
       × (L'.halfedges ≡ halfedges_after s L.halfedges)
       × (L'.normals ≡ normals_after s L.normals)
       × (L'.flags ≡ flags_after s L.flags)
-  unfolding read_lists if_spread filled positions_after halfedges_after normals_after flags_after
-  read_left (InputRefused number place) e = rw (w.lists, parsed _ e, e) (refl, refl, refl, refl)
-  read_left (Input o p n) e =
-      rw (w.lists, parsed _ e, e) (refl, refl, spread_filled _ (eqb o 2) (3 * p) _, spread_filled _ (eqb o 2) n _)
+  unfolding read_lists filled positions_after halfedges_after normals_after flags_after
+  read_left (Err refusal) e = rw (w.lists, parsed _ e, e) (refl, refl, refl, refl)
+  read_left (Ok i) e =
+      rw (w.lists, parsed _ e, e) (refl, refl, spread_filled _ i.operation (3 * i.counts.points) _, spread_filled _ i.operation i.counts.halfedges _)
 
-  module _ (number place : ℕ) (e : r ≡ InputRefused number place) where
+  module _ (refusal : Refusal) (e : r ≡ Err refusal) where
     -- a refusal is printed
-    pub refusal_shows : (T : List Float) → Shows (output_of s) 1364 (Refused number place) T
+    pub refusal_shows : (T : List Float) → Shows (output_of s) 1364 (Err refusal) T
     unfolding output_of lines_of
     refusal_shows T = record { shown = rw (parsed _ e); halfedges_few = omega arith }
 
@@ -125,12 +129,12 @@ module _ {s : List ℕ} {L L' : Lists} {r : Parsed} (w : Reading s L L' r) where
     unfolding scratch_after
     scratch_as_lent lent = rw (parsed _ e)
 
-  module _ (o p n : ℕ) (e : r ≡ Input o p n) where
-    lists : L' ≡ read_lists (Input o p n) s L
-    lists = w.lists ∙ ap (λ (q : Parsed). read_lists q s L) e
+  module _ (o : Operation) (p n : ℕ) (e : r ≡ Ok (record { operation = o; counts = record { points = p; halfedges = n } })) where
+    lists : L' ≡ read_lists (Ok (record { operation = o; counts = record { points = p; halfedges = n } })) s L
+    lists = w.lists ∙ ap (λ (q : Result Input Refusal). read_lists q s L) e
 
     pub bound : 24 * p + 48 * n + 35 ≤ 65536
-    bound = parsed_bound s o p n (parsed _ e)
+    bound = counts_bound s _ (parsed _ e)
 
     positions_read : take (3 * p) L'.positions ≡ positions_of s p n
     unfolding read_lists
@@ -146,27 +150,26 @@ module _ {s : List ℕ} {L L' : Lists} {r : Parsed} (w : Reading s L L' r) where
 
     further_tangents : drop (4 * n) L'.tangents ≡ drop (4 * n) L.tangents
     unfolding read_lists
-    further_tangents = ap (λ (q : Lists). drop (4 * n) q.tangents) lists ∙ dropped (f64_item s (body_at p n 5)) (4 * n) L.tangents
+    further_tangents = ap (λ (q : Lists). drop (4 * n) q.tangents) lists ∙ dropped (f64_item s (body_at p n Tangents)) (4 * n) L.tangents
 
-    spread_read : eqb o 2 ≡ true → (take (3 * p) L'.normals ≡ normals_of s p n) × (take n L'.flags ≡ flags_of s p n)
-    unfolding read_lists if_spread
+    spread_read : o ≡ Spread → (take (3 * p) L'.normals ≡ normals_of s p n) × (take n L'.flags ≡ flags_of s p n)
+    unfolding read_lists
     spread_read d = (
       ap (λ (q : Lists). take (3 * p) q.normals) lists ∙ rw d (taken _ (3 * p) _),
       ap (λ (q : Lists). take n q.flags) lists ∙ rw d (taken _ n _),
     )
 
     -- what the operation prints of the lists that were read is printed
-    pub operation_shows : (output : Output) (T : List Float) →
+    pub operation_shows : (output : Result Output Refusal) (T : List Float) →
         Shows (operation_lines o (as_halfedges (take (4 * n) L'.halfedges)) (take (3 * p) L'.positions) (take (3 * p) L'.normals) (take n L'.flags) (take (4 * n) L'.tangents) n p) n output T →
         Shows (output_of s) 1364 output T
-    unfolding output_of operation_lines
+    unfolding output_of
     operation_shows output T h =
         record {
           shown =
               h.shown
               ∙ rw (parsed _ e, halfedges_read, positions_read, tangents_read)
-              (ap (cond (eqb o 1) (straighten_lines (as_halfedges (halfedges_of s p n)) (positions_of s p n) (tangents_of s p n) n p))
-              (only_spread o (λ N F. spread_lines (as_halfedges (halfedges_of s p n)) (positions_of s p n) N F (tangents_of s p n) n p) _ _ (normals_of s p n) _ (flags_of s p n) (eqb o 2) refl spread_read));
+              (only_spread o (λ q N F. operation_lines q (as_halfedges (halfedges_of s p n)) (positions_of s p n) N F (tangents_of s p n) n p) _ (normals_of s p n) _ (flags_of s p n) refl refl spread_read);
           halfedges_few = omega (arith, bound, h.halfedges_few);
         }
 
@@ -174,21 +177,20 @@ module _ {s : List ℕ} {L L' : Lists} {r : Parsed} (w : Reading s L L' r) where
     pub tangents_left : (T : List Float) →
         T ≡ operation_tangents o (as_halfedges (take (4 * n) L'.halfedges)) (take (3 * p) L'.positions) (take (3 * p) L'.normals) (take n L'.flags) (take (4 * n) L'.tangents) n p ++ drop (4 * n) L'.tangents →
         T ≡ tangents_after s L.tangents
-    unfolding tangents_after operation_tangents
+    unfolding tangents_after
     tangents_left T h =
         h
         ∙ rw (parsed _ e, halfedges_read, positions_read, tangents_read, further_tangents)
-        (ap (λ (after : List Float). cond (eqb o 1) (straighten_tangents (as_halfedges (halfedges_of s p n)) (positions_of s p n) (tangents_of s p n) n p) after ++ drop (4 * n) L.tangents)
-        (only_spread o (λ N F. spread_tangents (as_halfedges (halfedges_of s p n)) (positions_of s p n) N F (tangents_of s p n) n p) _ _ (normals_of s p n) _ (flags_of s p n) (eqb o 2) refl spread_read))
+        (only_spread o (λ q N F. operation_tangents q (as_halfedges (halfedges_of s p n)) (positions_of s p n) N F (tangents_of s p n) n p ++ drop (4 * n) L.tangents) _ (normals_of s p n) _ (flags_of s p n) refl refl spread_read)
 
     pub scratch_left : (left lent : List Float) →
         left ≡ operation_scratch o (as_halfedges (take (4 * n) L'.halfedges)) (take (3 * p) L'.positions) (take (3 * p) L'.normals) (take n L'.flags) (take (4 * n) L'.tangents) n p lent →
         left ≡ scratch_after s lent
-    unfolding scratch_after operation_scratch
+    unfolding scratch_after
     scratch_left left lent h =
         h
         ∙ rw (parsed _ e, halfedges_read, positions_read, tangents_read)
-        (only_spread o (λ N F. spread_scratch (as_halfedges (halfedges_of s p n)) (positions_of s p n) N F (tangents_of s p n) n p lent) lent _ (normals_of s p n) _ (flags_of s p n) (eqb o 2) refl spread_read)
+        (only_spread o (λ q N F. operation_scratch q (as_halfedges (halfedges_of s p n)) (positions_of s p n) N F (tangents_of s p n) n p lent) _ (normals_of s p n) _ (flags_of s p n) refl refl spread_read)
 
 -- ---- what the operations may take for granted
 

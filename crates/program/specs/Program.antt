@@ -1,39 +1,43 @@
 -- The program `tangents` of document 01, from the bytes s that it reads to the bytes that it writes. p and n are the counts of points and halfedges.
-use Rattle.std.specs.Prelude.{ℕ, ◌*◌, ◌≤◌, List, [], ◌++◌, Bool, cond, ◌&&◌, leb, eqb, length, drop, ℤ, Float}
+use Rattle.std.specs.Prelude.{ℕ, ◌*◌, ◌≤◌, List, [], ◌++◌, Bool, ◌&&◌, leb, length, drop, ℤ, Float, Result, Ok, Err}
 use Rattle.little_endian.specs.Numbers.{f64_item, i32_item, byte_item}
 use Rattle.little_endian.specs.Filled.{items}
 use Rattle.mesh.specs.Mesh.{halfedge_stride, as_halfedges}
 use Rattle.records.specs.Records.{body_at, parse_input}
-use Rattle.records.specs.declared.Parsed.{Parsed}
-use Rattle.records.specs.declared.Parsed.TheVariants.{Input, Refused as InputRefused}
-use Rattle.program_lines.specs.Lines.{lines_of}
-use Rattle.program_lines.specs.declared.Output.TheVariants.{Refused}
+use Rattle.records.specs.declared.Operation.{Operation}
+use Rattle.records.specs.declared.Operation.TheVariants.{Straighten, Spread, Check}
+use Rattle.records.specs.declared.Kind.TheVariants.{Positions, Halfedges, Tangents, Normals, Flags}
+use Rattle.records.specs.declared.Input.{Input}
+use Rattle.mesh.specs.declared.Refusal.{Refusal}
+use Rattle.program_lines.specs.Lines.{lines_of, printed}
 use Rattle.program_operations.specs.Operations.{operation_lines, operation_tangents, operation_scratch}
 
 -- ---- the lists of an accepted input
 
 abbrev pub positions_of : List ℕ → ℕ → ℕ → List Float
-positions_of s p n = items (f64_item s (body_at p n 3)) (3 * p)
+positions_of s p n = items (f64_item s (body_at p n Positions)) (3 * p)
 
 abbrev pub halfedges_of : List ℕ → ℕ → ℕ → List ℤ
-halfedges_of s p n = items (i32_item s (body_at p n 4)) (halfedge_stride * n)
+halfedges_of s p n = items (i32_item s (body_at p n Halfedges)) (halfedge_stride * n)
 
 abbrev pub tangents_of : List ℕ → ℕ → ℕ → List Float
-tangents_of s p n = items (f64_item s (body_at p n 5)) (4 * n)
+tangents_of s p n = items (f64_item s (body_at p n Tangents)) (4 * n)
 
 abbrev pub normals_of : List ℕ → ℕ → ℕ → List Float
-normals_of s p n = items (f64_item s (body_at p n 6)) (3 * p)
+normals_of s p n = items (f64_item s (body_at p n Normals)) (3 * p)
 
 abbrev pub flags_of : List ℕ → ℕ → ℕ → List ℕ
-flags_of s p n = items (byte_item s (body_at p n 7)) n
+flags_of s p n = items (byte_item s (body_at p n Flags)) n
 
 -- ---- the program
 
 -- a refusal of the records, or the lines of the operation on the lists that the records hold
-abbrev pub lines_for : List ℕ → Parsed → List ℕ
-lines_for s (InputRefused number place) = lines_of (Refused number place) []
-lines_for s (Input operation p n) =
-    operation_lines operation (as_halfedges (halfedges_of s p n)) (positions_of s p n) (normals_of s p n) (flags_of s p n) (tangents_of s p n) n p
+abbrev pub lines_for : List ℕ → Result Input Refusal → List ℕ
+lines_for s (Err refusal) = lines_of (printed (Err refusal)) []
+lines_for s (Ok input) =
+    let p = input.counts.points in
+    let n = input.counts.halfedges in
+    operation_lines input.operation (as_halfedges (halfedges_of s p n)) (positions_of s p n) (normals_of s p n) (flags_of s p n) (tangents_of s p n) n p
 
 -- the bytes that the program writes, for every input
 unfoldable pub output_of : List ℕ → List ℕ
@@ -42,9 +46,9 @@ output_of s = lines_for s (parse_input s)
 -- ---- what the lent lists hold afterwards, for every input, where they have room
 
 -- `after` the operation and the counts that were read, and as lent where the records are refused
-abbrev pub when_read : {A : Type 0} → Parsed → (ℕ → ℕ → ℕ → A) → A → A
-when_read (Input operation p n) after lent = after operation p n
-when_read (InputRefused number place) after lent = lent
+abbrev pub when_read : {A : Type 0} → Result Input Refusal → (Operation → ℕ → ℕ → A) → A → A
+when_read (Ok input) after lent = after input.operation input.counts.points input.counts.halfedges
+when_read (Err refusal) after lent = lent
 
 -- the numbers of the input in front, and the further places as lent
 unfoldable pub positions_after : List ℕ → List Float → List Float
@@ -53,14 +57,19 @@ positions_after s lent = when_read (parse_input s) (λ operation p n. positions_
 unfoldable pub halfedges_after : List ℕ → List ℤ → List ℤ
 halfedges_after s lent = when_read (parse_input s) (λ operation p n. halfedges_of s p n ++ drop (halfedge_stride * n) lent) lent
 
--- only spreading (operation 2) has point normals and flags
+-- only spreading has point normals and flags
+abbrev pub when_spreading : {A : Type 0} → Operation → A → A → A
+when_spreading Straighten after lent = lent
+when_spreading Spread after lent = after
+when_spreading Check after lent = lent
+
 unfoldable pub normals_after : List ℕ → List Float → List Float
 normals_after s lent =
-    when_read (parse_input s) (λ operation p n. cond (eqb operation 2) (normals_of s p n ++ drop (3 * p) lent) lent) lent
+    when_read (parse_input s) (λ operation p n. when_spreading operation (normals_of s p n ++ drop (3 * p) lent) lent) lent
 
 unfoldable pub flags_after : List ℕ → List ℕ → List ℕ
 flags_after s lent =
-    when_read (parse_input s) (λ operation p n. cond (eqb operation 2) (flags_of s p n ++ drop n lent) lent) lent
+    when_read (parse_input s) (λ operation p n. when_spreading operation (flags_of s p n ++ drop n lent) lent) lent
 
 -- the tangents that the operation leaves of those that were read
 unfoldable pub tangents_after : List ℕ → List Float → List Float

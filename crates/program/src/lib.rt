@@ -5,10 +5,10 @@
 ghost use Rattle.std.specs.Prelude.{◌≡◌, cond, [], length};
 ghost use Rattle.program_lines.specs.Text.{Put};
 ghost use Rattle.program_operations.specs.Operations.{Shows};
-ghost use Rattle.program.specs.Program.{output_of, positions_after, halfedges_after, tangents_after, normals_after, flags_after, scratch_after, has_room, lists_have_room, Room};
+ghost use Rattle.program.specs.Program.{output_of, positions_after, halfedges_after, tangents_after, normals_after, flags_after, scratch_after, lists_have_room, Room};
 
+use mesh::Refusal;
 use program_lines::Output;
-use records::Parsed;
 
 // The lengths of lists with room for every input: its positions or point normals, its halfedges, its tangents, one place
 // for each halfedge (flags, scratch), and its output.
@@ -32,7 +32,7 @@ fn respond(
     flags: &mut [u8],
     current: &mut [f64],
     desired: &mut [f64],
-) -> Output
+) -> Result<Output, Refusal>
     requires { Room (length pos.old) (length h.old) (length t.old) (length normals.old) (length flags.old) (length current.old) (length desired.old) }
     ensures output { Shows (output_of input.now) 1364 result t.new }
     ensures positions { pos.new ≡ positions_after input.now pos.old }
@@ -43,59 +43,27 @@ fn respond(
     ensures current { current.new ≡ scratch_after input.now current.old }
     ensures desired { desired.new ≡ scratch_after input.now desired.old }
 {
-    match records::read_input(input, pos, h, t, normals, flags) {
-        Parsed::Input {
-            operation,
-            points,
-            halfedges,
-        } => program_operations::operate(
-            operation, halfedges, points, h, pos, normals, flags, t, current, desired,
-        ),
-        Parsed::Refused { number, place } => Output::Refused { number, place },
-    }
-}
-
-// Has each list the room that the longest input can call for?
-fn has_room(
-    positions: usize,
-    halfedges: usize,
-    tangents: usize,
-    normals: usize,
-    flags: usize,
-    current: usize,
-    desired: usize,
-    out: usize,
-) -> bool
-    ensures { result ≡ has_room positions halfedges tangents normals flags current desired out }
-{
-    if positions < POSITION_ROOM {
-        return false;
-    }
-    if halfedges < HALFEDGE_ROOM {
-        return false;
-    }
-    if tangents < TANGENT_ROOM {
-        return false;
-    }
-    if normals < POSITION_ROOM {
-        return false;
-    }
-    if flags < FLAG_ROOM {
-        return false;
-    }
-    if current < FLAG_ROOM {
-        return false;
-    }
-    if desired < FLAG_ROOM {
-        return false;
-    }
-    OUTPUT_ROOM <= out
+    let read = records::read_input(input, pos, h, t, normals, flags)?;
+    program_operations::perform(
+        read.operation,
+        usize::from(read.counts.halfedges),
+        usize::from(read.counts.points),
+        h,
+        pos,
+        normals,
+        flags,
+        t,
+        current,
+        desired,
+    )
 }
 
 // The program's answer to an input: writes the whole output to the front of `out` and returns its length. The other lists
 // then hold the numbers that were read, the tangents as the operation leaves them, and zeros for the scratch of an accepted
 // spreading; further places stay as lent, and so does all where the records are refused. Where a list has less than the room
-// above, it changes no list and returns 0.
+// above, it changes no list and returns 0. The lists are parameters: with a struct that lends them each clause would read
+// `lists.entry.pos.now` for `pos.old`.
+#[tactic(auto, unfolding(crate::specs::Program::has_room))]
 pub fn answer(
     input: &[u8],
     pos: &mut [f64],
@@ -116,19 +84,18 @@ pub fn answer(
     ensures current { current.new ≡ cond (lists_have_room pos.old h.old t.old normals.old flags.old current.old desired.old out.old) (scratch_after input.now current.old) current.old }
     ensures desired { desired.new ≡ cond (lists_have_room pos.old h.old t.old normals.old flags.old current.old desired.old out.old) (scratch_after input.now desired.old) desired.old }
 {
-    let room = has_room(
-        pos.len(),
-        h.len(),
-        t.len(),
-        normals.len(),
-        flags.len(),
-        current.len(),
-        desired.len(),
-        out.len(),
-    );
+    // `&` has no branch, so that the proof has one path.
+    let room = (POSITION_ROOM <= pos.len())
+        & (HALFEDGE_ROOM <= h.len())
+        & (TANGENT_ROOM <= t.len())
+        & (POSITION_ROOM <= normals.len())
+        & (FLAG_ROOM <= flags.len())
+        & (FLAG_ROOM <= current.len())
+        & (FLAG_ROOM <= desired.len())
+        & (OUTPUT_ROOM <= out.len());
     if !room {
         return 0;
     }
-    let output = respond(input, pos, h, t, normals, flags, current, desired);
-    program_lines::render(output, t, out)
+    let answer = respond(input, pos, h, t, normals, flags, current, desired);
+    program_lines::render(Output::from(answer), t, out)
 }

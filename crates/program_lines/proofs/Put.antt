@@ -1,12 +1,14 @@
 -- The laws of bytes that are stored one after the other. Assumes nothing.
-use Prim.Native.Nat.{ℕ, suc, ◌+◌, ◌<◌, ◌≤◌}
+use Prim.Native.Nat.{ℕ, suc, ◌+◌, ◌-◌, ◌≤◌}
 use native.Mathlib.Nat.{add-zero, add-suc, suc-add, add_assoc}
 use native.Mathlib.Omega.{arith}
 use mathlib.Core.Path.{◌≡◌, refl, sym, ap, ◌∙◌}
-use mathlib.Core.List.{List, [], ◌∷◌, ◌++◌}
+use mathlib.Core.List.{List, [], ◌∷◌, ◌++◌, append_assoc}
 use lib.ListN.{length, set, length-append}
 use lib.Seq.{sets, length-sets}
-use Rattle.program_lines.specs.Text.{byte, Put}
+use borrow.Rule.Slice.PartMut.{put_mid, Post-is}
+use Rattle.std.proofs.lemmas.List.Edits.{sets-eq}
+use Rattle.program_lines.specs.Text.{Put}
 
 sets_append : (l : List ℕ) (i : ℕ) (xs ys : List ℕ) → sets (sets l i xs) (i + length xs) ys ≡ sets l i (xs ++ ys)
 sets_append l i [] ys = rw add-zero
@@ -26,11 +28,16 @@ put_then {a} {b} {c} {xs} {ys} {i} {m} {k} p q =
       within = omega (arith, q.within, put_length p);
     }
 
--- one turn of a loop that stores
-pub put_more : {a b xs : List ℕ} {i : ℕ} (k v : ℕ) (ys : List ℕ) → Put a i xs b (i + k) → i + k < length a → xs ++ byte v ≡ ys → Put a i ys (set b (i + k) v) (i + (k + 1))
-put_more {a} {b} {xs} {i} k v ys p h e =
-    let q : Put b (i + k) (byte v) (set b (i + k) v) (i + (k + 1)) = record { stored = refl; ends = sym (add_assoc i k 1); within = omega (arith, put_length p) } in
-    rw (← e) (put_then p q)
+-- bytes that are copied over a part of the buffer
+pub put_over : (a xs : List ℕ) (i end : ℕ) → end ≡ i + length xs → end ≤ length a → Put a i xs (put_mid i (end - i) a xs) end
+put_over a xs i end e h =
+    let le : i ≤ end = omega arith in
+    let within : i + length xs ≤ length a = omega arith in
+    record {
+      stored = rw (Post-is i end a le, e, ← append_assoc) (sym (sets-eq xs a i within));
+      ends = e;
+      within = h;
+    }
 
 -- what a caller needs to know of the room that is left
 pub put_within : {a b xs : List ℕ} {i m : ℕ} (k : ℕ) → length xs ≤ k → Put a i xs b m → (m ≤ i + k) × (length b ≡ length a)

@@ -1,7 +1,9 @@
 -- The program's output as document 01 has it. Every line ends in a newline.
-use Rattle.std.specs.Prelude.{ℕ, zero, suc, ◌+◌, ◌*◌, Bool, cond, ◌&&◌, List, [], ◌++◌, length, get_or, leb, Float}
+use Rattle.std.specs.Prelude.{ℕ, zero, suc, ◌+◌, ◌*◌, Bool, cond, ◌&&◌, List, [], ◌++◌, length, get_or, leb, Float, Result, Ok, Err}
 use Rattle.std.specs.Float.{nan}
 use Rattle.float.specs.F64.{bits_of}
+use Rattle.mesh.specs.Questions.{number as question_number}
+use Rattle.mesh.specs.declared.Refusal.{Refusal}
 use Rattle.program_lines.specs.Text.{ascii, decimal, hex}
 use Rattle.program_lines.specs.declared.Output.{Output}
 use Rattle.program_lines.specs.declared.Output.TheVariants.{Tangents, Spread, Valid, Refused}
@@ -38,6 +40,11 @@ lines_of (Tangents n) T = tangents_lines T n
 lines_of (Spread n looked turned) T = tangents_lines T n ++ numbers_line (ascii "looked ") looked (ascii " turned ") turned
 lines_of (Valid valid) T = number_line (ascii "valid ") (cond valid 1 0)
 lines_of (Refused number place) T = numbers_line (ascii "refused ") number (ascii " ") place
+
+-- what is printed of an answer: its output, or document 01's number and place of the refusal
+abbrev pub printed : Result Output Refusal → Output
+printed (Ok output) = output
+printed (Err refusal) = Refused (question_number refusal.question) refusal.place
 
 -- room for a line: no line has more bytes
 abbrev pub line_bytes : ℕ

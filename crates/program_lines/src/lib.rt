@@ -2,13 +2,16 @@
 #![tactic(auto)]
 
 ghost use Rattle.std.specs.Prelude.{◌≡◌, ◌+◌, ◌*◌, ◌<◌, ◌≤◌, length};
-ghost use Rattle.program_lines.specs.Text.{byte, decimal, hex_digit, hex, Put};
-ghost use Rattle.program_lines.specs.Lines.{number_line, numbers_line, bits_field, tangent_line, tangent_lines, tangents_lines, lines_of, halfedges_in, has_room, rendered};
+ghost use Rattle.program_lines.specs.Text.{byte, decimal, hex, Put};
+ghost use Rattle.program_lines.specs.Lines.{number_line, numbers_line, bits_field, tangent_line, tangent_lines, tangents_lines, lines_of, printed, halfedges_in, has_room, rendered};
+
+use mesh::Refusal;
 
 // Room for a line: no line has more bytes.
 pub const LINE_BYTES: usize = 96;
 
-// What the program prints.
+// What the program prints. A refusal stands here by number and place, since `render` prints any: a `Refusal` would ask more
+// of its callers.
 #[derive(Clone, Copy)]
 pub enum Output {
     // Straightened tangents.
@@ -31,6 +34,22 @@ pub enum Output {
     },
 }
 
+impl From<Result<Output, Refusal>> for Output {
+    ghost from_gives = { λ answer output. output ≡ printed answer };
+
+    fn from(answer: Result<Output, Refusal>) -> Output {
+        match answer {
+            Ok(output) => output,
+            Err(refusal) => Output::Refused {
+                number: refusal.question as usize,
+                place: refusal.place,
+            },
+        }
+    }
+}
+
+// The buffer and the place in it are two parameters. A struct that lends the buffer was tried, and at a caller's return the
+// proof did not close: no plain clause ties `out.new` to what the struct's methods wrote.
 fn put_byte(out: &mut [u8], at: usize, b: u8) -> usize
     requires { at < length out.old }
     ensures { Put out.old at (byte b) out.new result }
@@ -43,39 +62,26 @@ fn put_text(out: &mut [u8], at: usize, text: &[u8]) -> usize
     requires { at + length text.now ≤ length out.old }
     ensures { Put out.old at text.now out.new result }
 {
-    for i in 0..text.len() {
-        out[at + i] = text[i];
-    }
-    at + text.len()
+    let end = at + text.len();
+    out[at..end].copy_from_slice(text);
+    end
 }
 
 fn put_decimal(out: &mut [u8], at: usize, n: u64) -> usize
     requires { at + 20 ≤ length out.old }
     ensures { Put out.old at (decimal n) out.new result }
 {
-    if n < 10 {
-        return put_byte(out, at, 48 + n as u8);
-    }
-    let end = put_decimal(out, at, n / 10);
-    put_byte(out, end, 48 + (n % 10) as u8)
-}
-
-fn hex_digit(d: u8) -> u8
-    requires { d < 16 }
-    ensures { result ≡ hex_digit d }
-{
-    if d < 10 { 48 + d } else { 87 + d }
+    let mut digits = itoa::Buffer::new();
+    put_text(out, at, digits.format(n).as_bytes())
 }
 
 fn put_hex(out: &mut [u8], at: usize, n: u64) -> usize
     requires { at + 16 ≤ length out.old }
     ensures { Put out.old at (hex n) out.new result }
 {
-    for k in 0..16 {
-        let shift = 60 - 4 * k;
-        out[at + k] = hex_digit(((n >> shift) % 16) as u8);
-    }
-    at + 16
+    let end = at + 16;
+    hex::encode_to_slice(n.to_be_bytes(), &mut out[at..end]).unwrap();
+    end
 }
 
 fn put_number_line(out: &mut [u8], at: usize, text: &[u8], n: usize) -> usize
@@ -168,17 +174,8 @@ fn halfedges_in(output: Output) -> usize
     ensures { result ≡ halfedges_in output }
 {
     match output {
-        Output::Tangents { halfedges } => halfedges,
-        Output::Spread {
-            halfedges,
-            looked: _,
-            turned: _,
-        } => halfedges,
-        Output::Valid { valid: _ } => 0,
-        Output::Refused {
-            number: _,
-            place: _,
-        } => 0,
+        Output::Tangents { halfedges } | Output::Spread { halfedges, .. } => halfedges,
+        Output::Valid { .. } | Output::Refused { .. } => 0,
     }
 }
 

@@ -1,7 +1,5 @@
 -- The laws that the proofs of `records` share; `Accepted` is for the crates above, and so are the `Bytes` of worked cases.
 mod Parse
-mod Lists
-mod Read
-mod Cases
 pub mod Accepted
+mod Cases
 pub mod Bytes

@@ -1,11 +1,16 @@
 -- The lists that the numbers of the input go to: their room, and what they hold after a reading.
-use Rattle.std.specs.Prelude.{ℕ, ◌*◌, ◌<◌, ◌≤◌, ◌^◌, List, Bool, cond, ◌&&◌, length, leb, eqb, ℤ, Float}
+use Rattle.std.specs.Prelude.{ℕ, ◌*◌, ◌≤◌, List, Bool, ◌&&◌, length, leb, ℤ, Float, take, Result, Ok, Err}
 use Rattle.little_endian.specs.Numbers.{f64_item, i32_item, byte_item}
 use Rattle.little_endian.specs.Filled.{filled}
 use Rattle.mesh.specs.Mesh.{halfedge_stride}
-use Rattle.records.specs.Records.{records_length, body_at, Refusal, none, or_else, input_refusal, operation_in, points_in, halfedges_in, parsed_of}
-use Rattle.records.specs.declared.Parsed.{Parsed}
-use Rattle.records.specs.declared.Parsed.TheVariants.{Input, Refused}
+use Rattle.mesh.specs.Check.{Checked, once, ◌then◌, answer_of}
+use Rattle.mesh.specs.declared.Question.TheVariants.{Lengths}
+use Rattle.mesh.specs.declared.Refusal.{Refusal}
+use Rattle.records.specs.Records.{kinds, records_length, body_at, check_input, input_in}
+use Rattle.records.specs.declared.Operation.{Operation}
+use Rattle.records.specs.declared.Operation.TheVariants.{Straighten, Spread, Check}
+use Rattle.records.specs.declared.Kind.TheVariants.{Positions, Halfedges, Tangents, Normals, Flags}
+use Rattle.records.specs.declared.Input.{Input}
 
 -- the five lists that are lent
 pub record Lists : Type 0 where
@@ -19,11 +24,13 @@ abbrev pub lists_of : List ℤ → List Float → List Float → List ℕ → Li
 lists_of H P N X T = record { positions = P; halfedges = H; tangents = T; normals = N; flags = X }
 
 -- so many, if the operation is spreading, which alone has point normals and flags
-unfoldable pub if_spread : ℕ → ℕ → ℕ
-if_spread operation count = cond (eqb operation 2) count 0
+abbrev pub if_spread : Operation → ℕ → ℕ
+if_spread Straighten count = 0
+if_spread Spread count = count
+if_spread Check count = 0
 
 -- Have lists of these lengths room for the numbers?
-unfoldable pub has_room : ℕ → ℕ → ℕ → ℕ → ℕ → ℕ → ℕ → ℕ → Bool
+unfoldable pub has_room : Operation → ℕ → ℕ → ℕ → ℕ → ℕ → ℕ → ℕ → Bool
 has_room operation p n positions halfedges tangents normals flags =
     leb (3 * p) positions
     && leb (halfedge_stride * n) halfedges
@@ -31,43 +38,43 @@ has_room operation p n positions halfedges tangents normals flags =
     && leb (if_spread operation (3 * p)) normals
     && leb (if_spread operation n) flags
 
--- Have the lists room for the input? 2 where not, else 0. The lists of the program always have.
-abbrev pub room_refusal : List ℕ → Lists → ℕ
-room_refusal s lists =
-    cond (has_room (operation_in s) (points_in s) (halfedges_in s) (length lists.positions) (length lists.halfedges) (length lists.tangents) (length lists.normals) (length lists.flags)) 0 2
+-- Have the lists room for an input?
+abbrev pub lists_have_room : Input → Lists → Bool
+lists_have_room input lists =
+    has_room input.operation input.counts.points input.counts.halfedges (length lists.positions) (length lists.halfedges) (length lists.tangents) (length lists.normals) (length lists.flags)
 
--- the first no of a reading: the room is asked about after the input, and has place 0
-unfoldable pub read_refusal : List ℕ → Lists → Refusal
-read_refusal s lists = or_else (input_refusal s).number (input_refusal s).place (or_else (room_refusal s lists) 0 none)
+-- the first no of a reading: the room (2) is asked about after the input, and has place 0; the lists of the program always have it
+unfoldable pub check_reading : List ℕ → Lists → Checked
+check_reading s lists = check_input s then once Lengths (lists_have_room (input_in s) lists)
 
 -- the answer of a reading
-unfoldable pub read_answer : List ℕ → Lists → Parsed
-read_answer s lists = parsed_of (read_refusal s lists) (operation_in s) (points_in s) (halfedges_in s)
+unfoldable pub read_answer : List ℕ → Lists → Result Input Refusal
+read_answer s lists = answer_of (check_reading s lists) (input_in s)
 
--- What the lists hold after that answer: the numbers of the input s in front and the rest as lent, or all as lent where it is a refusal.
-unfoldable pub read_lists : Parsed → List ℕ → Lists → Lists
-read_lists (Refused number place) s lists = lists
-read_lists (Input operation p n) s lists =
+-- what the lists hold where an input is accepted: its numbers in front, and the rest as lent
+abbrev pub filled_lists : Operation → ℕ → ℕ → List ℕ → Lists → Lists
+filled_lists operation p n s lists =
     record {
-      positions = filled (f64_item s (body_at p n 3)) (3 * p) lists.positions;
-      halfedges = filled (i32_item s (body_at p n 4)) (halfedge_stride * n) lists.halfedges;
-      tangents = filled (f64_item s (body_at p n 5)) (4 * n) lists.tangents;
-      normals = filled (f64_item s (body_at p n 6)) (if_spread operation (3 * p)) lists.normals;
-      flags = filled (byte_item s (body_at p n 7)) (if_spread operation n) lists.flags;
+      positions = filled (f64_item s (body_at p n Positions)) (3 * p) lists.positions;
+      halfedges = filled (i32_item s (body_at p n Halfedges)) (halfedge_stride * n) lists.halfedges;
+      tangents = filled (f64_item s (body_at p n Tangents)) (4 * n) lists.tangents;
+      normals = filled (f64_item s (body_at p n Normals)) (if_spread operation (3 * p)) lists.normals;
+      flags = filled (byte_item s (body_at p n Flags)) (if_spread operation n) lists.flags;
     }
 
--- what the filling of the lists may take for granted: the counts fit their words, the bodies are in the input, and each list has its room
+-- What the lists hold after that answer: all as lent where it is a refusal.
+unfoldable pub read_lists : Result Input Refusal → List ℕ → Lists → Lists
+read_lists (Ok input) s lists = filled_lists input.operation input.counts.points input.counts.halfedges s lists
+read_lists (Err refusal) s lists = lists
+
+-- what the filling of the lists may take for granted: the bodies are in the input, and each list has its room
 pub record MeshRoom (p n input positions halfedges tangents : ℕ) : Type 0 where
-  pub few_points : p < 2 ^ 32
-  pub few_halfedges : n < 2 ^ 32
-  pub bodies : records_length p n 5 ≤ input
+  pub bodies : records_length p n (take 5 kinds) ≤ input
   pub position_room : 3 * p ≤ positions
   pub halfedge_room : halfedge_stride * n ≤ halfedges
   pub tangent_room : 4 * n ≤ tangents
 
 pub record SpreadRoom (p n input normals flags : ℕ) : Type 0 where
-  pub few_points : p < 2 ^ 32
-  pub few_halfedges : n < 2 ^ 32
-  pub bodies : records_length p n 7 ≤ input
+  pub bodies : records_length p n kinds ≤ input
   pub normal_room : 3 * p ≤ normals
   pub flag_room : n ≤ flags

@@ -1,32 +1,54 @@
 -- The program's input as document 01 has it: records of a u32 body length, a u16 kind and the body, kinds 1, 2, 3, .. in order. An input is refused by the first question that is answered no: 20 to 24, with its place.
-use Rattle.std.specs.Prelude.{ℕ, zero, suc, ◌+◌, ◌*◌, ◌-◌, ◌≡◌, List, Bool, cond, ◌&&◌, length, get_or, leb, eqb}
+use Rattle.std.specs.Prelude.{ℕ, ◌+◌, ◌*◌, ◌-◌, ◌≡◌, List, [], ◌∷◌, Bool, cond, ◌&&◌, length, get_or, take, drop, leb, eqb, Result, Ok, Err}
 use Rattle.little_endian.specs.Numbers.{u16_at, u32_at}
-use Rattle.records.specs.declared.Parsed.{Parsed}
-use Rattle.records.specs.declared.Parsed.TheVariants.{Input, Refused}
+use Rattle.mesh.specs.Check.{Checked, refused, number_of, place_of, cond_checked, ◌then◌, answer_of}
+use Rattle.mesh.specs.declared.Question.{Question}
+use Rattle.mesh.specs.declared.Question.TheVariants.{Fits, Kind as OtherKind, Body, Operation as Unknown, End}
+use Rattle.mesh.specs.declared.Refusal.{Refusal}
+use Rattle.records.specs.declared.Operation.{Operation}
+use Rattle.records.specs.declared.Operation.TheVariants.{Straighten, Spread, Check}
+use Rattle.records.specs.declared.Kind.{Kind}
+use Rattle.records.specs.declared.Kind.TheVariants.{Operation as OperationKind, Counts as CountsKind, Positions, Halfedges, Tangents, Normals, Flags}
+use Rattle.records.specs.declared.Input.{Input}
 
--- ---- document 01's values of an answer
+-- a question that is put at a place
+abbrev pub asked : Question → ℕ → Bool → Checked
+asked question place answer = cond_checked answer (Ok tt) (refused question place)
 
--- number and place of a refusal; 0 for an input that got through
-abbrev pub number_of : Parsed → ℕ
-number_of (Input operation p n) = 0
-number_of (Refused number place) = number
+-- ---- the operations: 1 straighten, 2 spread, 3 check
 
-abbrev pub place_of : Parsed → ℕ
-place_of (Input operation p n) = 0
-place_of (Refused number place) = place
+abbrev pub operation_number : Operation → ℕ
+operation_number Straighten = 1
+operation_number Spread = 2
+operation_number Check = 3
 
--- the operation and the counts of points and halfedges; 0 for a refusal, which has none
-abbrev pub operation_of : Parsed → ℕ
-operation_of (Input operation p n) = operation
-operation_of (Refused number place) = 0
+abbrev pub is_operation : ℕ → Bool
+is_operation number = leb 1 number && leb number 3
 
-abbrev pub points_of : Parsed → ℕ
-points_of (Input operation p n) = p
-points_of (Refused number place) = 0
+-- the operation of a number; past the three, where none is asked for, the last
+unfoldable pub operation_of_number : ℕ → Operation
+operation_of_number number = cond (eqb number 1) Straighten (cond (eqb number 2) Spread Check)
 
-abbrev pub halfedges_of : Parsed → ℕ
-halfedges_of (Input operation p n) = n
-halfedges_of (Refused number place) = 0
+-- is it one of the three (23)?
+abbrev pub check_operation : ℕ → Checked
+check_operation number = asked Unknown 0 (is_operation number)
+
+unfoldable pub operation_answer : ℕ → Result Operation Refusal
+operation_answer number = answer_of (check_operation number) (operation_of_number number)
+
+-- ---- document 01's values of an answer: its number and place (`mesh`), and the operation and the counts of points and halfedges; 0 for a refusal, which has none
+
+abbrev pub operation_of : Result Input Refusal → ℕ
+operation_of (Ok input) = operation_number input.operation
+operation_of (Err refusal) = 0
+
+abbrev pub points_of : Result Input Refusal → ℕ
+points_of (Ok input) = input.counts.points
+points_of (Err refusal) = 0
+
+abbrev pub halfedges_of : Result Input Refusal → ℕ
+halfedges_of (Ok input) = input.counts.halfedges
+halfedges_of (Err refusal) = 0
 
 -- ---- the records
 
@@ -44,69 +66,75 @@ body_length s at = u32_at s at
 abbrev pub kind_at : List ℕ → ℕ → ℕ
 kind_at s at = u16_at s (at + 4)
 
+abbrev pub kind_number : Kind → ℕ
+kind_number OperationKind = 1
+kind_number CountsKind = 2
+kind_number Positions = 3
+kind_number Halfedges = 4
+kind_number Tangents = 5
+kind_number Normals = 6
+kind_number Flags = 7
+
+-- the kinds in their order
+abbrev pub kinds : List Kind
+kinds = OperationKind ∷ CountsKind ∷ Positions ∷ Halfedges ∷ Tangents ∷ Normals ∷ Flags ∷ []
+
 -- Do header and body of the record at `at` fit in the input?
 unfoldable pub record_fits : List ℕ → ℕ → Bool
 record_fits s at = leb (at + header_bytes) (length s) && leb (at + header_bytes + body_length s at) (length s)
 
--- The questions of the record that is due at `at`: does it fit (20), is it the kind due (21), has it the body length (22)? The number of the first no, 0 where there is none.
-unfoldable pub record_refusal : List ℕ → ℕ → ℕ → ℕ → ℕ
-record_refusal s at kind bytes =
-    cond (record_fits s at)
-    (cond (eqb (kind_at s at) kind) (cond (eqb (body_length s at) bytes) 0 22) 21)
-    20
+-- The questions of the record that is due at `at`: does it fit (20), is it the kind due (21), has it the body length (22)?
+unfoldable pub check_record : List ℕ → ℕ → Kind → ℕ → Checked
+check_record s at kind bytes =
+    asked Fits at (record_fits s at)
+    then asked OtherKind at (eqb (kind_at s at) (kind_number kind))
+    then asked Body at (eqb (body_length s at) bytes)
 
--- the body length that p points and n halfedges call for: 1 operation, 2 counts, 3 positions, 4 halfedges (start, end, pair and row), 5 tangents, 6 point normals, 7 flags
-unfoldable pub body_bytes : ℕ → ℕ → ℕ → ℕ
-body_bytes p n kind =
-    cond (eqb kind 1) 1
-    (cond (eqb kind 2) 4
-    (cond (eqb kind 3) (24 * p)
-    (cond (eqb kind 4) (16 * n)
-    (cond (eqb kind 5) (32 * n)
-    (cond (eqb kind 6) (24 * p) n)))))
+-- the body length that p points and n halfedges call for; a halfedge has start, end, pair and row
+abbrev pub body_bytes : ℕ → ℕ → Kind → ℕ
+body_bytes p n OperationKind = 1
+body_bytes p n CountsKind = 4
+body_bytes p n Positions = 24 * p
+body_bytes p n Halfedges = 16 * n
+body_bytes p n Tangents = 32 * n
+body_bytes p n Normals = 24 * p
+body_bytes p n Flags = n
 
--- the length of the records of the kinds 1 to k: where the record of kind k + 1 is due
-unfoldable pub records_length : ℕ → ℕ → ℕ → ℕ
-records_length p n zero = 0
-records_length p n (suc k) = records_length p n k + header_bytes + body_bytes p n (suc k)
+-- the length of the records of these kinds
+abbrev pub records_length : ℕ → ℕ → List Kind → ℕ
+records_length p n [] = 0
+records_length p n (kind ∷ further) = header_bytes + body_bytes p n kind + records_length p n further
 
--- where the body of a kind is
-abbrev pub body_at : ℕ → ℕ → ℕ → ℕ
-body_at p n kind = records_length p n (kind - 1) + header_bytes
+-- where the body of a kind is: past the records before it, and its own header
+abbrev pub body_at : ℕ → ℕ → Kind → ℕ
+body_at p n kind = records_length p n (take (kind_number kind - 1) kinds) + header_bytes
 
--- the last kind: spreading (operation 2) has point normals and flags too
-unfoldable pub last_kind : ℕ → ℕ
-last_kind operation = cond (eqb operation 2) 7 5
+-- the number of the last kind: spreading has point normals and flags too
+abbrev pub last_kind : Operation → ℕ
+last_kind Straighten = 5
+last_kind Spread = 7
+last_kind Check = 5
 
--- Is the operation known (23): 1 straighten, 2 spread, 3 check? 23 where not, else 0.
-unfoldable pub operation_refusal : ℕ → ℕ
-operation_refusal operation = cond (leb 1 operation && leb operation 3) 0 23
+-- the kinds after the counts
+abbrev pub bodies : Operation → List Kind
+bodies operation = drop 2 (take (last_kind operation) kinds)
 
 -- ---- the first question that is answered no
 
--- its number and place; both 0 where each is answered yes
-pub record Refusal : Type 0 where
-  pub number : ℕ
-  pub place : ℕ
-
-abbrev pub none : Refusal
-none = record { number = 0; place = 0 }
-
--- a no's number and its place, or what follows where the number is 0
-abbrev pub or_else : ℕ → ℕ → Refusal → Refusal
-or_else zero place next = next
-or_else (suc number) place next = record { number = suc number; place = place }
-
--- the first no of the records of the kinds k + 1, k + 2, .., so many, and then of the end of the input (24)
-unfoldable pub refusal_from : List ℕ → ℕ → ℕ → ℕ → ℕ → Refusal
-refusal_from s p n zero k = or_else (cond (eqb (records_length p n k) (length s)) 0 24) (records_length p n k) none
-refusal_from s p n (suc more) k =
-    or_else (record_refusal s (records_length p n k) (suc k) (body_bytes p n (suc k))) (records_length p n k)
-    (refusal_from s p n more (suc k))
+-- of the records of these kinds, the first of which is due at `place`, and then of the end of the input (24)
+unfoldable pub check_bodies : List ℕ → ℕ → ℕ → List Kind → ℕ → Checked
+check_bodies s p n [] place = asked End place (eqb place (length s))
+check_bodies s p n (kind ∷ further) place =
+    check_record s place kind (body_bytes p n kind)
+    then check_bodies s p n further (place + (header_bytes + body_bytes p n kind))
 
 -- where the record of the counts is
 abbrev pub counts_at : ℕ
 counts_at = header_bytes + 1
+
+-- where the record of the positions is
+abbrev pub positions_at : ℕ
+positions_at = counts_at + header_bytes + 4
 
 -- the bodies of the first two records: the operation, and the two counts
 abbrev pub operation_in : List ℕ → ℕ
@@ -118,40 +146,37 @@ points_in s = u16_at s (counts_at + header_bytes)
 abbrev pub halfedges_in : List ℕ → ℕ
 halfedges_in s = u16_at s (counts_at + header_bytes + 2)
 
--- the first no of the records of an input of any length
-unfoldable pub records_refusal : List ℕ → Refusal
-records_refusal s =
-    or_else (record_refusal s 0 1 1) 0
-    (or_else (operation_refusal (operation_in s)) 0
-    (or_else (record_refusal s counts_at 2 4) counts_at
-    (refusal_from s (points_in s) (halfedges_in s) (last_kind (operation_in s) - 2) 2)))
+abbrev pub input_in : List ℕ → Input
+input_in s =
+    record { operation = operation_of_number (operation_in s); counts = record { points = points_in s; halfedges = halfedges_in s } }
 
--- the first no of the program's input: too long is 20 at 0
-unfoldable pub input_refusal : List ℕ → Refusal
-input_refusal s = or_else (cond (leb (length s) max_input) 0 20) 0 (records_refusal s)
+-- of the records of an input of any length
+unfoldable pub check_records : List ℕ → Checked
+check_records s =
+    check_record s 0 OperationKind 1
+    then check_operation (operation_in s)
+    then check_record s counts_at CountsKind 4
+    then check_bodies s (points_in s) (halfedges_in s) (bodies (operation_of_number (operation_in s))) positions_at
+
+-- of the program's input: too long is 20 at 0
+unfoldable pub check_input : List ℕ → Checked
+check_input s = asked Fits 0 (leb (length s) max_input) then check_records s
 
 -- ---- the answer
 
--- a refusal, or the operation and the counts where the number is 0
-abbrev pub refused_or : ℕ → ℕ → Parsed → Parsed
-refused_or zero place input = input
-refused_or (suc number) place input = Refused (suc number) place
-
-abbrev pub parsed_of : Refusal → ℕ → ℕ → ℕ → Parsed
-parsed_of refusal operation p n = refused_or refusal.number refusal.place (Input operation p n)
-
-unfoldable pub parse_input : List ℕ → Parsed
-parse_input s = parsed_of (input_refusal s) (operation_in s) (points_in s) (halfedges_in s)
+-- a refusal, or the operation and the counts
+unfoldable pub parse_input : List ℕ → Result Input Refusal
+parse_input s = answer_of (check_input s) (input_in s)
 
 -- a value of an answer: 0 where there is a refusal
-abbrev pub unless_refused : ℕ → ℕ → ℕ
-unless_refused zero value = value
-unless_refused (suc number) value = 0
+abbrev pub unless_refused : Checked → ℕ → ℕ
+unless_refused (Ok a) value = value
+unless_refused (Err refusal) value = 0
 
--- what holds of each answer r, where this is the first no, and o, p and n are the operation and the counts of points and halfedges that were read
-pub record Values (refusal : Refusal) (o p n : ℕ) (r : Parsed) : Type 0 where
-  pub number : number_of r ≡ refusal.number
-  pub place : place_of r ≡ refusal.place
-  pub operation : operation_of r ≡ unless_refused refusal.number o
-  pub points : points_of r ≡ unless_refused refusal.number p
-  pub halfedges : halfedges_of r ≡ unless_refused refusal.number n
+-- what holds of each answer r to an input s, where this is the first no
+pub record Values (checked : Checked) (s : List ℕ) (r : Result Input Refusal) : Type 0 where
+  pub number : number_of r ≡ number_of checked
+  pub place : place_of r ≡ place_of checked
+  pub operation : operation_of r ≡ unless_refused checked (operation_in s)
+  pub points : points_of r ≡ unless_refused checked (points_in s)
+  pub halfedges : halfedges_of r ≡ unless_refused checked (halfedges_in s)

@@ -1,211 +1,174 @@
-// What the replay programs share: the numbers of a file of the oracle's answers, and a tally of what was compared. Every
-// function is total: past the end of the file stand zeros, and an offset that would wrap around wraps.
+// What the replay programs share: a reader of the numbers of a file of the oracle's answers, a tally of what was compared, and
+// the loop over the answers. Every function is total: past the end of what is read stand zeros.
 #![tactic(auto)]
 
-ghost use Rattle.std.specs.Prelude.{◌^◌, ◌<◌, ◌≤◌, length};
+use std::fmt;
 
 // How many answers were compared, and how many differ.
-#[derive(Clone, Copy)]
+#[derive(Clone, Copy, Default)]
 pub struct Tally {
-    pub compared: u64,
-    pub differ: u64,
+    compared: u64,
+    differ: u64,
 }
 
-pub fn byte(s: &[u8], at: usize) -> u64
-    ensures { result < 256 }
-{
-    if at < s.len() { s[at] as u64 } else { 0 }
-}
-
-fn small(n: u64) -> u8 {
-    (n % 256) as u8
-}
-
-// The offset `bytes` after `at`.
-pub fn after(at: usize, bytes: usize) -> usize {
-    std::num::wrapping_add_usize(at, bytes)
-}
-
-// The offset after so many numbers of four bytes, and of eight.
-pub fn after_fours(at: usize, count: usize) -> usize {
-    let two = after(after(at, count), count);
-    after(after(two, count), count)
-}
-
-pub fn after_eights(at: usize, count: usize) -> usize {
-    after_fours(after_fours(at, count), count)
-}
-
-// The little-endian number of so many bytes, at most 8.
-fn number(s: &[u8], at: usize, bytes: usize) -> u64 {
-    let mut k = bytes;
-    let mut n: u64 = 0;
-    while 0 < k {
-        k -= 1;
-        n = (n % 0x100_0000_0000_0000) * 256 + byte(s, after(at, k));
-    }
-    n
-}
-
-pub fn word(s: &[u8], at: usize) -> u64 {
-    number(s, at, 8)
-}
-
-pub fn half_word(s: &[u8], at: usize) -> usize
-    ensures { result < 2 ^ 32 }
-{
-    (number(s, at, 4) % 0x1_0000_0000) as usize
-}
-
-pub fn float_at(s: &[u8], at: usize) -> f64 {
-    float::of_bits(word(s, at))
-}
-
-// The i32 of four bytes, in two's complement: exact by way of a float.
-fn signed(n: usize) -> i32
-    requires { n < 2 ^ 32 }
-{
-    let shifted = (n + 0x8000_0000) % 0x1_0000_0000;
-    float::to_i32(std::num::nearest_u64_to_f64(shifted as u64) - 2147483648.0)
-}
-
-// Fills the first places of a list with the floats at s[at..], and answers the offset after them.
-pub fn fill_floats(s: &[u8], at: usize, out: &mut [f64], count: usize) -> usize {
-    if out.len() < count {
-        return at;
-    }
-    let mut from = at;
-    for k in 0..count {
-        out[k] = float_at(s, from);
-        from = after(from, 8);
-    }
-    from
-}
-
-pub fn fill_signed(s: &[u8], at: usize, out: &mut [i32], count: usize) -> usize {
-    if out.len() < count {
-        return at;
-    }
-    let mut from = at;
-    for k in 0..count {
-        out[k] = signed(half_word(s, from));
-        from = after(from, 4);
-    }
-    from
-}
-
-pub fn fill_bytes(s: &[u8], at: usize, out: &mut [u8], count: usize) -> usize {
-    if out.len() < count {
-        return at;
-    }
-    let mut from = at;
-    for k in 0..count {
-        out[k] = small(byte(s, from));
-        from = after(from, 1);
-    }
-    from
-}
-
-pub fn fill_numbers(s: &[u8], at: usize, out: &mut [usize], count: usize) -> usize {
-    if out.len() < count {
-        return at;
-    }
-    let mut from = at;
-    for k in 0..count {
-        out[k] = half_word(s, from);
-        from = after(from, 4);
-    }
-    from
-}
-
-// Are the first floats of a list those at s[at..], bit for bit?
-pub fn same_floats(s: &[u8], at: usize, xs: &[f64], count: usize) -> bool {
-    if xs.len() < count {
-        return false;
-    }
-    let mut from = at;
-    for k in 0..count {
-        if float::bits(xs[k]) != word(s, from) {
-            return false;
+impl Tally {
+    // The tally with one answer more.
+    pub fn counted(self, same: bool) -> Tally {
+        Tally {
+            compared: self.compared.wrapping_add(1),
+            differ: self.differ.wrapping_add(u64::from(!same)),
         }
-        from = after(from, 8);
     }
-    true
 }
 
-pub fn same_bytes(s: &[u8], at: usize, xs: &[u8], count: usize) -> bool {
-    if xs.len() < count {
-        return false;
+impl fmt::Display for Tally {
+    fn fmt<W: fmt::Write>(&self, f: &mut fmt::Formatter<W>) -> fmt::Result {
+        write!(f, "compared {} differ {}", self.compared, self.differ)
     }
-    let mut from = at;
-    for k in 0..count {
-        if xs[k] != small(byte(s, from)) {
-            return false;
-        }
-        from = after(from, 1);
-    }
-    true
 }
 
-// Are the first numbers of a list those at s[at..], of four bytes each?
-pub fn same_numbers(s: &[u8], at: usize, xs: &[usize], count: usize) -> bool {
-    if xs.len() < count {
-        return false;
+// What is left of a buffer.
+#[derive(Clone, Copy)]
+pub struct Reader<'a> {
+    rest: &'a [u8],
+}
+
+impl<'a> Reader<'a> {
+    pub fn new(bytes: &'a [u8]) -> Self {
+        Reader { rest: bytes }
     }
-    let mut from = at;
-    for k in 0..count {
-        if xs[k] != half_word(s, from) {
-            return false;
+
+    fn byte(&mut self) -> u8 {
+        let Some((byte, rest)) = self.rest.split_first() else {
+            return 0;
+        };
+        self.rest = rest;
+        *byte
+    }
+
+    fn bytes<const N: usize>(&mut self) -> [u8; N] {
+        let mut bytes = [0; N];
+        for byte in bytes.iter_mut() {
+            *byte = self.byte();
         }
-        from = after(from, 4);
+        bytes
     }
-    true
+
+    // The next number.
+    pub fn read<T: Stored>(&mut self) -> T {
+        T::read_from(self)
+    }
+
+    // Fills a list with the next numbers.
+    pub fn fill<T: Stored>(&mut self, list: &mut [T]) {
+        for x in list.iter_mut() {
+            *x = self.read();
+        }
+    }
+
+    // Passes over so many bytes.
+    pub fn skip(&mut self, count: usize) {
+        self.rest = self.rest.get(count..).unwrap_or(&[]);
+    }
+
+    // As many places of a list's room as the next number says, and none where it has fewer.
+    pub fn front<'b, T>(&mut self, room: &'b mut [T]) -> &'b mut [T] {
+        let len = self.read::<usize>();
+        if len <= room.len() {
+            &mut room[..len]
+        } else {
+            &mut room[..0]
+        }
+    }
+
+    // Reads a list to the front of its room: none of it where it is longer.
+    pub fn list<'b, T: Stored>(&mut self, room: &'b mut [T]) -> &'b mut [T] {
+        let list = self.front(room);
+        self.fill(list);
+        list
+    }
+
+    // Are the next numbers these?
+    pub fn holds<T: Stored>(&mut self, xs: &[T]) -> bool {
+        xs.iter().all(|x| x.is_next(self))
+    }
+
+    // Is the next list this one?
+    pub fn holds_list<T: Stored>(&mut self, xs: &[T]) -> bool {
+        self.read::<usize>() == xs.len() && self.holds(xs)
+    }
+}
+
+// A number as the files hold it, little-endian.
+pub trait Stored: Copy + PartialEq {
+    // The number in front.
+    fn read_from(reader: &mut Reader<'_>) -> Self;
+
+    fn same(self, other: Self) -> bool {
+        self == other
+    }
+
+    // Is it the number in front, bit for bit?
+    fn is_next(self, reader: &mut Reader<'_>) -> bool {
+        self == Self::read_from(reader)
+    }
+}
+
+impl Stored for u8 {
+    fn read_from(reader: &mut Reader<'_>) -> Self {
+        reader.byte()
+    }
+}
+
+impl Stored for i32 {
+    fn read_from(reader: &mut Reader<'_>) -> Self {
+        i32::from_le_bytes(reader.bytes())
+    }
+}
+
+// Of four bytes.
+impl Stored for usize {
+    fn read_from(reader: &mut Reader<'_>) -> Self {
+        u32::from_le_bytes(reader.bytes()) as usize
+    }
+}
+
+impl Stored for u64 {
+    fn read_from(reader: &mut Reader<'_>) -> Self {
+        u64::from_le_bytes(reader.bytes())
+    }
+}
+
+// By its bits: one not-a-number stands for all, and a file has no other.
+impl Stored for f64 {
+    fn read_from(reader: &mut Reader<'_>) -> Self {
+        float::of_bits(reader.read())
+    }
+
+    fn same(self, other: Self) -> bool {
+        float::bits(self) == float::bits(other)
+    }
+
+    fn is_next(self, reader: &mut Reader<'_>) -> bool {
+        float::bits(self) == reader.read::<u64>()
+    }
 }
 
 // Are the numbers of a list all this one?
-pub fn all_bytes(xs: &[u8], value: u8) -> bool {
-    for k in 0..xs.len() {
-        if xs[k] != value {
-            return false;
-        }
-    }
-    true
+pub fn all_same<T: Stored>(xs: &[T], value: T) -> bool {
+    xs.iter().all(|x| x.same(value))
 }
 
-pub fn all_floats(xs: &[f64], value: f64) -> bool {
-    for k in 0..xs.len() {
-        if float::bits(xs[k]) != float::bits(value) {
-            return false;
-        }
-    }
-    true
-}
-
-pub fn all_numbers(xs: &[usize], value: usize) -> bool {
-    for k in 0..xs.len() {
-        if xs[k] != value {
-            return false;
-        }
-    }
-    true
-}
-
-// The tally with one answer more.
-pub fn counted(t: Tally, same: bool) -> Tally {
-    let compared = std::num::wrapping_add_u64(t.compared, 1);
-    if same {
-        return Tally {
-            compared,
-            differ: t.differ,
+// Counts by `next` until it has nothing more to compare, and writes the tally. A failed write is silent.
+pub fn replay_all<F: FnMut(Tally) -> Option<Tally>>(rt: &impl Print, mut next: F)
+    requires { F.IsAlwaysCallable next }
+{
+    let mut tally = Tally::default();
+    for _ in 0..u64::MAX {
+        let Some(more) = next(tally) else {
+            break;
         };
+        tally = more;
     }
-    Tally {
-        compared,
-        differ: std::num::wrapping_add_u64(t.differ, 1),
-    }
-}
-
-// Writes how many answers were compared and how many differ. A failed write is silent.
-pub fn report(rt: &impl Print, t: Tally) {
-    let _ = println!(rt; "compared {} differ {}", t.compared, t.differ);
+    let _ = println!(rt; "{tally}");
 }

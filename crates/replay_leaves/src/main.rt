@@ -2,256 +2,187 @@
 // differ. README.md beside src/ says what a record holds and how the file was made.
 #![tactic(auto)]
 
-ghost use Rattle.std.specs.Prelude.{◌+◌, ◌≤◌, length};
-
 use linalg::{Quat, Vec3, Vec4};
-use replay::Tally;
+use math::RemPio2;
+use replay::{Reader, Tally};
 use std::io::Read;
 
-// The four result words of a call; those that it does not use are 0.
-#[derive(Clone, Copy)]
-struct Results {
-    a: u64,
-    b: u64,
-    c: u64,
-    d: u64,
-}
+// The bytes of a record, and those of a buffer of 640 records.
+const RECORD: usize = 96;
+
+const BUFFER: usize = 61440;
 
 #[derive(Clone, Copy)]
-struct Buffered {
-    tally: Tally,
-    more: bool,
+enum Call {
+    Sqrt,
+    Sin,
+    Cos,
+    Acos,
+    RemPio2,
+    Round,
+    Length,
+    Normalize,
+    Cross,
+    Dot,
+    Qrot,
+    RotationQuatAxisAngle,
+    SafeNormalize,
+    Wrap,
+    AngleBetween,
+    EqualNormals,
+    CircularTangent,
+    Radians,
+    Clamp,
+    Max,
+    Min,
+    ToI32,
 }
 
-fn one(x: f64) -> Results {
-    Results {
-        a: float::bits(x),
-        b: 0,
-        c: 0,
-        d: 0,
-    }
-}
+// A number of no call.
+#[derive(Clone, Copy)]
+struct UnknownCall;
 
-fn three(v: Vec3) -> Results {
-    Results {
-        a: float::bits(v.x),
-        b: float::bits(v.y),
-        c: float::bits(v.z),
-        d: 0,
-    }
-}
+impl TryFrom<u64> for Call {
+    type Error = UnknownCall;
 
-fn four(q: Quat) -> Results {
-    Results {
-        a: float::bits(q.x),
-        b: float::bits(q.y),
-        c: float::bits(q.z),
-        d: float::bits(q.w),
-    }
-}
-
-fn tangent(v: Vec4) -> Results {
-    Results {
-        a: float::bits(v.x),
-        b: float::bits(v.y),
-        c: float::bits(v.z),
-        d: float::bits(v.w),
-    }
-}
-
-// The float of 1 for yes, of 0 for no.
-fn flag(yes: bool) -> Results {
-    if yes {
-        return one(1.0);
-    }
-    one(0.0)
-}
-
-// Argument k of the record at s[at..].
-fn argument(s: &[u8], at: usize, k: usize) -> f64
-    requires at_in_bounds { at + 96 ≤ length s.now }
-    requires k_bound { k ≤ 6 }
-{
-    float::of_bits(replay::word(s, at + 8 + k * 8))
-}
-
-fn vector(s: &[u8], at: usize, k: usize) -> Vec3
-    requires at_in_bounds { at + 96 ≤ length s.now }
-    requires k_bound { k ≤ 4 }
-{
-    Vec3 {
-        x: argument(s, at, k),
-        y: argument(s, at, k + 1),
-        z: argument(s, at, k + 2),
-    }
-}
-
-fn quaternion(s: &[u8], at: usize) -> Quat
-    requires { at + 96 ≤ length s.now }
-{
-    Quat {
-        x: argument(s, at, 0),
-        y: argument(s, at, 1),
-        z: argument(s, at, 2),
-        w: argument(s, at, 3),
-    }
-}
-
-// The bits of the float of a whole number.
-fn whole(n: i32) -> u64 {
-    float::bits(std::num::nearest_i64_to_f64(n as i64))
-}
-
-fn rem(x: f64) -> Results {
-    let r = math::rem_pio2(x);
-    let n = r.n;
-    Results {
-        a: whole(n),
-        b: float::bits(r.y0),
-        c: float::bits(r.y1),
-        d: 0,
-    }
-}
-
-fn cast(x: f64) -> Results {
-    Results {
-        a: whole(float::to_i32(x)),
-        b: 0,
-        c: 0,
-        d: 0,
-    }
-}
-
-// The calls of one float.
-fn of_float(call: u64, x: f64) -> Results {
-    match call {
-        1 => one(sqrt::sqrt(x)),
-        2 => one(math::sin(x)),
-        3 => one(math::cos(x)),
-        4 => one(math::acos(x)),
-        5 => rem(x),
-        _ => one(float::round(x)),
-    }
-}
-
-// The calls of vectors.
-fn of_vectors(call: u64, s: &[u8], at: usize) -> Results
-    requires { at + 96 ≤ length s.now }
-{
-    let v = vector(s, at, 0);
-    match call {
-        7 => one(linalg::length(v)),
-        8 => three(linalg::normalize(v)),
-        9 => three(linalg::cross(v, vector(s, at, 3))),
-        10 => one(linalg::dot(v, vector(s, at, 3))),
-        11 => three(linalg::qrot(quaternion(s, at), vector(s, at, 4))),
-        _ => four(linalg::rotation_quat_axis_angle(v, argument(s, at, 3))),
-    }
-}
-
-// The calls of `smoothing`, and `radians`.
-fn of_smoothing(call: u64, s: &[u8], at: usize) -> Results
-    requires { at + 96 ≤ length s.now }
-{
-    let x = argument(s, at, 0);
-    let v = vector(s, at, 0);
-    match call {
-        13 => three(smoothing::safe_normalize(v).vec),
-        14 => one(smoothing::wrap(x)),
-        15 => one(smoothing::angle_between(v, vector(s, at, 3))),
-        16 => flag(smoothing::equal_normals(v, vector(s, at, 3))),
-        17 => tangent(smoothing::circular_tangent(v, vector(s, at, 3)).tangent),
-        _ => one(mesh::radians(x)),
-    }
-}
-
-// The methods and the cast of f64.
-fn of_methods(call: u64, s: &[u8], at: usize) -> Results
-    requires { at + 96 ≤ length s.now }
-{
-    let v = vector(s, at, 0);
-    match call {
-        19 => one(float::clamp(v.x, v.y, v.z)),
-        20 => one(float::max(v.x, v.y)),
-        21 => one(float::min(v.x, v.y)),
-        _ => cast(v.x),
-    }
-}
-
-fn answer(s: &[u8], at: usize) -> Results
-    requires { at + 96 ≤ length s.now }
-{
-    let call = replay::word(s, at);
-    if call <= 6 {
-        return of_float(call, argument(s, at, 0));
-    }
-    if call <= 12 {
-        return of_vectors(call, s, at);
-    }
-    if call <= 18 {
-        return of_smoothing(call, s, at);
-    }
-    of_methods(call, s, at)
-}
-
-// Are the results those of the record at s[at..]?
-fn same(s: &[u8], at: usize, r: Results) -> bool
-    requires { at + 96 ≤ length s.now }
-{
-    if r.a != replay::word(s, at + 64) {
-        return false;
-    }
-    if r.b != replay::word(s, at + 72) {
-        return false;
-    }
-    if r.c != replay::word(s, at + 80) {
-        return false;
-    }
-    r.d == replay::word(s, at + 88)
-}
-
-// All whole records of s.
-fn compare(s: &[u8], t: Tally) -> Tally {
-    let mut tally = t;
-    let mut at: usize = 0;
-    while at < s.len() {
-        if s.len() - at < 96 {
-            return tally;
+    fn try_from(number: u64) -> Result<Self, UnknownCall> {
+        match number {
+            1 => Ok(Call::Sqrt),
+            2 => Ok(Call::Sin),
+            3 => Ok(Call::Cos),
+            4 => Ok(Call::Acos),
+            5 => Ok(Call::RemPio2),
+            6 => Ok(Call::Round),
+            7 => Ok(Call::Length),
+            8 => Ok(Call::Normalize),
+            9 => Ok(Call::Cross),
+            10 => Ok(Call::Dot),
+            11 => Ok(Call::Qrot),
+            12 => Ok(Call::RotationQuatAxisAngle),
+            13 => Ok(Call::SafeNormalize),
+            14 => Ok(Call::Wrap),
+            15 => Ok(Call::AngleBetween),
+            16 => Ok(Call::EqualNormals),
+            17 => Ok(Call::CircularTangent),
+            18 => Ok(Call::Radians),
+            19 => Ok(Call::Clamp),
+            20 => Ok(Call::Max),
+            21 => Ok(Call::Min),
+            22 => Ok(Call::ToI32),
+            _ => Err(UnknownCall),
         }
-        let r = answer(s, at);
-        tally = replay::counted(tally, same(s, at, r));
-        at += 96;
     }
-    tally
 }
 
-// Reads one buffer of 640 records and compares them.
-fn step<R: Read>(input: &mut R, t: Tally) -> Buffered {
-    let mut buf = [0u8; 61440];
-    let n = little_endian::read_full(input, &mut buf);
-    let tally = compare(&buf[..n], t);
-    Buffered {
-        tally,
-        more: n == 61440,
+// The four results of a call; those that it does not use are 0.
+#[derive(Clone, Copy)]
+struct Results([f64; 4]);
+
+impl From<f64> for Results {
+    fn from(x: f64) -> Self {
+        Results([x, 0.0, 0.0, 0.0])
     }
+}
+
+impl From<i32> for Results {
+    fn from(n: i32) -> Self {
+        f64::from(n).into()
+    }
+}
+
+// 1 for yes, 0 for no.
+impl From<bool> for Results {
+    fn from(yes: bool) -> Self {
+        f64::from(yes).into()
+    }
+}
+
+impl From<Vec3> for Results {
+    fn from(v: Vec3) -> Self {
+        Results([v.x, v.y, v.z, 0.0])
+    }
+}
+
+impl From<Quat> for Results {
+    fn from(q: Quat) -> Self {
+        Results([q.x, q.y, q.z, q.w])
+    }
+}
+
+impl From<Vec4> for Results {
+    fn from(v: Vec4) -> Self {
+        Results([v.x, v.y, v.z, v.w])
+    }
+}
+
+impl From<RemPio2> for Results {
+    fn from(r: RemPio2) -> Self {
+        Results([f64::from(r.n), r.y0, r.y1, 0.0])
+    }
+}
+
+fn vector(x: f64, y: f64, z: f64) -> Vec3 {
+    Vec3 { x, y, z }
+}
+
+fn quaternion(x: f64, y: f64, z: f64, w: f64) -> Quat {
+    Quat { x, y, z, w }
+}
+
+fn answer(call: Call, [a, b, c, d, e, f, g]: [f64; 7]) -> Results {
+    let v = vector(a, b, c);
+    let w = vector(d, e, f);
+    match call {
+        Call::Sqrt => sqrt::sqrt(a).into(),
+        Call::Sin => math::sin(a).into(),
+        Call::Cos => math::cos(a).into(),
+        Call::Acos => math::acos(a).into(),
+        Call::RemPio2 => math::rem_pio2(a).into(),
+        Call::Round => float::round(a).into(),
+        Call::Length => linalg::length(v).into(),
+        Call::Normalize => linalg::normalize(v).into(),
+        Call::Cross => linalg::cross(v, w).into(),
+        Call::Dot => linalg::dot(v, w).into(),
+        Call::Qrot => linalg::qrot(quaternion(a, b, c, d), vector(e, f, g)).into(),
+        Call::RotationQuatAxisAngle => linalg::rotation_quat_axis_angle(v, d).into(),
+        Call::SafeNormalize => smoothing::safe_normalize(v).unwrap_or(Vec3::ZERO).into(),
+        Call::Wrap => smoothing::wrap(a).into(),
+        Call::AngleBetween => smoothing::angle_between(v, w).into(),
+        Call::EqualNormals => smoothing::equal_normals(v, w).into(),
+        Call::CircularTangent => smoothing::circular_tangent(v, w).tangent.into(),
+        Call::Radians => mesh::radians(a).into(),
+        Call::Clamp => float::clamp(a, b, c).into(),
+        Call::Max => float::max(a, b).into(),
+        Call::Min => float::min(a, b).into(),
+        Call::ToI32 => float::to_i32(a).into(),
+    }
+}
+
+// Are the results of a record's call those that the record has?
+fn agrees(mut record: Reader<'_>) -> bool {
+    let Ok(call) = Call::try_from(record.read::<u64>()) else {
+        return false;
+    };
+    let mut arguments = [0.0; 7];
+    record.fill(&mut arguments);
+    let Results(results) = answer(call, arguments);
+    record.holds(&results)
+}
+
+// Reads the next buffer, and compares all its whole records.
+fn next_buffer<R: Read>(input: &mut R, mut tally: Tally) -> Option<Tally> {
+    let mut buf = [0u8; BUFFER];
+    let n = little_endian::read_full(input, &mut buf);
+    if n == 0 {
+        return None;
+    }
+    for record in buf[..n].chunks_exact(RECORD) {
+        tally = tally.counted(agrees(Reader::new(record)));
+    }
+    Some(tally)
 }
 
 fn main(rt: HostRuntime) {
     let mut input = rt.stdin();
-    let mut t = Tally {
-        compared: 0,
-        differ: 0,
-    };
-    let mut buffers = u64::MAX;
-    let mut more = true;
-    while more {
-        if buffers == 0 {
-            return;
-        }
-        buffers -= 1;
-        let s = step(&mut input, t);
-        t = s.tally;
-        more = s.more;
-    }
-    replay::report(&rt, t);
+    replay::replay_all(&rt, |tally| next_buffer(&mut input, tally));
 }

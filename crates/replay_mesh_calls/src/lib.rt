@@ -1,139 +1,88 @@
 // The three public calls: straightening, the mark check and the crease listing.
 #![tactic(auto)]
 
-use replay_cases::{Case, floats, same_checked, same_refusal, signed};
-use sharpen::Listing;
-use validate::Validity;
+use replay::all_same;
+use replay_cases::{Case, Refusal, same_checked};
+use sharpen::Listed;
 
-pub fn straighten(s: &[u8], c: Case) -> bool {
+pub fn straighten(mut case: Case<'_>) -> bool {
     let mut pos = [0.0f64; 256];
     let mut h = [0i32; 256];
     let mut t = [0.0f64; 256];
-    let a = floats(s, c.at, &mut pos);
-    let b = signed(s, a.next, &mut h);
-    let d = floats(s, b.next, &mut t);
-    let pl = a.len;
-    let hl = b.len;
-    let tl = d.len;
-    let left = &mut t[..tl];
-    let checked = linearize::linearize_flat_tangents(c.n, c.p, &h[..hl], &pos[..pl], left);
-    if !same_checked(checked, c) {
-        return false;
-    }
-    replay::same_floats(s, replay::after(d.next, 4), left, tl)
+    let pos = case.body.list(&mut pos);
+    let h = case.body.list(&mut h);
+    let t = case.body.list(&mut t);
+    let checked = linearize::linearize_flat_tangents(case.n, case.p, h, pos, t);
+    same_checked(checked, case) && case.body.holds_list(t)
 }
 
-fn same_validity(v: Validity, c: Case, value: usize) -> bool {
-    match v {
-        Validity::Valid(yes) => {
-            if c.number != 0 {
-                return false;
-            }
-            yes == (value == 1)
-        }
-        Validity::Refused { number, place } => same_refusal(number, place, c),
-    }
+// Is this how the call of the case ends, whose answer is this?
+fn same_validity(validity: Result<bool, mesh::Refusal>, case: Case<'_>, valid: bool) -> bool {
+    validity.map_err(Refusal::from) == case.outcome.map(|()| valid)
 }
 
-pub fn check(s: &[u8], c: Case) -> bool {
+pub fn check(mut case: Case<'_>) -> bool {
     let mut pos = [0.0f64; 256];
     let mut h = [0i32; 256];
     let mut t = [0.0f64; 256];
-    let a = floats(s, c.at, &mut pos);
-    let b = signed(s, a.next, &mut h);
-    let d = floats(s, b.next, &mut t);
-    let pl = a.len;
-    let hl = b.len;
-    let tl = d.len;
-    let v = validate::valid_tangents(c.n, c.p, &h[..hl], &pos[..pl], &t[..tl]);
-    same_validity(v, c, replay::half_word(s, d.next))
+    let pos = case.body.list(&mut pos);
+    let h = case.body.list(&mut h);
+    let t = case.body.list(&mut t);
+    let validity = validate::valid_tangents(case.n, case.p, h, pos, t);
+    let valid = case.body.read::<usize>() == 1;
+    same_validity(validity, case, valid)
 }
 
-// What an accepted listing left: the entries in front, and past them the places as they were lent.
-fn same_entries(
-    s: &[u8],
-    at: usize,
-    list: &[usize],
-    smooth: &[f64],
-    entries: usize,
-    tally: usize,
-) -> bool {
-    if entries != replay::half_word(s, at) {
+// What the places of the list of entries hold when they are lent.
+const LENT: usize = 77;
+
+// What a listing left: the entries in front, and past them the places as they were lent. The oracle's entries, their smoothness
+// and its tally come next.
+fn same_entries(mut case: Case<'_>, listed: Listed, list: &[usize], smooth: &[f64]) -> bool {
+    let (Some(front), Some(smoothness), Some(rest)) = (
+        list.get(..listed.entries),
+        smooth.get(..listed.entries),
+        list.get(listed.entries..),
+    ) else {
         return false;
-    }
-    let from = replay::after(at, 4);
-    if !replay::same_numbers(s, from, list, entries) {
-        return false;
-    }
-    if !untouched(list, entries) {
-        return false;
-    }
-    let then = replay::after(replay::after_fours(from, entries), 4);
-    if !replay::same_floats(s, then, smooth, entries) {
-        return false;
-    }
-    tally == replay::half_word(s, replay::after_eights(then, entries))
+    };
+    case.body.holds_list(front)
+        && all_same(rest, LENT)
+        && case.body.holds_list(smoothness)
+        && case.body.read::<usize>() == listed.tally
 }
 
-// The places from k on hold 77, as they were lent.
-fn untouched(list: &[usize], from: usize) -> bool {
-    let mut k = from;
-    while k < list.len() {
-        if list[k] != 77 {
-            return false;
-        }
-        k += 1;
-    }
-    true
-}
-
+// Is this how the call of the case ends?
 fn same_listing(
-    s: &[u8],
-    at: usize,
-    c: Case,
-    listing: Listing,
+    listing: Result<Listed, mesh::Refusal>,
+    case: Case<'_>,
     list: &[usize],
     smooth: &[f64],
 ) -> bool {
     match listing {
-        Listing::Listed { entries, tally } => {
-            if c.number != 0 {
-                return false;
-            }
-            same_entries(s, at, list, smooth, entries, tally)
-        }
-        Listing::Refused { number, place } => {
-            if !untouched(list, 0) {
-                return false;
-            }
-            same_refusal(number, place, c)
-        }
+        Ok(listed) => case.outcome.is_ok() && same_entries(case, listed, list, smooth),
+        Err(refusal) => case.outcome == Err(refusal.into()) && all_same(list, LENT),
     }
 }
 
-// The listing of lists that were read. At s[at..] stand the angle and the smoothness of the case, a list of two.
-fn listed(s: &[u8], at: usize, c: Case, h: &[i32], normals: &[f64]) -> bool {
-    if replay::half_word(s, at) != 2 {
-        return false;
-    }
-    let room = replay::half_word(s, replay::after(at, 20));
-    if 256 < room {
-        return false;
-    }
-    let angle = replay::float_at(s, replay::after(at, 4));
-    let smoothness = replay::float_at(s, replay::after(at, 12));
-    let list = &mut [77usize; 256][..room];
-    let smooth = &mut [0.5f64; 256][..room];
-    let listing = sharpen::sharpen_edges(c.n, c.p, h, normals, angle, smoothness, list, smooth);
-    same_listing(s, replay::after(at, 24), c, listing, list, smooth)
-}
-
-pub fn crease(s: &[u8], c: Case) -> bool {
+// After the lists stand the angle and the smoothness of the case, as a list of two.
+pub fn crease(mut case: Case<'_>) -> bool {
     let mut h = [0i32; 256];
     let mut normals = [0.0f64; 256];
-    let a = signed(s, c.at, &mut h);
-    let b = floats(s, a.next, &mut normals);
-    let hl = a.len;
-    let nl = b.len;
-    listed(s, b.next, c, &h[..hl], &normals[..nl])
+    let mut given = [0.0f64; 2];
+    let mut list = [LENT; 256];
+    let mut smooth = [0.5f64; 256];
+    let h = case.body.list(&mut h);
+    let normals = case.body.list(&mut normals);
+    let &mut [angle, smoothness] = case.body.list(&mut given) else {
+        return false;
+    };
+    let room = case.body.read::<usize>();
+    let (Some(list), Some(smooth)) = (list.get_mut(..room), smooth.get_mut(..room)) else {
+        return false;
+    };
+    let listing = sharpen::sharpen_edges(
+        case.n, case.p, h, normals, angle, smoothness, list, smooth,
+    );
+    same_listing(listing, case, list, smooth)
 }

@@ -8,13 +8,13 @@ use lib.Ieee.{Float}
 use Rattle.mesh.specs.Mesh.{halfedge_stride, Halfedges}
 use Rattle.mesh.specs.Questions.{has_length}
 use Rattle.mesh.specs.Check.{check_mesh}
-use Rattle.mesh.specs.declared.Checked.TheVariants.{Accepted}
+use Rattle.std.specs.Prelude.{Ok}
 use Rattle.common.proofs.Tests.{and_true}
 use Rattle.mesh.proofs.Tests.{has_length_lem, has_one}
 use Rattle.mesh.proofs.Accepted.{accepted}
 use Rattle.replay_mesh_leaves.specs.Lists.{NormalLists, QuadLists}
 
-module _ (H : Halfedges) (n p : ℕ) {lengths : Bool} (a : check_mesh H n p lengths ≡ Accepted) where
+module _ (H : Halfedges) (n p : ℕ) {lengths : Bool} (a : check_mesh H n p lengths ≡ Ok tt) where
   pub normal_lists : (P A O : List Float) {h l m o f b : Bool} → h ≡ has_length H.numbers n halfedge_stride → l ≡ has_length (length P) p 3 → m ≡ has_length (length A) n 1 → o ≡ has_length (length O) n 3 → f ≡ h && l → b ≡ m && o → lengths ≡ f && b → NormalLists H P A O n p
   normal_lists P A O {h} {l} {m} {o} {f} {b} qh ql qm qo qf qb q =
       let k = accepted H n p lengths a in

@@ -4,169 +4,122 @@
 ghost use Rattle.mesh.specs.Mesh.{as_halfedges};
 ghost use Rattle.replay_mesh_leaves.specs.Lists.{NormalLists, QuadLists};
 
-use linalg::Vec4;
-use mesh::Checked;
-use replay_cases::{Case, float_part, floats, same_checked, signed};
+use common::both;
+use mesh::has_length;
+use replay_cases::{Case, same_checked};
 
-// The bits of a tangent are those at s[at..].
-fn same_tangent(s: &[u8], at: usize, v: Vec4) -> bool {
-    let numbers = [v.x, v.y, v.z, v.w];
-    replay::same_floats(s, at, &numbers, 4)
+// The lists of `tangent_from_normal`: `own` holds the normal of each halfedge.
+#[derive(Clone, Copy)]
+struct Normals<'a> {
+    h: &'a [i32],
+    pos: &'a [f64],
+    faces: &'a [f64],
+    own: &'a [f64],
 }
 
 // The tangent of each halfedge from its own normal.
-fn tfn_all(
-    s: &[u8],
-    at: usize,
-    h: &[i32],
-    pos: &[f64],
-    normals: &[f64],
-    own: &[f64],
-    n: usize,
-    p: usize,
-) -> bool
-    requires { NormalLists (as_halfedges h.now) pos.now normals.now own.now n p }
+fn same_tangents(case: Case<'_>, lists: Normals<'_>) -> bool
+    requires { NormalLists (as_halfedges lists.h.now) lists.pos.now lists.faces.now lists.own.now case.n case.p }
 {
-    let mut from = replay::after(at, 4);
-    for e in 0..n {
-        let normal = smoothing::point_at(own, e);
-        let made = smoothing::tangent_from_normal(h, pos, normals, normal, e);
-        if !same_tangent(s, from, made.tangent) {
+    let mut body = case.body;
+    body.skip(4);
+    for e in 0..case.n {
+        let normal = smoothing::point_at(lists.own, e);
+        let made = smoothing::tangent_from_normal(lists.h, lists.pos, lists.faces, normal, e);
+        let v = made.tangent;
+        if !body.holds(&[v.x, v.y, v.z, v.w]) {
             return false;
         }
-        from = replay::after(from, 32);
     }
     true
 }
 
-fn asked_tfn(
-    s: &[u8],
-    at: usize,
-    c: Case,
-    h: &[i32],
-    pos: &[f64],
-    normals: &[f64],
-    own: &[f64],
-) -> bool {
-    let n = c.n;
-    let p = c.p;
-    let lengths = common::both(
-        common::both(
-            mesh::has_length(h.len(), n, mesh::HALFEDGE_STRIDE),
-            mesh::has_length(pos.len(), p, 3),
+fn asked_normals(case: Case<'_>, lists: Normals<'_>) -> bool {
+    let n = case.n;
+    let p = case.p;
+    let lengths = both(
+        both(
+            has_length(lists.h.len(), n, mesh::HALFEDGE_STRIDE),
+            has_length(lists.pos.len(), p, 3),
         ),
-        common::both(
-            mesh::has_length(normals.len(), n, 1),
-            mesh::has_length(own.len(), n, 3),
+        both(
+            has_length(lists.faces.len(), n, 1),
+            has_length(lists.own.len(), n, 3),
         ),
     );
-    let checked = mesh::check_mesh(h, n, p, lengths);
-    let Checked::Accepted = checked else {
-        return same_checked(checked, c);
+    let checked = mesh::check_mesh(lists.h, n, p, lengths);
+    let Ok(()) = checked else {
+        return same_checked(checked, case);
     };
-    tfn_all(s, at, h, pos, normals, own, n, p)
+    same_tangents(case, lists)
 }
 
-pub fn tfn(s: &[u8], c: Case) -> bool {
+pub fn tangent_from_normal(mut case: Case<'_>) -> bool {
     let mut pos = [0.0f64; 256];
     let mut h = [0i32; 256];
-    let mut normals = [0.0f64; 256];
+    let mut faces = [0.0f64; 256];
     let mut own = [0.0f64; 256];
-    let a = floats(s, c.at, &mut pos);
-    let b = signed(s, a.next, &mut h);
-    let d = floats(s, b.next, &mut normals);
-    let e = floats(s, d.next, &mut own);
-    let pl = a.len;
-    let hl = b.len;
-    let nl = d.len;
-    let ol = e.len;
-    asked_tfn(
-        s,
-        e.next,
-        c,
-        &h[..hl],
-        &pos[..pl],
-        &normals[..nl],
-        &own[..ol],
-    )
-}
-
-fn number(yes: bool) -> u64 {
-    if yes { 1 } else { 0 }
-}
-
-// Is each halfedge inside a quad: 1 or 0.
-fn inside_all(
-    s: &[u8],
-    at: usize,
-    h: &[i32],
-    refs: &[i32],
-    t: &[f64],
-    old: bool,
-    n: usize,
-    p: usize,
-) -> bool
-    requires { QuadLists (as_halfedges h.now) t.now n p }
-{
-    for e in 0..n {
-        let inside = smoothing::is_inside_quad(h, refs, t, old, e);
-        if replay::byte(s, replay::after(at, e)) != number(inside) {
-            return false;
-        }
-    }
-    true
-}
-
-// Is it marked?
-fn marked_all(s: &[u8], at: usize, h: &[i32], t: &[f64], n: usize, p: usize) -> bool
-    requires { QuadLists (as_halfedges h.now) t.now n p }
-{
-    for e in 0..n {
-        let marked = smoothing::is_marked_inside_quad(t, e);
-        if replay::byte(s, replay::after(at, e)) != number(marked) {
-            return false;
-        }
-    }
-    true
-}
-
-fn asked_quad(s: &[u8], at: usize, c: Case, h: &[i32], refs: &[i32], t: &[f64], old: bool) -> bool {
-    let n = c.n;
-    let p = c.p;
-    let lengths = common::both(
-        mesh::has_length(h.len(), n, mesh::HALFEDGE_STRIDE),
-        mesh::has_length(t.len(), n, 4),
-    );
-    let checked = mesh::check_mesh(h, n, p, lengths);
-    let Checked::Accepted = checked else {
-        return same_checked(checked, c);
+    let lists = Normals {
+        pos: case.body.list(&mut pos),
+        h: case.body.list(&mut h),
+        faces: case.body.list(&mut faces),
+        own: case.body.list(&mut own),
     };
-    if !inside_all(s, at, h, refs, t, old, n, p) {
-        return false;
-    }
-    let then = replay::after(replay::after(at, n), 4);
-    marked_all(s, then, h, t, n, p)
+    asked_normals(case, lists)
 }
 
-// Without old tangents the unit is lent a list of zeros, which has no mark.
-pub fn quad(s: &[u8], c: Case) -> bool {
+// The lists of the questions whether a halfedge is inside a quad: the tangents are old ones, or else zeros, which have no mark.
+#[derive(Clone, Copy)]
+struct Quads<'a> {
+    h: &'a [i32],
+    refs: &'a [i32],
+    old: bool,
+    t: &'a [f64],
+}
+
+// Is each halfedge inside a quad, by a byte 1 or 0, and is it marked, by another?
+fn same_quads(case: Case<'_>, lists: Quads<'_>) -> bool
+    requires { QuadLists (as_halfedges lists.h.now) lists.t.now case.n case.p }
+{
+    let mut inside = case.body;
+    inside.skip(4);
+    let mut marked = inside;
+    marked.skip(case.n);
+    marked.skip(4);
+    for e in 0..case.n {
+        let is_inside = smoothing::is_inside_quad(lists.h, lists.refs, lists.t, lists.old, e);
+        let is_marked = smoothing::is_marked_inside_quad(lists.t, e);
+        if inside.read::<u8>() != u8::from(is_inside)
+            || marked.read::<u8>() != u8::from(is_marked)
+        {
+            return false;
+        }
+    }
+    true
+}
+
+fn asked_quads(case: Case<'_>, lists: Quads<'_>) -> bool {
+    let n = case.n;
+    let p = case.p;
+    let lengths = both(
+        has_length(lists.h.len(), n, mesh::HALFEDGE_STRIDE),
+        has_length(lists.t.len(), n, 4),
+    );
+    let checked = mesh::check_mesh(lists.h, n, p, lengths);
+    let Ok(()) = checked else {
+        return same_checked(checked, case);
+    };
+    same_quads(case, lists)
+}
+
+pub fn inside_quad(mut case: Case<'_>) -> bool {
     let mut h = [0i32; 256];
     let mut refs = [0i32; 256];
     let mut t = [0.0f64; 256];
-    let a = signed(s, c.at, &mut h);
-    let b = signed(s, a.next, &mut refs);
-    let old = replay::half_word(s, b.next) == 1;
-    let d = floats(s, replay::after(b.next, 4), &mut t);
-    let hl = a.len;
-    let rl = b.len;
-    let tl = replay::after_fours(0, c.n);
-    asked_quad(
-        s,
-        replay::after(d.next, 4),
-        c,
-        &h[..hl],
-        &refs[..rl],
-        float_part(&t, 0, tl),
-        old,
-    )
+    let h = case.body.list(&mut h);
+    let refs = case.body.list(&mut refs);
+    let old = case.body.read::<usize>() == 1;
+    case.body.list(&mut t);
+    let t = t.get(..case.n.saturating_mul(4)).unwrap_or(&[]);
+    asked_quads(case, Quads { h, refs, old, t })
 }

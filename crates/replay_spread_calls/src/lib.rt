@@ -2,159 +2,101 @@
 // and writes how many were compared and how many differ.
 #![tactic(auto)]
 
-use common::both;
-use distribute::Spreading;
-use replay::Tally;
-use replay_cases::{Case, bytes, floats, places, same_refusal, signed};
-use std::io::{Input, Read};
+use distribute::Counts;
+use replay::all_same;
+use replay_cases::{Case, Operation, ROOM, Refusal};
+use std::io::Input;
 
-// Is this the answer of the case, whose counts looked and turned stand at s[at..]?
-fn same_answer(s: &[u8], at: usize, spreading: Spreading, c: Case) -> bool {
-    match spreading {
-        Spreading::Spread { looked, turned } => {
-            if c.number != 0 {
-                return false;
-            }
-            if looked != replay::half_word(s, at) {
-                return false;
-            }
-            turned == replay::half_word(s, replay::after(at, 4))
-        }
-        Spreading::Refused { number, place } => same_refusal(number, place, c),
-    }
+// The lists of a case that both calls only read.
+#[derive(Clone, Copy)]
+struct Lists<'a> {
+    pos: &'a [f64],
+    h: &'a [i32],
+    normals: &'a [f64],
+    flags: &'a [u8],
 }
 
-// Spreading, with scratch lists of its own. Are the answer and all lists those of the case? At s[at..] are the counts, and
-// after them the tangents as the Rust left them.
-fn spread(
-    s: &[u8],
-    at: usize,
-    c: Case,
-    pos: &[f64],
-    h: &[i32],
-    normals: &[f64],
-    flags: &[u8],
-    t: &mut [f64],
+// Is this how the call of the case ends, whose counts looked and turned are these?
+fn same_spreading(
+    spreading: Result<Counts, mesh::Refusal>,
+    case: Case<'_>,
+    counts: (usize, usize),
 ) -> bool {
-    let n = places(c.n);
+    let outcome = spreading.map(|spread| (spread.looked, spread.turned));
+    outcome.map_err(Refusal::from) == case.outcome.map(|()| counts)
+}
+
+// Spreading, with scratch lists of its own: zeros where it is accepted, else as they were lent. Are the answer and all lists
+// those of the case? Its counts come next, and the tangents as the Rust left them.
+fn spread(mut case: Case<'_>, lists: Lists<'_>, t: &mut [f64]) -> bool {
+    let counts = (case.body.read(), case.body.read());
+    let n = case.n.min(32);
     let current = &mut [0.5f64; 32][..n];
     let desired = &mut [0.5f64; 32][..n];
     let spreading = distribute::distribute_tangents(
-        c.n, c.p, h, pos, normals, flags, t, current, desired,
+        case.n,
+        case.p,
+        lists.h,
+        lists.pos,
+        lists.normals,
+        lists.flags,
+        t,
+        current,
+        desired,
     );
-    // zeros where it was accepted, else as they were lent
-    let angle = if c.number == 0 { 0.0 } else { 0.5 };
-    let scratch = both(
-        replay::all_floats(current, angle),
-        replay::all_floats(desired, angle),
-    );
-    let tangents = replay::same_floats(s, replay::after(at, 12), t, t.len());
-    both(both(same_answer(s, at, spreading, c), scratch), tangents)
+    let angle = if case.outcome.is_ok() { 0.0 } else { 0.5 };
+    same_spreading(spreading, case, counts)
+        && all_same(current, angle)
+        && all_same(desired, angle)
+        && case.body.holds_list(t)
 }
 
-// The preview, with a byte list of the case's length that holds 7s. Are the answer and every byte those of the case? At
-// s[at..] are the counts, and after them the byte list as it has to be left.
-fn preview(
-    s: &[u8],
-    at: usize,
-    c: Case,
-    pos: &[f64],
-    h: &[i32],
-    normals: &[f64],
-    flags: &[u8],
-    t: &[f64],
-) -> bool {
-    let k = places(replay::half_word(s, replay::after(at, 8)));
-    let shown = &mut [7u8; 32][..k];
-    let spreading = preview::preview_tangents(c.n, c.p, h, pos, normals, flags, t, shown);
-    let same = replay::same_bytes(s, replay::after(at, 12), shown, k);
-    both(same_answer(s, at, spreading, c), same)
-}
-
-// Puts the lists of a case to its call. At s[at..] is what the oracle answered.
-fn lists_agree(
-    s: &[u8],
-    at: usize,
-    c: Case,
-    pos: &[f64],
-    h: &[i32],
-    normals: &[f64],
-    flags: &[u8],
-    t: &mut [f64],
-) -> bool {
-    if replay::half_word(s, 4) == 7 {
-        return spread(s, at, c, pos, h, normals, flags, t);
-    }
-    preview(s, at, c, pos, h, normals, flags, t)
+// The preview, with a byte list of the case's length that holds 7s. Are the answer and every byte those of the case? Its counts
+// come next, and the byte list as it has to be left.
+fn preview(mut case: Case<'_>, lists: Lists<'_>, t: &[f64]) -> bool {
+    let counts = (case.body.read(), case.body.read());
+    let places = case.body.read::<usize>().min(32);
+    let shown = &mut [7u8; 32][..places];
+    let spreading = preview::preview_tangents(
+        case.n,
+        case.p,
+        lists.h,
+        lists.pos,
+        lists.normals,
+        lists.flags,
+        t,
+        shown,
+    );
+    same_spreading(spreading, case, counts) && case.body.holds(shown)
 }
 
 // Reads the lists of a case, and puts them to its call.
-fn agrees(s: &[u8], c: Case) -> bool {
+fn agrees(mut case: Case<'_>) -> bool {
     let mut pos = [0.0f64; 256];
     let mut h = [0i32; 256];
     let mut normals = [0.0f64; 256];
     let mut flags = [0u8; 64];
     let mut t = [0.0f64; 256];
-    let a = floats(s, c.at, &mut pos);
-    let b = signed(s, a.next, &mut h);
-    let d = floats(s, b.next, &mut normals);
-    let f = bytes(s, d.next, &mut flags);
-    let g = floats(s, f.next, &mut t);
-    let pl = a.len;
-    let hl = b.len;
-    let nl = d.len;
-    let fl = f.len;
-    let tl = g.len;
-    lists_agree(
-        s,
-        g.next,
-        c,
-        &pos[..pl],
-        &h[..hl],
-        &normals[..nl],
-        &flags[..fl],
-        &mut t[..tl],
-    )
-}
-
-#[derive(Clone, Copy)]
-struct Step {
-    tally: Tally,
-    more: bool,
-}
-
-fn next_step<R: Read>(input: &mut R, t: Tally) -> Step {
-    let mut buf = [0u8; 4096];
-    if replay_cases::read_case(input, &mut buf) == 0 {
-        return Step {
-            tally: t,
-            more: false,
-        };
-    }
-    let same = agrees(&buf, replay_cases::case_at(&buf, 0));
-    Step {
-        tally: replay::counted(t, same),
-        more: true,
+    let lists = Lists {
+        pos: case.body.list(&mut pos),
+        h: case.body.list(&mut h),
+        normals: case.body.list(&mut normals),
+        flags: case.body.list(&mut flags),
+    };
+    let t = case.body.list(&mut t);
+    match case.operation {
+        Ok(Operation::Spread) => spread(case, lists, t),
+        Ok(Operation::Preview) => preview(case, lists, t),
+        _ => false,
     }
 }
 
 // Replays all cases of standard input.
 pub fn replay_all(rt: &(impl Input + Print)) {
     let mut input = rt.reader();
-    let mut t = Tally {
-        compared: 0,
-        differ: 0,
-    };
-    let mut cases = u64::MAX;
-    let mut more = true;
-    while more {
-        if cases == 0 {
-            return;
-        }
-        cases -= 1;
-        let s = next_step(&mut input, t);
-        t = s.tally;
-        more = s.more;
-    }
-    replay::report(rt, t);
+    let mut buf = [0u8; ROOM];
+    replay::replay_all(rt, |tally| {
+        let case = Case::read(&mut input, &mut buf)?;
+        Some(tally.counted(agrees(case)))
+    });
 }

@@ -11,7 +11,7 @@ use Rattle.mesh.specs.Sound.{Sound}
 use Rattle.mesh.proofs.Rows.{same_halfedges}
 use Rattle.smoothing.specs.Edges.{is_inside_quad}
 use Rattle.create_shared.specs.Makings.{Tangents}
-use Rattle.create_shared.specs.declared.Making.TheVariants.{Made}
+use Rattle.std.specs.Prelude.{Ok}
 use Rattle.distribute.specs.Distribute.{spread_tangents}
 use Rattle.normals_walks.proofs.Same.{verts_same, verts_count_same}
 use Rattle.normals_core.specs.Core.{no_tangents, normal_tangents, create_tangents_from_normals, from_normals_directionless}
@@ -64,4 +64,4 @@ old_tangents list P N A R G T X B C D W old n p O holds e =
 
 pub old_count : OldCount
 old_count list P N A R G T X B C D W old n p O holds e =
-    let w = lists_of list P N A R G T X B C D W n p e in rw e (ap Made (count_same w.lists.sound P N A R T old _ _ holds p))
+    let w = lists_of list P N A R G T X B C D W n p e in rw e (ap Ok (count_same w.lists.sound P N A R T old _ _ holds p))

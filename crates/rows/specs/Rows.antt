@@ -1,17 +1,14 @@
 -- Document 02's request 1 as claims: "only making from normals looks at the row number", and "a mesh where each halfedge's row holds its three old numbers gives the old tangents". Letters as in docs/ARCHITECTURE.md; `list` and `other` are lists of halfedges.
-use Rattle.std.specs.Prelude.{ℕ, ◌<◌, ◌≡◌, List, Bool, ℤ, Float}
+use Rattle.std.specs.Prelude.{ℕ, ◌<◌, ◌≡◌, List, Bool, ℤ, Float, Ok}
 use Rattle.mesh.specs.Mesh.{Halfedges, as_halfedges}
-use Rattle.mesh.specs.Check.{check_mesh}
+use Rattle.mesh.specs.Check.{Checked, check_mesh}
 use Rattle.mesh.specs.Rows.{SameButRows}
-use Rattle.mesh.specs.declared.Checked.{Checked}
-use Rattle.mesh.specs.declared.Checked.TheVariants.{Accepted}
 use Rattle.smoothing.specs.Lists.{point_at}
 use Rattle.linearize.specs.Linearize as Linearize
 use Rattle.validate.specs.Validate as Validate
 use Rattle.sharpen.specs.Sharpen as Sharpen
 use Rattle.distribute.specs.Distribute as Distribute
 use Rattle.preview.specs.Preview as Preview
-use Rattle.create_shared.specs.declared.Making.TheVariants.{Made}
 use Rattle.create_smoothness.specs.declared.Smoothness.{Smoothness}
 use Rattle.create.specs.Create as Create
 use Rattle.create_entries.specs.CreateEntries as CreateEntries
@@ -63,7 +60,7 @@ abbrev pub OldTangents : Type 0
 OldTangents =
     (list : List ℤ) (P N A : List Float) (R : List ℤ) (G T : List Float) (X B : List ℕ) (C D : List Float) (W : List ℕ) (old : Bool) (n p : ℕ) (O : List Float)
     → HoldsOld list G O n
-    → FromNormals.check_lists list P N A R G T X B C D W n p ≡ Accepted
+    → FromNormals.check_lists list P N A R G T X B C D W n p ≡ Ok tt
     → FromNormals.tangents_after (FromNormals.check_lists list P N A R G T X B C D W n p) list P N A R G T old n p ≡ from_halfedge_normals (as_halfedges list) P N A R O T old n p
 
 -- request 3's count by the same definition, likewise
@@ -75,5 +72,5 @@ abbrev pub OldCount : Type 0
 OldCount =
     (list : List ℤ) (P N A : List Float) (R : List ℤ) (G T : List Float) (X B : List ℕ) (C D : List Float) (W : List ℕ) (old : Bool) (n p : ℕ) (O : List Float)
     → HoldsOld list G O n
-    → FromNormals.check_lists list P N A R G T X B C D W n p ≡ Accepted
-    → FromNormals.create_answer list P N A R G T X B C D W old n p ≡ Made (from_halfedge_directionless (as_halfedges list) P N A R O T old n p)
+    → FromNormals.check_lists list P N A R G T X B C D W n p ≡ Ok tt
+    → FromNormals.create_answer list P N A R G T X B C D W old n p ≡ Ok (from_halfedge_directionless (as_halfedges list) P N A R O T old n p)

@@ -1,5 +1,5 @@
 -- The laws of `sharpen`. Those that say what a listing is are public.
-pub mod Listed
+pub mod Entries
 pub mod Room
 mod Values
 pub mod Pillow

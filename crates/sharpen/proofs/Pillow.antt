@@ -19,8 +19,10 @@ use Rattle.mesh.specs.Check.{check_mesh}
 use Rattle.smoothing.specs.Lists.{point_at}
 use Rattle.sharpen.specs.Crease.{min_radians, dihedral_of, is_crease}
 use Rattle.sharpen.specs.Entries.{entries_in, push_entry, push_edge, list_edge}
-use Rattle.sharpen.specs.Sharpen.{sharpen_edges, entries_after}
-use Rattle.sharpen.specs.declared.Listing.TheVariants.{Listed, Refused}
+use Rattle.sharpen.specs.Sharpen.{listed_of, sharpen_edges, entries_after}
+use Rattle.std.specs.Prelude.{Ok}
+use Rattle.mesh.specs.Check.{refused as refused_answer}
+use Rattle.mesh.specs.declared.Question.TheVariants.{Lengths}
 
 abbrev opposite : List Float
 opposite = zero ∷ zero ∷ one ∷ zero ∷ zero ∷ Ieee.neg one ∷ []
@@ -43,20 +45,20 @@ unfolding Ieee.of_bits Ieee.to_bits Ieee.neg Ieee.add Ieee.mul Ieee.div Ieee.ne 
 all = tt
 
 -- each edge is listed, its forward halfedge first
-pub all_listed : (sharpen_edges (as_halfedges pillow) opposite nan half places zeros 6 3 ≡ Listed 6 3) × (entries_after (as_halfedges pillow) opposite nan half places zeros 6 3 ≡ entries_in (0 ∷ 5 ∷ 1 ∷ 4 ∷ 3 ∷ 2 ∷ []) halves 6)
+pub all_listed : (sharpen_edges (as_halfedges pillow) opposite nan half places zeros 6 3 ≡ Ok (listed_of 6 3)) × (entries_after (as_halfedges pillow) opposite nan half places zeros 6 3 ≡ entries_in (0 ∷ 5 ∷ 1 ∷ 4 ∷ 3 ∷ 2 ∷ []) halves 6)
 unfolding all
 all_listed = (refl, refl)
 
-pub none_listed : (sharpen_edges (as_halfedges pillow) same nan half places zeros 6 3 ≡ Listed 0 0) × (entries_after (as_halfedges pillow) same nan half places zeros 6 3 ≡ entries_in places zeros 0)
+pub none_listed : (sharpen_edges (as_halfedges pillow) same nan half places zeros 6 3 ≡ Ok (listed_of 0 0)) × (entries_after (as_halfedges pillow) same nan half places zeros 6 3 ≡ entries_in places zeros 0)
 unfolding all
 none_listed = (refl, refl)
 
 -- at 180 degrees the angle is the limit, and not above it
-pub at_limit : sharpen_edges (as_halfedges pillow) opposite (lit 0x4066_8000_0000_0000) half places zeros 6 3 ≡ Listed 0 0
+pub at_limit : sharpen_edges (as_halfedges pillow) opposite (lit 0x4066_8000_0000_0000) half places zeros 6 3 ≡ Ok (listed_of 0 0)
 unfolding all
 at_limit = refl
 
 -- a list without its length
-pub refused : (sharpen_edges (as_halfedges pillow) opposite nan half [] zeros 6 3 ≡ Refused 2 0) × (entries_after (as_halfedges pillow) opposite nan half [] zeros 6 3 ≡ entries_in [] zeros 0)
+pub refused : (sharpen_edges (as_halfedges pillow) opposite nan half [] zeros 6 3 ≡ refused_answer Lengths 0) × (entries_after (as_halfedges pillow) opposite nan half [] zeros 6 3 ≡ entries_in [] zeros 0)
 unfolding all
 refused = (refl, refl)

@@ -9,7 +9,7 @@ use lib.Ieee.{Float}
 use borrow.Author.Tests.{eqb-true}
 use Rattle.mesh.specs.Mesh.{paired_halfedge, is_forward, Halfedges}
 use Rattle.mesh.specs.Sound.{Sound}
-use Rattle.mesh.specs.declared.Checked.TheVariants.{Accepted}
+use Rattle.std.specs.Prelude.{Ok}
 use Rattle.common.specs.Count.{count_below}
 use Rattle.common.proofs.Tests.{and_true}
 use Rattle.common.proofs.Count.{count_half, count_room}
@@ -19,7 +19,7 @@ use Rattle.smoothing.proofs.Edges.{normals_in}
 use Rattle.sharpen.specs.Crease.{is_crease}
 use Rattle.sharpen.specs.Entries.{entries_in, list_edges}
 use Rattle.sharpen.specs.Sharpen.{lengths_fit, check_lists, Lists, EdgeFits}
-use Rattle.sharpen.proofs.Listed.{entries_twice}
+use Rattle.sharpen.proofs.Entries.{entries_twice}
 
 module _ {H : Halfedges} {n p : ℕ} (A : List Float) (limit : Float) (s : Sound H n p) where
   -- of the two halfedges of an edge only the forward one is asked
@@ -41,7 +41,7 @@ module _ {H : Halfedges} {n p : ℕ} (A : List Float) (limit : Float) (s : Sound
   entries_room = count_room (λ e. paired_halfedge H e) n (is_crease H A limit) s.paired_below (paired_injective s) other_side
 
 module _ (H : Halfedges) (A : List Float) (E : List ℕ) (S : List Float) (n p : ℕ) where
-  pub lists_checked : check_lists H A E S n p ≡ Accepted → Lists H A E S n p
+  pub lists_checked : check_lists H A E S n p ≡ Ok tt → Lists H A E S n p
   lists_checked a =
       let b = accepted H n p (lengths_fit H A E S n) a in
       let q = and_true _ _ b.0 in

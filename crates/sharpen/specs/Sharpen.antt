@@ -1,38 +1,30 @@
 -- The crease listing as a public call: its questions, its answer, and the lists after it. H are the halfedges, A the face normals, I and Q the two lent lists, n and p the counts.
-use Rattle.std.specs.Prelude.{ℕ, ◌+◌, ◌*◌, ◌/◌, ◌≤◌, ◌≡◌, List, Bool, true, ◌&&◌, length, Float}
+use Rattle.std.specs.Prelude.{ℕ, ◌+◌, ◌*◌, ◌/◌, ◌≤◌, ◌≡◌, List, Bool, true, ◌&&◌, length, Float, Result, Ok, Err}
 use Rattle.common.specs.Count.{count_below}
 use Rattle.mesh.specs.Mesh.{halfedge_stride, Halfedges}
 use Rattle.mesh.specs.Questions.{has_length}
-use Rattle.mesh.specs.Check as mesh
-use Rattle.mesh.specs.Check.{check_mesh, when_accepted}
+use Rattle.mesh.specs.Check.{Checked, number_of, place_of, check_mesh, answer_of, when_accepted}
 use Rattle.mesh.specs.Sound.{Sound}
-use Rattle.mesh.specs.declared.Checked.{Checked}
-use Rattle.mesh.specs.declared.Checked.TheVariants.{Accepted, Refused}
+use Rattle.mesh.specs.declared.Refusal.{Refusal}
 use Rattle.smoothing.specs.Edges.{NormalsIn}
 use Rattle.sharpen.specs.Crease.{min_radians, is_crease}
 use Rattle.sharpen.specs.Entries.{Entries, entries_in, list_edges}
-use Rattle.sharpen.specs.declared.Listing.{Listing}
-use Rattle.sharpen.specs.declared.Listing.TheVariants.{Listed, Refused as RefusedListing}
+use Rattle.sharpen.specs.declared.Listed.{Listed}
 
 -- ---- document 01's values of an answer
 
--- number and place of a refusal; 0 for a mesh that got through
-abbrev pub number_of : Listing → ℕ
-number_of (Listed entries tally) = 0
-number_of (RefusedListing number place) = number
-
-abbrev pub place_of : Listing → ℕ
-place_of (Listed entries tally) = 0
-place_of (RefusedListing number place) = place
+-- what was listed, or the refusal
+abbrev pub Listing : Type 0
+Listing = Result Listed Refusal
 
 -- the number of entries, and the crease tally; 0 for a refusal, which lists nothing
 abbrev pub entries_of : Listing → ℕ
-entries_of (Listed entries tally) = entries
-entries_of (RefusedListing number place) = 0
+entries_of (Ok listed) = listed.entries
+entries_of (Err refusal) = 0
 
 abbrev pub tally_of : Listing → ℕ
-tally_of (Listed entries tally) = tally
-tally_of (RefusedListing number place) = 0
+tally_of (Ok listed) = listed.tally
+tally_of (Err refusal) = 0
 
 -- ---- the questions
 
@@ -70,13 +62,13 @@ creases H A angle smooth I Q n = list_edges H (is_crease H A (min_radians angle)
 abbrev pub crease_tally : Halfedges → List Float → Float → ℕ → ℕ
 crease_tally H A angle n = count_below (is_crease H A (min_radians angle)) n
 
-abbrev pub answer_of : Checked → ℕ → ℕ → Listing
-answer_of Accepted entries tally = Listed entries tally
-answer_of (Refused number place) entries tally = RefusedListing number place
+-- so many entries, and their tally
+abbrev pub listed_of : ℕ → ℕ → Listed
+listed_of entries tally = record { entries = entries; tally = tally }
 
 -- the answer of `sharpen_edges`
 abbrev pub sharpen_edges : Halfedges → List Float → Float → Float → List ℕ → List Float → ℕ → ℕ → Listing
-sharpen_edges H A angle smooth I Q n p = answer_of (check_lists H A I Q n p) (creases H A angle smooth I Q n).count (crease_tally H A angle n)
+sharpen_edges H A angle smooth I Q n p = answer_of (check_lists H A I Q n p) (listed_of (creases H A angle smooth I Q n).count (crease_tally H A angle n))
 
 -- the lists after it: as lent where it refuses
 abbrev pub entries_after : Halfedges → List Float → Float → Float → List ℕ → List Float → ℕ → ℕ → Entries
@@ -84,8 +76,8 @@ entries_after H A angle smooth I Q n p = when_accepted (check_lists H A I Q n p)
 
 -- what the definitions give of an answer `r`, after the answer `checked` of the questions, where `listed` are the entries of the listing and `edges` is its tally: number, place, entries and tally; and that the tally is half of the entries
 pub record Values (checked : Checked) (listed : Entries) (edges : ℕ) (r : Listing) : Type 0 where
-  pub number : number_of r ≡ mesh.number_of checked
-  pub place : place_of r ≡ mesh.place_of checked
+  pub number : number_of r ≡ number_of checked
+  pub place : place_of r ≡ place_of checked
   pub entries : entries_of r ≡ when_accepted checked listed.count 0
   pub tally : tally_of r ≡ when_accepted checked edges 0
   pub half : entries_of r ≡ 2 * tally_of r

@@ -8,63 +8,34 @@ ghost use Rattle.mesh.specs.Inside.{Inside};
 ghost use Rattle.smoothing.specs.Edges.{NormalsIn};
 ghost use Rattle.sharpen.specs.Crease.{min_radians, dihedral_of, is_crease};
 ghost use Rattle.sharpen.specs.Entries.{entries_in, push_edge, list_edge, list_edges};
-ghost use Rattle.sharpen.specs.Sharpen.{lengths_fit, check_lists, Lists, EdgeFits, Values, number_of, place_of, entries_of, tally_of, creases, crease_tally, sharpen_edges, entries_after};
+ghost use Rattle.sharpen.specs.Sharpen.{lengths_fit, check_lists, Lists, EdgeFits, Values, entries_of, tally_of, creases, crease_tally, sharpen_edges, entries_after};
 
-use mesh::Checked;
+use mesh::Refusal;
 
-// The answer: how many entries the lists have and how many edges they name, or the first question answered no and its
-// lowest place.
+// The entries of the lists, and the edges that they name.
 #[derive(Clone, Copy)]
-pub enum Listing {
-    Listed { entries: usize, tally: usize },
-    Refused { number: usize, place: usize },
+pub struct Listed {
+    pub entries: usize,
+    pub tally: usize,
 }
 
-pub fn number_of(listing: Listing) -> usize
-    ensures { result ≡ number_of listing }
-{
-    match listing {
-        Listing::Listed {
-            entries: _,
-            tally: _,
-        } => 0,
-        Listing::Refused { number, place: _ } => number,
-    }
-}
-
-pub fn place_of(listing: Listing) -> usize
-    ensures { result ≡ place_of listing }
-{
-    match listing {
-        Listing::Listed {
-            entries: _,
-            tally: _,
-        } => 0,
-        Listing::Refused { number: _, place } => place,
-    }
-}
-
-pub fn entries_of(listing: Listing) -> usize
+// How many entries the lists have; 0 where the call is refused.
+pub fn entries_of(listing: Result<Listed, Refusal>) -> usize
     ensures { result ≡ entries_of listing }
 {
     match listing {
-        Listing::Listed { entries, tally: _ } => entries,
-        Listing::Refused {
-            number: _,
-            place: _,
-        } => 0,
+        Ok(listed) => listed.entries,
+        Err(_) => 0,
     }
 }
 
-pub fn tally_of(listing: Listing) -> usize
+// How many edges they name; 0 where the call is refused.
+pub fn tally_of(listing: Result<Listed, Refusal>) -> usize
     ensures { result ≡ tally_of listing }
 {
     match listing {
-        Listing::Listed { entries: _, tally } => tally,
-        Listing::Refused {
-            number: _,
-            place: _,
-        } => 0,
+        Ok(listed) => listed.tally,
+        Err(_) => 0,
     }
 }
 
@@ -195,23 +166,20 @@ pub fn sharpen_edges(
     smooth: f64,
     halfedges: &mut [usize],
     smoothness: &mut [f64],
-) -> Listing
+) -> Result<Listed, Refusal>
     ensures answer { result ≡ sharpen_edges (as_halfedges h.now) normals.now angle smooth halfedges.old smoothness.old n p }
     ensures listed { halfedges.new ≡ (entries_after (as_halfedges h.now) normals.now angle smooth halfedges.old smoothness.old n p).halfedges }
     ensures copied { smoothness.new ≡ (entries_after (as_halfedges h.now) normals.now angle smooth halfedges.old smoothness.old n p).smoothness }
     ensures values { Values (check_lists (as_halfedges h.now) normals.now halfedges.old smoothness.old n p) (creases (as_halfedges h.now) normals.now angle smooth halfedges.old smoothness.old n) (crease_tally (as_halfedges h.now) normals.now angle n) result }
 {
     let checked = mesh::check_mesh(h, n, p, lengths_fit(n, h, normals, halfedges, smoothness));
-    let Checked::Accepted = checked else {
-        return Listing::Refused {
-            number: mesh::number_of(checked),
-            place: mesh::place_of(checked),
-        };
+    let Ok(()) = checked else {
+        return mesh::refused(checked);
     };
     let limit = min_radians(angle);
     let entries = list_edges(n, p, h, normals, limit, smooth, halfedges, smoothness);
-    Listing::Listed {
+    Ok(Listed {
         entries,
         tally: entries / 2,
-    }
+    })
 }

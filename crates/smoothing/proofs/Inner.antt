@@ -1,18 +1,18 @@
 -- The steps of `tangent_from_normal` that are worked out apart make it; and what both halfedges of an edge share. Assumes nothing.
 use Prim.Native.Nat.{ℕ, ◌*◌, ◌/◌, ◌<◌}
-use mathlib.Core.Path.{◌≡◌, refl, sym, ap, ◌∙◌}
+use mathlib.Core.Path.{◌≡◌, refl, sym, ap}
 use mathlib.Core.List.{List}
 use lib.ListN.{length}
 use lib.Ieee.{Float}
 use Rattle.linalg.specs.declared.Vec3.{Vec3}
-use Rattle.linalg.specs.Vec.{cross_of, dot_of}
+use Rattle.sqrt.specs.Sqrt.{sqrt_of}
+use Rattle.linalg.specs.Vec.{cross_of, dot_of, length_of, length2_of}
 use Rattle.mesh.specs.Mesh.{halfedge_stride, start_vert, end_vert, paired_halfedge, Halfedges}
 use Rattle.mesh.specs.Sound.{Sound}
-use Rattle.smoothing.specs.declared.EdgeVecs.{EdgeVecs}
 use Rattle.smoothing.specs.Directions.{angle_between, is_degenerate, directionless, circular_tangent}
 use Rattle.smoothing.specs.Lists.{point_at}
 use Rattle.smoothing.specs.Edges.{edge_vec, bi_tangent, tangent_from_normal}
-use Rattle.smoothing.specs.Inner.{angle_of_cosine, LengthOf, edge_normal, direction_from_normal, EdgesIn, PairIn, edge_vecs}
+use Rattle.smoothing.specs.Inner.{angle_of_cosine, edge_normal, direction_from_normal, EdgesIn, PairIn}
 use Rattle.smoothing.proofs.Edges.{edge_in, normals_in}
 use Rattle.smoothing.proofs.Floats.{add3_flip, dot_sub3}
 
@@ -53,9 +53,6 @@ unfolding directionless
 directionless_there w = ap is_degenerate (sym (squared_there w))
 
 -- one length serves both
-pub length_there : {H : Halfedges} {P : List Float} {e : ℕ} {len2 len : Float} (v : EdgeVecs) → EdgesIn H P e → v ≡ edge_vecs H P e → LengthOf v.here len2 len → LengthOf v.there len2 len
-unfolding edge_vecs
-length_there v w q k = record {
-  squared = k.squared ∙ ap (λ (u : EdgeVecs). dot_of u.here u.here) q ∙ squared_there w ∙ sym (ap (λ (u : EdgeVecs). dot_of u.there u.there) q);
-  root = k.root;
-}
+pub length_there : {H : Halfedges} {P : List Float} {e : ℕ} → EdgesIn H P e → (length2_of (edge_vec H P (paired_halfedge H e)) ≡ length2_of (edge_vec H P e)) × (length_of (edge_vec H P (paired_halfedge H e)) ≡ length_of (edge_vec H P e))
+unfolding length_of length2_of
+length_there w = let q = sym (squared_there w) in (q, ap sqrt_of q)

@@ -1,5 +1,5 @@
 -- The leaves of src/smoothing.rs on directions and angles: each definition is the Rust's, one rounded operation at a time.
-use Rattle.std.specs.Prelude.{Bool, cond, not, ◌||◌, Float}
+use Rattle.std.specs.Prelude.{Bool, cond, not, ◌||◌, Float, Option, None, Some}
 use Rattle.std.specs.Float.Ieee.{lt, le, neg}
 use Rattle.float.specs.Ops.{◌⊕◌, ◌⊖◌, ◌⊗◌, ◌⊘◌, lit, zero, half, one, two, three, pi, two_pi}
 use Rattle.float.specs.F64.{max_of, is_finite}
@@ -8,7 +8,6 @@ use Rattle.math.specs.Acos.{acos_of}
 use Rattle.linalg.specs.declared.Vec3.{Vec3}
 use Rattle.linalg.specs.declared.Vec4.{Vec4}
 use Rattle.linalg.specs.Vec.{dot_of, div3, length_of}
-use Rattle.smoothing.specs.declared.Direction.{Direction}
 use Rattle.smoothing.specs.declared.CircularTangent.{CircularTangent}
 
 -- `vec3_from_vec4`
@@ -31,9 +30,9 @@ safe_normalize v = let len2 = dot_of v v in direction_by v len2 (sqrt_of len2)
 unfoldable pub directionless : Vec3 → Bool
 directionless v = is_degenerate (dot_of v v)
 
--- `safe_normalize`, and that test
-abbrev pub direction_of : Vec3 → Direction
-direction_of v = record { vec = safe_normalize v; directionless = directionless v }
+-- `safe_normalize`, where that test lets it be a direction
+abbrev pub direction_of : Vec3 → Option Vec3
+direction_of v = cond (directionless v) None (Some (safe_normalize v))
 
 -- `wrap`
 unfoldable pub wrap_of : Float → Float

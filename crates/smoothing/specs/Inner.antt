@@ -1,33 +1,21 @@
--- Only contracts inside a call name these: the steps of `safe_normalize`, `angle_between`, `circular_tangent` and `tangent_from_normal` that are worked out apart, and both halfedges of an edge at once. H are the halfedges, P the positions, A the face normals.
+-- Only contracts inside a call name these: the steps of `angle_between` and `tangent_from_normal` that are worked out apart, and both halfedges of an edge at once. H are the halfedges, P the positions, A the face normals.
 use Rattle.std.specs.Prelude.{ℕ, ◌/◌, ◌≡◌, List, cond, Float}
 use Rattle.std.specs.Float.Ieee.{le, neg}
 use Rattle.float.specs.Ops.{zero, one, pi}
-use Rattle.sqrt.specs.Sqrt.{sqrt_of}
 use Rattle.math.specs.Acos.{acos_of}
 use Rattle.linalg.specs.declared.Vec3.{Vec3}
-use Rattle.linalg.specs.Vec.{add3, dot_of, cross_of}
+use Rattle.linalg.specs.Vec.{add3, cross_of}
 use Rattle.mesh.specs.Mesh.{start_vert, end_vert, paired_halfedge, is_forward, Halfedges}
-use Rattle.smoothing.specs.declared.EdgeVecs.{EdgeVecs}
 use Rattle.smoothing.specs.declared.TwoTangents.{TwoTangents}
-use Rattle.smoothing.specs.declared.Direction.{Direction}
-use Rattle.smoothing.specs.Directions.{is_degenerate, direction_by, directionless}
+use Rattle.smoothing.specs.Directions.{directionless}
 use Rattle.smoothing.specs.Lists.{point_at}
 use Rattle.smoothing.specs.Edges.{EdgeIn, NormalsIn, edge_vec, bi_tangent, tangent_from_normal}
 
 -- ---- the steps
 
--- the end of `safe_normalize`, and its test
-abbrev pub direction_by_of : Vec3 → Float → Float → Direction
-direction_by_of v len2 len = record { vec = direction_by v len2 len; directionless = is_degenerate len2 }
-
 -- `angle_between`, of the dot product
 unfoldable pub angle_of_cosine : Float → Float
 angle_of_cosine d = cond (le one d) zero (cond (le d (neg one)) pi (acos_of d))
-
--- an edge's squared length and length
-pub record LengthOf (edge : Vec3) (len2 len : Float) : Type 0 where
-  pub squared : len2 ≡ dot_of edge edge
-  pub root : len ≡ sqrt_of len2
 
 -- `edge_normal` of `tangent_from_normal`: the sum of both triangles' normals
 unfoldable pub edge_normal : Halfedges → List Float → ℕ → Vec3
@@ -50,9 +38,6 @@ pub record PairIn (H : Halfedges) (P A : List Float) (e : ℕ) : Type 0 where
   pub edges : EdgesIn H P e
   pub normals : NormalsIn H A e
   pub paired_back : paired_halfedge H (paired_halfedge H e) ≡ e
-
-unfoldable pub edge_vecs : Halfedges → List Float → ℕ → EdgeVecs
-edge_vecs H P e = record { here = edge_vec H P e; there = edge_vec H P (paired_halfedge H e) }
 
 -- a is the normal at e, b that at its pair; the edge is that of e, and the pair's has no direction where it has none
 unfoldable pub tangents_from_normals : Halfedges → List Float → List Float → Vec3 → Vec3 → ℕ → TwoTangents

@@ -154,6 +154,7 @@ fn seed(i: u64) -> u64
 
 // 2 ^ 58 / sqrt(n), or less by at most a 2 ^ 15th of it: Newton's step for the reciprocal square root from t * 2 ^ 16, (3 * t - t * t * t * n / 2 ^ 84) * 2 ^ 15.
 // The 3 that is taken off makes up for the two floors, here and in `newton_step`: the result is never above.
+#[tactic(auto, using(crate::proofs::Reciprocals::estimate_fits, crate::proofs::Reciprocals::estimated))]
 fn estimate(n: u64, i: u64) -> u64
     requires { InSegment i n }
     ensures { Reciprocal n result (2 ^ 102 + 2 ^ 89) }
@@ -164,6 +165,7 @@ fn estimate(n: u64, i: u64) -> u64
 }
 
 // Newton's step for the reciprocal square root from r, r * (3 - r * r * n / 2 ^ 116) / 2: 2 ^ 58 / sqrt(n), or less by at most a 2 ^ 28th of it.
+#[tactic(auto, using(crate::proofs::Reciprocals::product_fits, crate::proofs::Reciprocals::smaller, crate::proofs::Reciprocals::square_fits, crate::proofs::Reciprocals::refined))]
 fn newton_step(n: u64, r: u64) -> u64
     requires { (2 ^ 52 ≤ n) × (n < 2 ^ 54) × Reciprocal n r (2 ^ 102 + 2 ^ 89) }
     ensures { Reciprocal n result (2 ^ 89 + 2 ^ 78) }

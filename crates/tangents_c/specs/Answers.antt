@@ -1,15 +1,10 @@
 -- How an answer goes back through a lent list: the number of the refusal (0 where the call is accepted), its place, and the two numbers of an accepted call. Places that the list lacks are left out.
 use Rattle.std.specs.Prelude.{ℕ, List, set}
-use Rattle.mesh.specs.declared.Checked.{Checked}
-use Rattle.mesh.specs.Check.{number_of, place_of}
-use Rattle.validate.specs.declared.Validity.{Validity}
-use Rattle.validate.specs.Validate as Valid
-use Rattle.sharpen.specs.declared.Listing.{Listing}
-use Rattle.sharpen.specs.Sharpen as Sharp
-use Rattle.create_shared.specs.declared.Making.{Making}
-use Rattle.create_shared.specs.Answer as Make
-use Rattle.distribute.specs.declared.Spreading.{Spreading}
-use Rattle.distribute.specs.Distribute as Spread
+use Rattle.mesh.specs.Check.{Checked, number_of, place_of}
+use Rattle.validate.specs.Validate.{Validity, value_of}
+use Rattle.sharpen.specs.Sharpen.{Listing, entries_of, tally_of}
+use Rattle.create_shared.specs.Answer.{Making, directionless_of}
+use Rattle.distribute.specs.Distribute.{Spreading, looked_of, turned_of}
 
 unfoldable pub put : List ℕ → ℕ → ℕ → ℕ → ℕ → List ℕ
 put answer number place first second = set (set (set (set answer 0 number) 1 place) 2 first) 3 second
@@ -20,16 +15,16 @@ put_checked answer r = put answer (number_of r) (place_of r) 0 0
 
 -- the mark check: 1 for yes, 0 for no
 abbrev pub put_validity : List ℕ → Validity → List ℕ
-put_validity answer r = put answer (Valid.number_of r) (Valid.place_of r) (Valid.value_of r) 0
+put_validity answer r = put answer (number_of r) (place_of r) (value_of r) 0
 
 -- the crease listing: the number of entries, and the tally
 abbrev pub put_listing : List ℕ → Listing → List ℕ
-put_listing answer r = put answer (Sharp.number_of r) (Sharp.place_of r) (Sharp.entries_of r) (Sharp.tally_of r)
+put_listing answer r = put answer (number_of r) (place_of r) (entries_of r) (tally_of r)
 
 -- spreading and its preview: looked and turned
 abbrev pub put_spreading : List ℕ → Spreading → List ℕ
-put_spreading answer r = put answer (Spread.number_of r) (Spread.place_of r) (Spread.looked_of r) (Spread.turned_of r)
+put_spreading answer r = put answer (number_of r) (place_of r) (looked_of r) (turned_of r)
 
 -- the makings: how many circular tangents were computed on an edge without direction
 abbrev pub put_making : List ℕ → Making → List ℕ
-put_making answer r = put answer (Make.number_of r) (Make.place_of r) (Make.directionless_of r) 0
+put_making answer r = put answer (number_of r) (place_of r) (directionless_of r) 0

@@ -12,18 +12,16 @@ ghost use Rattle.distribute.specs.Distribute.{distribute_tangents, scratch_after
 ghost use Rattle.distribute.specs.Distribute.{tangents_after as spread_after};
 ghost use Rattle.preview.specs.Preview.{preview_tangents, bytes_after};
 ghost use Rattle.mesh.specs.Mesh.{as_halfedges};
-ghost use Rattle.mesh.specs.Check.{when_accepted};
+ghost use Rattle.mesh.specs.Check.{number_of, place_of, when_accepted};
 ghost use Rattle.create_smoothness.specs.Entries.{entries_of};
 ghost use Rattle.create_shared.specs.Answer.{checked_of};
 ghost use Rattle.create.specs.Create.{create_answer, tangents_after as created_tangents};
 ghost use Rattle.create_from_normals.specs.FromNormals.{create_answer as from_normals_answer, tangents_after as tangents_from_normals};
 ghost use Rattle.tangents_c.specs.Answers.{put, put_checked, put_validity, put_listing, put_spreading, put_making};
 
-use create_shared::Making;
-use distribute::Spreading;
-use mesh::Checked;
-use sharpen::Listing;
-use validate::Validity;
+use distribute::Counts;
+use mesh::Refusal;
+use sharpen::Listed;
 
 fn put_at(answer: &mut [usize], k: usize, x: usize)
     ensures { answer.new ≡ set answer.old k x }
@@ -33,9 +31,17 @@ fn put_at(answer: &mut [usize], k: usize, x: usize)
     }
 }
 
-fn put_answer(answer: &mut [usize], number: usize, place: usize, first: usize, second: usize)
-    ensures { answer.new ≡ put answer.old number place first second }
+// The number and the place of an answer, and the two numbers of an accepted call.
+fn put_answer<T: Copy>(
+    answer: &mut [usize],
+    answered: Result<T, Refusal>,
+    first: usize,
+    second: usize,
+)
+    ensures { answer.new ≡ put answer.old (number_of answered) (place_of answered) first second }
 {
+    let number = mesh::number_of(answered);
+    let place = mesh::place_of(answered);
     put_at(answer, 0, number);
     put_at(answer, 1, place);
     put_at(answer, 2, first);
@@ -43,68 +49,43 @@ fn put_answer(answer: &mut [usize], number: usize, place: usize, first: usize, s
 }
 
 // Straightening: no further numbers.
-fn put_checked(answer: &mut [usize], checked: Checked)
+fn put_checked(answer: &mut [usize], checked: Result<(), Refusal>)
     ensures { answer.new ≡ put_checked answer.old checked }
 {
-    put_answer(
-        answer,
-        mesh::number_of(checked),
-        mesh::place_of(checked),
-        0,
-        0,
-    );
+    put_answer(answer, checked, 0, 0);
 }
 
 // The mark check: 1 for yes, 0 for no.
-fn put_validity(answer: &mut [usize], valid: Validity)
+fn put_validity(answer: &mut [usize], valid: Result<bool, Refusal>)
     ensures { answer.new ≡ put_validity answer.old valid }
 {
-    put_answer(
-        answer,
-        validate::number_of(valid),
-        validate::place_of(valid),
-        validate::value_of(valid),
-        0,
-    );
+    put_answer(answer, valid, validate::value_of(valid), 0);
 }
 
 // The crease listing: the number of entries, and the tally.
-fn put_listing(answer: &mut [usize], listing: Listing)
+fn put_listing(answer: &mut [usize], listing: Result<Listed, Refusal>)
     ensures { answer.new ≡ put_listing answer.old listing }
 {
-    put_answer(
-        answer,
-        sharpen::number_of(listing),
-        sharpen::place_of(listing),
-        sharpen::entries_of(listing),
-        sharpen::tally_of(listing),
-    );
+    let entries = sharpen::entries_of(listing);
+    let tally = sharpen::tally_of(listing);
+    put_answer(answer, listing, entries, tally);
 }
 
 // Spreading and its preview: looked and turned.
-fn put_spreading(answer: &mut [usize], spreading: Spreading)
+fn put_spreading(answer: &mut [usize], spreading: Result<Counts, Refusal>)
     ensures { answer.new ≡ put_spreading answer.old spreading }
 {
-    put_answer(
-        answer,
-        distribute::number_of(spreading),
-        distribute::place_of(spreading),
-        distribute::looked_of(spreading),
-        distribute::turned_of(spreading),
-    );
+    let looked = distribute::looked_of(spreading);
+    let turned = distribute::turned_of(spreading);
+    put_answer(answer, spreading, looked, turned);
 }
 
 // The makings: how many circular tangents were computed on an edge without direction.
-fn put_making(answer: &mut [usize], making: Making)
+fn put_making(answer: &mut [usize], making: Result<usize, Refusal>)
     ensures { answer.new ≡ put_making answer.old making }
 {
-    put_answer(
-        answer,
-        create_shared::number_of(making),
-        create_shared::place_of(making),
-        create_shared::directionless_of(making),
-        0,
-    );
+    let count = create_shared::directionless_of(making);
+    put_answer(answer, making, count, 0);
 }
 
 // Straightening.

@@ -11,17 +11,16 @@ use lib.Ieee.{Float}
 use Rattle.mesh.specs.Mesh.{paired_halfedge, next_halfedge, prev_halfedge, Halfedges}
 use Rattle.common.specs.Fold.{fold_to}
 use Rattle.mesh.specs.Sound.{Sound}
-use Rattle.mesh.specs.declared.Checked.{Checked}
-use Rattle.mesh.specs.declared.Checked.TheVariants.{Accepted, Refused}
+use Rattle.std.specs.Prelude.{Ok, Err}
+use Rattle.mesh.specs.Check.{Checked, answer_of}
 use Rattle.common.proofs.Tests.{and_true}
 use Rattle.common.proofs.Fold.{fold_next}
 use Rattle.mesh.proofs.Accepted.{inside}
 use Rattle.mesh.proofs.Halfedges.{next_cases, prev_is}
 use Rattle.smoothing.specs.Lists.{is_marked_inside_quad}
 use Rattle.smoothing.proofs.Edges.{quad_in}
-use Rattle.validate.specs.Validate.{no_marked_neighbor, valid_at, valid_so_far, validity_of, Values}
+use Rattle.validate.specs.Validate.{no_marked_neighbor, valid_at, valid_so_far, Validity, Values}
 use Rattle.validate.specs.Marks.{mark_valid, triangle_valid, MarkIn, TriangleIn, Lists}
-use Rattle.validate.specs.declared.Validity.{Validity}
 
 -- ---- the fold over the halfedges below n
 
@@ -166,10 +165,10 @@ module _ {H : Halfedges} {T : List Float} {n p : ℕ} (l : Lists H T n p) where
 
 -- ---- number, place and value of the answer
 
-values_are : (checked : Checked) (valid : Bool) → Values checked valid (validity_of checked valid)
-values_are Accepted true = record { number = refl; place = refl; value = refl }
-values_are Accepted false = record { number = refl; place = refl; value = refl }
-values_are (Refused number place) valid = record { number = refl; place = refl; value = refl }
+values_are : (checked : Checked) (valid : Bool) → Values checked valid (answer_of checked valid)
+values_are (Ok tt) true = record { number = refl; place = refl; value = refl }
+values_are (Ok tt) false = record { number = refl; place = refl; value = refl }
+values_are (Err refusal) valid = record { number = refl; place = refl; value = refl }
 
-pub with_values : (checked : Checked) (valid : Bool) {r : Validity} → r ≡ validity_of checked valid → Values checked valid r
+pub with_values : (checked : Checked) (valid : Bool) {r : Validity} → r ≡ answer_of checked valid → Values checked valid r
 with_values checked valid e = rw e (values_are checked valid)

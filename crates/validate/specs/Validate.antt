@@ -1,16 +1,12 @@
 -- `valid_tangents` of src/smoothing_tangents.rs (document 01's mark check). H are the halfedges, P the positions, T the tangents, n and p the counts of halfedges and points.
-use Rattle.std.specs.Prelude.{ℕ, ◌≡◌, List, Bool, true, false, cond, not, ◌&&◌, ◌||◌, length, Float}
+use Rattle.std.specs.Prelude.{ℕ, ◌≡◌, List, Bool, true, false, cond, not, ◌&&◌, ◌||◌, length, Float, Result, Ok, Err}
 use Rattle.std.specs.Bool.{beq}
 use Rattle.mesh.specs.Mesh.{halfedge_stride, paired_halfedge, next_halfedge, prev_halfedge, Halfedges}
 use Rattle.mesh.specs.Questions.{has_length}
-use Rattle.mesh.specs.Check as mesh
-use Rattle.mesh.specs.Check.{check_mesh, when_accepted}
+use Rattle.mesh.specs.Check.{Checked, number_of, place_of, check_mesh, answer_of, when_accepted}
 use Rattle.common.specs.Fold.{fold_to}
-use Rattle.mesh.specs.declared.Checked.{Checked}
-use Rattle.mesh.specs.declared.Checked.TheVariants.{Accepted, Refused as CheckRefused}
+use Rattle.mesh.specs.declared.Refusal.{Refusal}
 use Rattle.smoothing.specs.Lists.{is_marked_inside_quad}
-use Rattle.validate.specs.declared.Validity.{Validity}
-use Rattle.validate.specs.declared.Validity.TheVariants.{Valid, Refused}
 
 -- ---- the marks
 
@@ -40,31 +36,22 @@ valid_tangents H T n = cond (has_length (length T) n 4) (fold_to (valid_so_far H
 abbrev pub lengths_fit : Halfedges → List Float → ℕ → ℕ → Bool
 lengths_fit H P n p = has_length H.numbers n halfedge_stride && has_length (length P) p 3
 
--- the answer after the questions 1 to 7
-abbrev pub validity_of : Checked → Bool → Validity
-validity_of Accepted valid = Valid valid
-validity_of (CheckRefused number place) valid = Refused number place
+-- whether the marks are valid, or the refusal
+abbrev pub Validity : Type 0
+Validity = Result Bool Refusal
 
 -- the answer, for every input
 abbrev pub valid_answer : Halfedges → List Float → List Float → ℕ → ℕ → Validity
-valid_answer H P T n p = validity_of (check_mesh H n p (lengths_fit H P n p)) (valid_tangents H T n)
+valid_answer H P T n p = answer_of (check_mesh H n p (lengths_fit H P n p)) (valid_tangents H T n)
 
--- document 01's number and place of an answer, 0 for a mesh that got through; and its value: 1 for yes, 0 for no, and 0 for a refused call, which has none
-abbrev pub number_of : Validity → ℕ
-number_of (Valid valid) = 0
-number_of (Refused number place) = number
-
-abbrev pub place_of : Validity → ℕ
-place_of (Valid valid) = 0
-place_of (Refused number place) = place
-
+-- document 01's value of an answer: 1 for yes, 0 for no, and 0 for a refused call, which has none
 abbrev pub value_of : Validity → ℕ
-value_of (Valid true) = 1
-value_of (Valid false) = 0
-value_of (Refused number place) = 0
+value_of (Ok true) = 1
+value_of (Ok false) = 0
+value_of (Err refusal) = 0
 
 -- what the definitions give of an answer `r`, after the answer `checked` of the questions, where the marks are `valid`: number, place and value
 pub record Values (checked : Checked) (valid : Bool) (r : Validity) : Type 0 where
-  pub number : number_of r ≡ mesh.number_of checked
-  pub place : place_of r ≡ mesh.place_of checked
+  pub number : number_of r ≡ number_of checked
+  pub place : place_of r ≡ place_of checked
   pub value : value_of r ≡ when_accepted checked (cond valid 1 0) 0

@@ -7,45 +7,18 @@ ghost use Rattle.mesh.specs.Mesh.{halfedge_stride, as_halfedges};
 ghost use Rattle.mesh.specs.Check.{check_mesh};
 ghost use Rattle.common.specs.Fold.{fold_to};
 ghost use Rattle.mesh.specs.Sound.{Sound};
-ghost use Rattle.validate.specs.Validate.{valid_so_far, valid_tangents, lengths_fit, valid_answer, number_of, place_of, value_of, Values};
+ghost use Rattle.validate.specs.Validate.{valid_so_far, valid_tangents, lengths_fit, valid_answer, value_of, Values};
 ghost use Rattle.validate.specs.Marks.{mark_valid, triangle_valid, MarkIn, TriangleIn, Lists};
 
-use mesh::Checked;
+use mesh::Refusal;
 
-// The answer of the call.
-#[derive(Clone, Copy)]
-pub enum Validity {
-    Valid(bool),
-    Refused { number: usize, place: usize },
-}
-
-pub fn number_of(validity: Validity) -> usize
-    ensures { result ≡ number_of validity }
-{
-    match validity {
-        Validity::Valid(_) => 0,
-        Validity::Refused { number, place: _ } => number,
-    }
-}
-
-pub fn place_of(validity: Validity) -> usize
-    ensures { result ≡ place_of validity }
-{
-    match validity {
-        Validity::Valid(_) => 0,
-        Validity::Refused { number: _, place } => place,
-    }
-}
-
-pub fn value_of(validity: Validity) -> usize
+// The value of an answer: 1 for yes, 0 for no, and 0 where it is refused.
+pub fn value_of(validity: Result<bool, Refusal>) -> usize
     ensures { result ≡ value_of validity }
 {
     match validity {
-        Validity::Valid(valid) => if valid { 1 } else { 0 },
-        Validity::Refused {
-            number: _,
-            place: _,
-        } => 0,
+        Ok(valid) => valid as usize,
+        Err(_) => 0,
     }
 }
 
@@ -121,16 +94,19 @@ fn lengths_fit(n: usize, p: usize, h: &[i32], pos: &[f64]) -> bool
 }
 
 // The public call, for lists of any length and content. Of the positions only the length is asked about.
-pub fn valid_tangents(n: usize, p: usize, h: &[i32], pos: &[f64], t: &[f64]) -> Validity
+pub fn valid_tangents(
+    n: usize,
+    p: usize,
+    h: &[i32],
+    pos: &[f64],
+    t: &[f64],
+) -> Result<bool, Refusal>
     ensures answer { result ≡ valid_answer (as_halfedges h.now) pos.now t.now n p }
     ensures values { Values (check_mesh (as_halfedges h.now) n p (lengths_fit (as_halfedges h.now) pos.now n p)) (valid_tangents (as_halfedges h.now) t.now n) result }
 {
     let checked = mesh::check_mesh(h, n, p, lengths_fit(n, p, h, pos));
-    let Checked::Accepted = checked else {
-        return Validity::Refused {
-            number: mesh::number_of(checked),
-            place: mesh::place_of(checked),
-        };
+    let Ok(()) = checked else {
+        return mesh::refused(checked);
     };
-    Validity::Valid(marks_valid(n, p, h, t))
+    Ok(marks_valid(n, p, h, t))
 }

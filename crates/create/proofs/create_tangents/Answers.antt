@@ -7,17 +7,16 @@ use lib.ListN.{length}
 use lib.IntN.{ℤ}
 use lib.Ieee.{Float}
 use Rattle.mesh.specs.Mesh.{as_halfedges}
-use Rattle.mesh.specs.declared.Checked.{Checked}
-use Rattle.mesh.specs.declared.Checked.TheVariants.{Accepted}
-use Rattle.create_shared.specs.Answer.{directionless_of, checked_of}
-use Rattle.create_shared.proofs.Answered.{values_of, refused_answer}
+use Rattle.std.proofs.Common.{Ok}
+use Rattle.mesh.specs.Check.{Checked}
+use Rattle.create_shared.proofs.Answered.{values_of}
 use Rattle.create_smoothness.specs.Entries.{entries_of}
 use Rattle.create_smoothness.specs.EntrySmoothness.{EntriesIn}
 use Rattle.create_smoothness.proofs.Flat.{flat_entries_in}
 use Rattle.create.specs.Create.{lists_fit, scratch_fits, check_create, check_lists, tangents_after, create_answer}
 use Rattle.create.proofs.Accepted.{AcceptedLists, accepted_lists, made}
 use Rattle.create.proofs.create_tangents.Goals as goal
-use Rattle.create.proofs.create_tangents.Goals.{After-check_create-checked, After-answer-2}
+use Rattle.create.proofs.create_tangents.Goals.{After-check_create-checked, After-make_tangents-directionless}
 
 -- the answer of the questions, from what the calls answer
 answer : (h : List ℤ) (P N A : List Float) (R : List ℤ) (I : List ℕ) (Q T : List Float) (X F : List ℕ) (S D : List Float) (C L : List ℕ) (n p : ℕ) {lists scratch lengths : Bool} {checked : Checked}
@@ -34,56 +33,56 @@ checked_is c =
     let a = c.args in
     answer a.h.now a.pos.now a.normals.now a.face_normals.now a.refs.now a.entries.now a.values.now a.t.now a.fixed.now a.flat.now a.smooth.now a.desired.now a.at.now a.link.now a.n a.p c.lists_fit-lists.ensures c.scratch_lists_fit-scratch.ensures c.both-lengths.ensures c.check_create-checked.ensures
 
-lists : (c : After-check_create-checked) → c.check_create-checked.result ≡ Accepted → let a = c.args in AcceptedLists (as_halfedges a.h.now) a.pos.now a.normals.now a.face_normals.now a.entries.now a.values.now a.t.now a.fixed.now a.flat.now a.smooth.now a.desired.now a.at.now a.link.now a.n a.p
+lists : (c : After-check_create-checked) → c.check_create-checked.result ≡ Ok tt → let a = c.args in AcceptedLists (as_halfedges a.h.now) a.pos.now a.normals.now a.face_normals.now a.entries.now a.values.now a.t.now a.fixed.now a.flat.now a.smooth.now a.desired.now a.at.now a.link.now a.n a.p
 lists c e =
     let a = c.args in
     accepted_lists (as_halfedges a.h.now) a.pos.now a.normals.now a.face_normals.now a.refs.now a.entries.now a.values.now a.t.now a.fixed.now a.flat.now a.smooth.now a.desired.now a.at.now a.link.now a.n a.p (sym (checked_is c) ∙ e)
 
 -- what an accepted call answers and leaves
-answered : (c : After-answer-2) → let a = c.args in c.check_create-checked.result ≡ check_lists (as_halfedges a.h.now) a.pos.now a.normals.now a.face_normals.now a.refs.now a.entries.now a.values.now a.t.now a.fixed.now a.flat.now a.smooth.now a.desired.now a.at.now a.link.now a.n a.p
-    → (c.answer-2.result ≡ create_answer (as_halfedges a.h.now) a.pos.now a.normals.now a.face_normals.now a.refs.now a.entries.now a.values.now a.t.now a.fixed.now a.flat.now a.smooth.now a.desired.now a.at.now a.link.now a.old a.n a.p)
-    × (c.make_tangents-directionless.new.t ≡ tangents_after (checked_of c.answer-2.result) (as_halfedges a.h.now) a.pos.now a.normals.now a.face_normals.now a.refs.now (entries_of a.entries.now a.values.now) a.t.now a.old a.n a.p)
-    × (directionless_of c.answer-2.result ≤ 2 * a.n)
+answered : (c : After-make_tangents-directionless) → let a = c.args in c.check_create-checked.result ≡ check_lists (as_halfedges a.h.now) a.pos.now a.normals.now a.face_normals.now a.refs.now a.entries.now a.values.now a.t.now a.fixed.now a.flat.now a.smooth.now a.desired.now a.at.now a.link.now a.n a.p
+    → (Ok c.make_tangents-directionless.result ≡ create_answer (as_halfedges a.h.now) a.pos.now a.normals.now a.face_normals.now a.refs.now a.entries.now a.values.now a.t.now a.fixed.now a.flat.now a.smooth.now a.desired.now a.at.now a.link.now a.old a.n a.p)
+    × (c.make_tangents-directionless.new.t ≡ tangents_after (Ok tt) (as_halfedges a.h.now) a.pos.now a.normals.now a.face_normals.now a.refs.now (entries_of a.entries.now a.values.now) a.t.now a.old a.n a.p)
+    × (c.make_tangents-directionless.result ≤ 2 * a.n)
 answered c is =
     let a = c.args in
     let m = c.make_tangents-directionless in
     made (as_halfedges a.h.now) a.pos.now a.normals.now a.face_normals.now a.refs.now a.entries.now a.values.now a.t.now a.fixed.now a.flat.now a.smooth.now a.desired.now a.at.now a.link.now a.n a.p (entries_of a.entries.now a.values.now) a.old is (λ w. flat_entries_in a.entries.now a.values.now a.n w.values w.named w.clear)
-    c.in-Accepted.is c.entry_smoothness.ensures m.ensures.tangents m.ensures.directionless c.answer-2.ensures
+    c.in-Ok.is c.entry_smoothness.ensures m.ensures.tangents m.ensures.directionless
 
 pub returns-in_default-clause-answer : goal.returns-in_default-clause-answer
 returns-in_default-clause-answer c =
-    refused_answer 0 _ (checked_is (goal.at.returns-in_default-clause-answer c).After-check_create-checked) c.in_default.is c.answer.ensures
+    rw (checked_is (goal.at.returns-in_default-clause-answer c).After-check_create-checked) at c.refused.ensures.answer _
 
 pub returns-in_default-clause-values : goal.returns-in_default-clause-values
 returns-in_default-clause-values c =
-    values_of _ _ (refused_answer 0 _ (checked_is (goal.at.returns-in_default-clause-values c).After-check_create-checked) c.in_default.is c.answer.ensures)
+    values_of _ _ (rw (checked_is (goal.at.returns-in_default-clause-values c).After-check_create-checked) at c.refused.ensures.answer _)
 
 pub entry_smoothness-requires : goal.entry_smoothness-requires
 entry_smoothness-requires c =
     let a = c.args in
-    let w = lists (goal.at.entry_smoothness-requires c).After-check_create-checked c.in-Accepted.is in
+    let w = lists (goal.at.entry_smoothness-requires c).After-check_create-checked c.in-Ok.is in
     (w.values, subst (EntriesIn (entries_of a.entries.now a.values.now)) (sym w.smooth) (flat_entries_in a.entries.now a.values.now a.n w.values w.named w.clear))
 
 pub make_tangents-directionless-requires : goal.make_tangents-directionless-requires
 make_tangents-directionless-requires c =
-    (lists (goal.at.make_tangents-directionless-requires c).After-check_create-checked c.in-Accepted.is).lists c.entry_smoothness.auto.smooth
+    (lists (goal.at.make_tangents-directionless-requires c).After-check_create-checked c.in-Ok.is).lists c.entry_smoothness.auto.smooth
 
 pub returns-clause-answer : goal.returns-clause-answer
 returns-clause-answer c =
     let k = goal.at.returns-clause-answer c in
-    (answered k.After-answer-2 (checked_is k.After-check_create-checked)).0
+    (answered k.After-make_tangents-directionless (checked_is k.After-check_create-checked)).0
 
 pub returns-clause-tangents : goal.returns-clause-tangents
 returns-clause-tangents c =
     let k = goal.at.returns-clause-tangents c in
-    (answered k.After-answer-2 (checked_is k.After-check_create-checked)).1
+    (answered k.After-make_tangents-directionless (checked_is k.After-check_create-checked)).1
 
 pub returns-clause-bound : goal.returns-clause-bound
 returns-clause-bound c =
     let k = goal.at.returns-clause-bound c in
-    (answered k.After-answer-2 (checked_is k.After-check_create-checked)).2
+    (answered k.After-make_tangents-directionless (checked_is k.After-check_create-checked)).2
 
 pub returns-clause-values : goal.returns-clause-values
 returns-clause-values c =
     let k = goal.at.returns-clause-values c in
-    values_of _ _ (answered k.After-answer-2 (checked_is k.After-check_create-checked)).0
+    values_of _ _ (answered k.After-make_tangents-directionless (checked_is k.After-check_create-checked)).0

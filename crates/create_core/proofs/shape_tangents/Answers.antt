@@ -33,7 +33,7 @@ returns-clause-tangents c =
     let g = c.find_creases in
     c.shape_verts-creases.ensures.tangents
     ∙ shaped_is (as_halfedges a.h.now) a.refs.now a.pos.now a.normals.now a.face_normals.now (is_inside_quad (as_halfedges a.h.now) a.refs.now a.t.now a.old) a.smooth.now a.n _ _ _ _ _ _ _
-    (ap is_flat f.ensures.flat ∙ flags_same (as_halfedges a.h.now) a.refs.now a.n) g.ensures.0 f.ensures.tangents c.fill_bytes.ensures c.requires.fixed (g.auto.at ∙ f.auto.at)
+    (ap is_flat f.ensures.flat ∙ flags_same (as_halfedges a.h.now) a.refs.now a.n) g.ensures.0 f.ensures.tangents (c.fill.ensures.after (λ y e. e)) c.requires.fixed (g.auto.at ∙ f.auto.at)
 
 pub returns-clause-directionless : goal.returns-clause-directionless
 returns-clause-directionless c =

@@ -8,7 +8,7 @@ use Rattle.create_creases.proofs.link_creases.Goals as goal
 pub loop-f-init : goal.loop-f-init
 loop-f-init c =
     let a = c.args in
-    (omega arith, λ v l. rw (creases_end (as_halfedges a.h.now) a.smooth.now v a.n) (c.requires.1 v l))
+    λ v l. rw (creases_end (as_halfedges a.h.now) a.smooth.now v a.n) (c.requires.1 v l)
 
 pub returns : goal.returns
 returns c =
@@ -16,5 +16,5 @@ returns c =
     let a = c.args in
     let l = c.loop-f in
     let z : l.f ≡ 0 = omega arith in
-    let i = l.invariant.1 v (omega arith) in
+    let i = l.invariant v (omega arith) in
     rw (creases_all (as_halfedges a.h.now) a.smooth.now v a.n) at (rw z at i)

@@ -8,16 +8,16 @@ use Rattle.create_edges.proofs.add_flat_boundaries.Goals as goal
 
 pub loop-e-init : goal.loop-e-init
 loop-e-init c =
-    (omega arith, sym (fold_none _ _))
+    sym (fold_none _ _)
 
 pub loop-e-preserved : goal.loop-e-preserved
 loop-e-preserved c =
     let l = c.loop-e in
-    (omega arith, fold_turn _ _ _ _ l.e l.invariant.1 c.add_flat_boundary.ensures)
+    fold_turn _ _ _ _ l.e l.invariant c.add_flat_boundary.ensures
 
 pub returns : goal.returns
 unfolding smoothness
 returns c =
     let l = c.loop-e in
     let q : l.e ≡ length c.args.flat.now = omega arith in
-    rw q at l.invariant.1
+    rw q at l.invariant

@@ -1,7 +1,5 @@
 -- `create_edges::add_flat_boundaries` meets its contract. The invariant: the list is the fold over the halfedges passed. Assumes nothing.
-use Prim.Native.Nat.{◌-◌, ◌≤◌}
 use mathlib.Core.Path.{◌≡◌}
-use lib.ListN.{length}
 use Rattle.common.specs.Fold.{fold_to}
 use Rattle.mesh.specs.Mesh.{as_halfedges}
 use Rattle.create_shared.specs.Faces.{is_flat}
@@ -9,7 +7,4 @@ use Rattle.create_edges.specs.Smoothness.{add_flat_boundary}
 use Rattle.create_edges.proofs.add_flat_boundaries.Given as goal
 
 abbrev pub invariant-loop-e : goal.invariant-loop-e
-invariant-loop-e l = (l.e ≤ length l.flat) × (l.smooth ≡ fold_to (add_flat_boundary (as_halfedges l.h) l.refs (is_flat l.flat)) l.initial.smooth l.e)
-
-abbrev pub decreases-loop-e : goal.decreases-loop-e
-decreases-loop-e l = length l.flat - l.e
+invariant-loop-e l = l.smooth ≡ fold_to (add_flat_boundary (as_halfedges l.h) l.refs (is_flat l.flat)) l.initial.smooth l.e

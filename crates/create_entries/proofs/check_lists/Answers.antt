@@ -6,7 +6,7 @@ pub returns : goal.returns
 unfolding as_halfedges
 returns c =
     simp (
-      c.check_passed.ensures,
+      c.check_sharp.ensures,
       c.check_refs.ensures,
       c.check_mesh-checked.ensures,
       c.both.ensures,

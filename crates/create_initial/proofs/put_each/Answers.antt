@@ -8,7 +8,7 @@ use Rattle.common.specs.Count.{sum, count_below}
 use Rattle.common.proofs.Fold.{fold_none}
 use Rattle.common.proofs.Count.{one_at_most}
 use native.Mathlib.Omega.{arith}
-use mathlib.Core.Path.{◌≡◌, refl, sym, ◌∙◌}
+use mathlib.Core.Path.{refl, sym}
 use mathlib.Core.Bool.{true}
 use Rattle.mesh.specs.Mesh.{as_halfedges}
 use Rattle.create_initial.proofs.put_each.Goals as goal
@@ -16,7 +16,7 @@ use Rattle.create_initial.proofs.put_each.Goals as goal
 pub loop-e-init : goal.loop-e-init
 unfolding count_below sum
 loop-e-init c =
-    (omega arith, refl, sym (fold_none _ _), λ x h. refl, refl)
+    record { tangents = sym (fold_none _ _); weights = λ x h. refl; directionless = refl }
 
 pub overflow_add-directionless : goal.overflow_add-directionless
 overflow_add-directionless c =
@@ -25,7 +25,7 @@ overflow_add-directionless c =
     let H = as_halfedges a.h.now in
     omega (
       arith,
-      l.invariant.4,
+      l.invariant.directionless,
       firsts_within H a.pos.now (is_inside_quad H a.refs.now a.t.now true) l.e,
       c.put_first_tangent-directionless.ensures.directionless,
       one_at_most (first_directionless H a.pos.now (is_inside_quad H a.refs.now l.t true) l.e),
@@ -37,16 +37,9 @@ loop-e-preserved c =
     let l = c.loop-e in
     let p = c.put_first_tangent-directionless in
     let H = as_halfedges a.h.now in
-    let t = first_turn H a.refs.now a.pos.now a.normals.now a.face_normals.now true (face_at a.at.now) a.t.now l.t p.new.t l.e l.invariant.2 l.invariant.3 p.ensures.tangents in (
-      omega arith,
-      p.auto.t ∙ l.invariant.1,
-      t.0,
-      t.1,
-      first_counts H a.refs.now a.pos.now true a.t.now l.t l.e l.directionless p.result l.invariant.3 l.invariant.4 p.ensures.directionless,
-    )
-
-pub returns-clause-directionless : goal.returns-clause-directionless
-returns-clause-directionless c =
-    let l = c.loop-e in
-    let q : l.e ≡ c.args.n = omega arith in
-    rw q at l.invariant.4
+    let t = first_turn H a.refs.now a.pos.now a.normals.now a.face_normals.now true (face_at a.at.now) a.t.now l.t p.new.t l.e l.invariant.tangents l.invariant.weights p.ensures.tangents in
+    record {
+      tangents = t.0;
+      weights = t.1;
+      directionless = first_counts H a.refs.now a.pos.now true a.t.now l.t l.e l.directionless p.result l.invariant.weights l.invariant.directionless p.ensures.directionless;
+    }

@@ -4,19 +4,15 @@ use Rattle.create_initial.specs.Lent.{face_at}
 use Rattle.smoothing.specs.Edges.{is_inside_quad}
 use Rattle.smoothing.specs.Lists.{weight_at}
 use Rattle.common.specs.Fold.{fold_to}
-use lib.ListN.{length}
 use mathlib.Core.Path.{◌≡◌}
 use mathlib.Core.Bool.{true}
-use Prim.Native.Nat.{ℕ, ◌-◌, ◌≤◌}
+use Prim.Native.Nat.{ℕ, ◌≤◌}
 use Rattle.mesh.specs.Mesh.{as_halfedges}
 use Rattle.create_initial.proofs.put_each.Given as goal
 
 abbrev pub invariant-loop-e : goal.invariant-loop-e
-invariant-loop-e l =
-    (l.e ≤ l.n) × (length l.t ≡ length l.initial.t)
-    × (l.t ≡ fold_to (put_first_tangent (as_halfedges l.h) l.pos l.normals l.face_normals (is_inside_quad (as_halfedges l.h) l.refs l.initial.t true) (face_at l.at)) l.initial.t l.e)
-    × ((x : ℕ) → l.e ≤ x → weight_at l.t x ≡ weight_at l.initial.t x)
-    × (l.directionless ≡ firsts_directionless (as_halfedges l.h) l.pos (is_inside_quad (as_halfedges l.h) l.refs l.initial.t true) l.e)
-
-abbrev pub decreases-loop-e : goal.decreases-loop-e
-decreases-loop-e l = l.n - l.e
+invariant-loop-e l = record {
+  tangents : l.t ≡ fold_to (put_first_tangent (as_halfedges l.h) l.pos l.normals l.face_normals (is_inside_quad (as_halfedges l.h) l.refs l.initial.t true) (face_at l.at)) l.initial.t l.e;
+  weights : (x : ℕ) → l.e ≤ x → weight_at l.t x ≡ weight_at l.initial.t x;
+  directionless : l.directionless ≡ firsts_directionless (as_halfedges l.h) l.pos (is_inside_quad (as_halfedges l.h) l.refs l.initial.t true) l.e;
+}

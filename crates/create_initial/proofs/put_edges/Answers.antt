@@ -11,7 +11,7 @@ use Rattle.create_initial.proofs.put_edges.Goals as goal
 pub loop-e-init : goal.loop-e-init
 unfolding sum
 loop-e-init c =
-    (omega arith, refl, sym (fold_none _ _), refl)
+    record { tangents = sym (fold_none _ _); directionless = refl }
 
 pub overflow_add-directionless : goal.overflow_add-directionless
 overflow_add-directionless c =
@@ -20,7 +20,7 @@ overflow_add-directionless c =
     let p = c.put_edge-directionless in
     omega (
       arith,
-      edge_counts (as_halfedges a.h.now) a.refs.now a.pos.now a.t.now l.t l.e l.directionless p.result l.invariant.3 p.ensures.directionless,
+      edge_counts (as_halfedges a.h.now) a.refs.now a.pos.now a.t.now l.t l.e l.directionless p.result l.invariant.directionless p.ensures.directionless,
       edges_room c.requires a.refs.now (l.e + 1) (omega arith),
     )
 
@@ -28,21 +28,20 @@ pub loop-e-preserved : goal.loop-e-preserved
 loop-e-preserved c =
     let a = c.args in
     let l = c.loop-e in
-    let p = c.put_edge-directionless in (
-      omega arith,
-      p.auto.t ∙ l.invariant.1,
-      edge_turn (as_halfedges a.h.now) a.refs.now a.pos.now a.normals.now a.face_normals.now a.at.now a.t.now l.t p.new.t l.e l.invariant.2 p.ensures.tangents,
-      edge_counts (as_halfedges a.h.now) a.refs.now a.pos.now a.t.now l.t l.e l.directionless p.result l.invariant.3 p.ensures.directionless,
-    )
+    let p = c.put_edge-directionless in
+    record {
+      tangents = edge_turn (as_halfedges a.h.now) a.refs.now a.pos.now a.normals.now a.face_normals.now a.at.now a.t.now l.t p.new.t l.e l.invariant.tangents p.ensures.tangents;
+      directionless = edge_counts (as_halfedges a.h.now) a.refs.now a.pos.now a.t.now l.t l.e l.directionless p.result l.invariant.directionless p.ensures.directionless;
+    }
 
 pub returns-clause-tangents : goal.returns-clause-tangents
 returns-clause-tangents c =
     let l = c.loop-e in
     let q : l.e ≡ c.args.n = omega arith in
-    (rw q at l.invariant.2) ∙ edges_are c.requires c.args.refs.now
+    (rw q at l.invariant.tangents) ∙ edges_are c.requires c.args.refs.now
 
 pub returns-clause-directionless : goal.returns-clause-directionless
 returns-clause-directionless c =
     let l = c.loop-e in
     let q : l.e ≡ c.args.n = omega arith in
-    (rw q at l.invariant.3) ∙ edges_count c.requires c.args.refs.now
+    (rw q at l.invariant.directionless) ∙ edges_count c.requires c.args.refs.now

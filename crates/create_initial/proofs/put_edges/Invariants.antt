@@ -1,8 +1,6 @@
 -- `create_initial::put_edges` meets its contract. The invariant: the list is the fold over the edges passed, and the count the sum over them, which at the end are those over the halfedges. Assumes nothing.
-use Prim.Native.Nat.{◌-◌, ◌≤◌}
 use mathlib.Core.Path.{◌≡◌}
 use mathlib.Core.Bool.{false}
-use lib.ListN.{length}
 use Rattle.common.specs.Fold.{fold_to}
 use Rattle.common.specs.Count.{sum}
 use Rattle.mesh.specs.Mesh.{as_halfedges}
@@ -13,10 +11,7 @@ use Rattle.create_initial.specs.Lent.{first_at, edge_directionless}
 use Rattle.create_initial.proofs.put_edges.Given as goal
 
 abbrev pub invariant-loop-e : goal.invariant-loop-e
-invariant-loop-e l =
-    (l.e ≤ l.n) × (length l.t ≡ length l.initial.t)
-    × (l.t ≡ fold_to (put_edge put_tangent (as_halfedges l.h) (first_at (as_halfedges l.h) l.pos l.normals l.face_normals l.refs l.at l.initial.t false)) l.initial.t l.e)
-    × (l.directionless ≡ sum l.e (edge_directionless (as_halfedges l.h) l.pos (is_inside_quad (as_halfedges l.h) l.refs l.initial.t false)))
-
-abbrev pub decreases-loop-e : goal.decreases-loop-e
-decreases-loop-e l = l.n - l.e
+invariant-loop-e l = record {
+  tangents : l.t ≡ fold_to (put_edge put_tangent (as_halfedges l.h) (first_at (as_halfedges l.h) l.pos l.normals l.face_normals l.refs l.at l.initial.t false)) l.initial.t l.e;
+  directionless : l.directionless ≡ sum l.e (edge_directionless (as_halfedges l.h) l.pos (is_inside_quad (as_halfedges l.h) l.refs l.initial.t false));
+}

@@ -1,6 +1,4 @@
 -- `create_initial::put_first_tangent` meets its contract: the code is the definition. Assumes nothing.
-use mathlib.Core.Path.{ap}
-use Rattle.smoothing.specs.declared.CircularTangent.{CircularTangent}
 use Rattle.smoothing.proofs.Directions.{tangent_of}
 use Rattle.create_initial.specs.First.{put_first_tangent}
 use Rattle.create_initial.proofs.put_first_tangent.Goals as goal
@@ -9,7 +7,3 @@ pub returns-clause-tangents : goal.returns-clause-tangents
 unfolding put_first_tangent
 returns-clause-tangents c =
     simp (← tangent_of c.first_tangent-first.ensures) c.put_tangent.ensures
-
-pub returns-clause-directionless : goal.returns-clause-directionless
-returns-clause-directionless c =
-    simp (← ap (λ (t : CircularTangent). t.directionless) c.first_tangent-first.ensures) c.one_if.ensures.0

@@ -1,5 +1,5 @@
 -- `create_shared::vert_flat_face` meets its contract. The invariant: each place holds the fold over the halfedges passed. Assumes nothing.
-use Prim.Native.Nat.{ℕ, ◌-◌, ◌≤◌, ◌<◌}
+use Prim.Native.Nat.{ℕ, ◌<◌}
 use mathlib.Core.Path.{◌≡◌}
 use lib.ListN.{length, get_or}
 use Rattle.common.specs.Fold.{fold_to}
@@ -10,7 +10,4 @@ use Rattle.mesh.specs.Mesh.{as_halfedges}
 use Rattle.create_shared.proofs.vert_flat_face.Given as goal
 
 abbrev pub invariant-loop-e : goal.invariant-loop-e
-invariant-loop-e l = (l.e ≤ length l.flat) × ((v : ℕ) → v < length l.initial.at → face_of (get_or l.at v 0) ≡ fold_to (vert_face_at (as_halfedges l.h) l.refs (is_flat l.flat) v) NoFace l.e)
-
-abbrev pub decreases-loop-e : goal.decreases-loop-e
-decreases-loop-e l = length l.flat - l.e
+invariant-loop-e l = (v : ℕ) → v < length l.initial.at → face_of (get_or l.at v 0) ≡ fold_to (vert_face_at (as_halfedges l.h) l.refs (is_flat l.flat) v) NoFace l.e

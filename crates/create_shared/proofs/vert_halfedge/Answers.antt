@@ -35,13 +35,13 @@ first_put H n L u e v p le l s i = go (eqb u v) refl
 pub loop-e-init : goal.loop-e-init
 loop-e-init c =
     let n = c.args.n in
-    (omega arith, λ v l. filled_at c.fill_numbers.new.s (length c.args.at.now) n 0 v c.fill_numbers.ensures l ∙ sym (lowest_end (starts_elsewhere (as_halfedges c.args.h.now) v) n n (omega arith)))
+    λ v l. filled_at c.fill.new.self (length c.args.at.now) n 0 v (c.fill.ensures.after (λ y e. e)) l ∙ sym (lowest_end (starts_elsewhere (as_halfedges c.args.h.now) v) n n (omega arith))
 
 pub loop-e-preserved : goal.loop-e-preserved
 loop-e-preserved c =
     let l = c.loop-e in
     let a = c.args in
-    (omega arith, λ v h. first_put (as_halfedges a.h.now) a.n l.at c.start_vert-v.result l.e v (omega arith) (omega arith) (omega arith) c.start_vert-v.ensures (l.invariant.1 v h))
+    λ v h. first_put (as_halfedges a.h.now) a.n l.at c.start_vert-v.result l.e v (omega arith) (omega arith) (omega arith) c.start_vert-v.ensures (l.invariant v h)
 
 pub returns : goal.returns
 unfolding vert_halfedge
@@ -49,5 +49,5 @@ returns c =
     λ v h.
     let l = c.loop-e in
     let z : l.e ≡ 0 = omega arith in
-    let i = l.invariant.1 v (omega arith) in
+    let i = l.invariant v (omega arith) in
     (rw z at i) ∙ lowest_start _ _

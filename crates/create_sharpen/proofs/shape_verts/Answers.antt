@@ -9,13 +9,13 @@ use Rattle.mesh.specs.Mesh.{as_halfedges}
 use lib.ListN.{length}
 use Prim.Native.Nat.{◌+◌}
 use native.Mathlib.Omega.{arith}
-use mathlib.Core.Path.{◌≡◌, refl, sym, ◌∙◌}
+use mathlib.Core.Path.{◌≡◌, refl, sym}
 use Rattle.create_sharpen.proofs.shape_verts.Goals as goal
 
 pub loop-v-init : goal.loop-v-init
 unfolding sum
 loop-v-init c =
-    (omega arith, refl, refl, sym (fold_none _ _), refl)
+    record { tangents = sym (fold_none _ _); directionless = refl }
 
 pub overflow_add-directionless : goal.overflow_add-directionless
 overflow_add-directionless c =
@@ -25,7 +25,7 @@ overflow_add-directionless c =
     let count = vert_directionless (as_halfedges a.h.now) a.pos.now (pairs_at (as_halfedges a.h.now) a.smooth.now a.n) in
     omega (
       arith,
-      sum_turn count l.v l.directionless m.result l.invariant.4 m.ensures.directionless,
+      sum_turn count l.v l.directionless m.result l.invariant.directionless m.ensures.directionless,
       sum_mono count (l.v + 1) (length a.at.now) (omega arith),
       creases_within c.requires.creases.lists.sound a.pos.now a.smooth.now,
     )
@@ -34,17 +34,15 @@ pub loop-v-preserved : goal.loop-v-preserved
 loop-v-preserved c =
     let a = c.args in
     let l = c.loop-v in
-    let m = c.shape_vert-directionless in (
-      omega arith,
-      m.auto.t ∙ l.invariant.1,
-      m.auto.fixed ∙ l.invariant.2,
-      fold_turn _ _ _ _ l.v l.invariant.3 m.ensures.tangents,
-      sum_turn (vert_directionless (as_halfedges a.h.now) a.pos.now (pairs_at (as_halfedges a.h.now) a.smooth.now a.n)) l.v l.directionless m.result l.invariant.4 m.ensures.directionless,
-    )
+    let m = c.shape_vert-directionless in
+    record {
+      tangents = fold_turn _ _ _ _ l.v l.invariant.tangents m.ensures.tangents;
+      directionless = sum_turn (vert_directionless (as_halfedges a.h.now) a.pos.now (pairs_at (as_halfedges a.h.now) a.smooth.now a.n)) l.v l.directionless m.result l.invariant.directionless m.ensures.directionless;
+    }
 
 pub returns : goal.returns
 unfolding shape_verts
 returns c =
     let l = c.loop-v in
     let q : l.v ≡ length c.args.at.now = omega arith in
-    record { tangents = rw q at l.invariant.3; directionless = rw q at l.invariant.4 }
+    record { tangents = rw q at l.invariant.tangents; directionless = rw q at l.invariant.directionless }

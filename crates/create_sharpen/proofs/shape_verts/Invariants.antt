@@ -2,19 +2,14 @@
 use Rattle.create_shared.specs.Makings.{tangents_of}
 use Rattle.create_sharpen.specs.Shapes.{shape_vert, creases_directionless}
 use Rattle.common.specs.Fold.{fold_to}
-use lib.ListN.{length}
 use Rattle.create_shared.specs.Faces.{is_flat}
 use Rattle.create_creases.specs.Linked.{pairs_at}
 use mathlib.Core.Path.{◌≡◌}
-use Prim.Native.Nat.{◌-◌, ◌≤◌}
 use Rattle.mesh.specs.Mesh.{as_halfedges}
 use Rattle.create_sharpen.proofs.shape_verts.Given as goal
 
 abbrev pub invariant-loop-v : goal.invariant-loop-v
-invariant-loop-v l =
-    (l.v ≤ length l.at) × (length l.t ≡ length l.initial.t) × (length l.fixed ≡ length l.initial.fixed)
-    × (tangents_of l.t l.fixed ≡ fold_to (shape_vert (as_halfedges l.h) l.pos (is_flat l.flat) l.n (pairs_at (as_halfedges l.h) l.smooth l.n)) (tangents_of l.initial.t l.initial.fixed) l.v)
-    × (l.directionless ≡ creases_directionless (as_halfedges l.h) l.pos (pairs_at (as_halfedges l.h) l.smooth l.n) l.v)
-
-abbrev pub decreases-loop-v : goal.decreases-loop-v
-decreases-loop-v l = length l.at - l.v
+invariant-loop-v l = record {
+  tangents : tangents_of l.t l.fixed ≡ fold_to (shape_vert (as_halfedges l.h) l.pos (is_flat l.flat) l.n (pairs_at (as_halfedges l.h) l.smooth l.n)) (tangents_of l.initial.t l.initial.fixed) l.v;
+  directionless : l.directionless ≡ creases_directionless (as_halfedges l.h) l.pos (pairs_at (as_halfedges l.h) l.smooth l.n) l.v;
+}

@@ -6,18 +6,16 @@ use Rattle.create_smoothness.proofs.sharp_smoothness.Goals as goal
 
 pub add_entry-requires : goal.add_entry-requires
 add_entry-requires c =
-    let l = c.loop-k in
-    omega (arith, named_at c.requires no_entry l.k (omega arith))
+    omega (arith, c.fill.ensures.len, named_at c.requires no_entry c.loop-entry.entry-index c.loop-entry-test.true)
 
-pub loop-k-preserved : goal.loop-k-preserved
-loop-k-preserved c =
-    let l = c.loop-k in
-    let more = add_more c.fill_ones.new.smooth c.args.sharp.now no_entry l.k (omega arith) in
-    (omega arith, rw (more, ← l.invariant.1) c.add_entry.ensures)
+pub loop-entry-preserved : goal.loop-entry-preserved
+loop-entry-preserved c =
+    let l = c.loop-entry in
+    rw (add_more c.fill.new.self c.args.sharp.now no_entry l.entry-index c.loop-entry-test.true, ← l.invariant) c.add_entry.ensures
 
 pub returns : goal.returns
 returns c =
-    let l = c.loop-k in
+    let l = c.loop-entry in
     let E = c.args.sharp.now in
-    let q : l.k ≡ length E = omega arith in
-    l.invariant.1 ∙ ap (added c.fill_ones.new.smooth E) q ∙ all_added _ E _ c.fill_ones.ensures
+    let all : l.entry-index ≡ length E = omega arith in
+    l.invariant ∙ ap (added c.fill.new.self E) all ∙ all_added _ E _ (c.fill.ensures.after (λ y e. e))

@@ -13,9 +13,9 @@ returns-in_default c =
 pub linearize_all-requires : goal.linearize_all-requires
 linearize_all-requires c =
     let answer = c.check_mesh-checked.ensures ∙ ap (check_mesh _ _ _) c.lengths_fit.ensures in
-    accepted_lists _ _ _ _ _ (sym answer ∙ c.in-Accepted.is)
+    accepted_lists _ _ _ _ _ (sym answer ∙ c.in-Ok.is)
 
 pub returns : goal.returns
 returns c =
     let answer = c.check_mesh-checked.ensures ∙ ap (check_mesh _ _ _) c.lengths_fit.ensures in
-    record { answer = answer; tangents = rw (sym answer ∙ c.in-Accepted.is) c.linearize_all.ensures; values = values_same answer }
+    record { answer = answer; tangents = rw (sym answer ∙ c.in-Ok.is) c.linearize_all.ensures; values = values_same answer }

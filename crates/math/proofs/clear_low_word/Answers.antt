@@ -1,6 +1,6 @@
--- `math::clear_low_word` meets its contract: the code is the definition, and a number's bits without their low word are a number's. Assumes nothing.
+-- `math::clear_low_word`: a number's bits without their low word are a number's. Assumes nothing.
 use borrow.Author.Tests.{ltb-false}
-use mathlib.Core.Path.{◌≡◌, refl, sym, ap, ◌∙◌, subst}
+use mathlib.Core.Path.{◌≡◌, sym, ap, ◌∙◌, subst}
 use mathlib.Core.Bool.{not}
 use Prim.Native.Nat.{ℕ, ◌+◌, ◌*◌, ◌/◌, ◌%◌, ◌≤◌}
 use native.Mathlib.Omega.{arith}
@@ -8,7 +8,6 @@ use lib.Dec.{T}
 use lib.Ieee.{Float, binary64, fits, is_nan, to_bits}
 use lib.Ieee.Bits.{is_false, of_bits-to_bits, to_bits-lt, nan_bits_is, nan_bits_above}
 use Rattle.float.proofs.Nan.{low_no_nan}
-use Rattle.math.specs.Acos.{clear_low_word}
 use Rattle.math.proofs.clear_low_word.Goals as goal
 
 -- the bits of a number, without the sign, are at most those of infinity
@@ -33,7 +32,3 @@ overflow_mul-result c = omega (arith, to_bits-lt binary64 c.args.x (representabl
 
 pub float_from_bits-result : goal.float_from_bits-result
 float_from_bits-result c = low_no_nan _ (cleared_low _ (number_low c.args.x (representable c) c.requires))
-
-pub returns : goal.returns
-unfolding clear_low_word
-returns c = refl

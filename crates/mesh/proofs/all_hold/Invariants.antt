@@ -1,5 +1,5 @@
--- `mesh::all_hold` meets its contract: what is left to be searched from a triangle on gives what all gives.
-use Prim.Native.Nat.{◌-◌, ◌*◌, ◌/◌}
+-- `mesh::all_hold`: the triangles passed hold.
+use Rattle.std.proofs.Common.{◌*◌, ◌/◌}
 use Rattle.mesh.specs.Mesh.{as_halfedges}
 use Rattle.mesh.specs.All.{triangle_holds}
 use Rattle.mesh.proofs.Search.{Searched}
@@ -7,6 +7,3 @@ use Rattle.mesh.proofs.all_hold.Given as goal
 
 abbrev pub invariant-loop-t : goal.invariant-loop-t
 invariant-loop-t l = Searched (λ k. triangle_holds (as_halfedges l.h) l.n l.p (k * 3)) (l.n / 3) l.t
-
-abbrev pub decreases-loop-t : goal.decreases-loop-t
-decreases-loop-t l = l.n / 3 - l.t

@@ -1,37 +1,31 @@
 -- `mesh::check_mesh` meets its contract.
-use mathlib.Core.Path.{◌≡◌, sym, ◌∙◌}
-use mathlib.Core.Bool.{true, false, ◌&&◌}
-use lib.ListN.{length}
+use Rattle.std.proofs.Common.{rules, ◌≡◌, sym, ◌∙◌, true, ◌&&◌, length}
+use Rattle.mesh.specs.declared.Question.TheVariants.{Counts, Lengths}
 use Rattle.mesh.specs.Mesh.{halfedge_stride, as_halfedges}
 use Rattle.mesh.specs.Questions.{counts_fit, has_length}
 use Rattle.mesh.specs.Check.{check_mesh}
 use Rattle.mesh.specs.All.{triangles_hold, ask_each}
 use Rattle.common.proofs.Tests.{and_true}
-use Rattle.mesh.proofs.Accepted.{sound_accepted, counts_fit_lem}
+use Rattle.mesh.proofs.Accepted.{once_accepted, sound_accepted, counts_fit_lem}
 use Rattle.mesh.proofs.TriangleLaws.{triangles_sound}
 use Rattle.mesh.proofs.check_mesh.Goals as goal
 
-pub returns-then-not-counts_fit : goal.returns-then-not-counts_fit
+pub returns-in_err-once : goal.returns-in_err-once
 unfolding check_mesh
-returns-then-not-counts_fit c =
-    let a = c.args in
-    let misfit : counts_fit a.n a.p ≡ false = sym c.counts_fit.ensures ∙ c.if-not-counts_fit.true in
-    rw misfit
+returns-in_err-once c =
+    rw (sym c.counts_fit.ensures, sym c.once.ensures) (search rules)
 
-pub returns-then-not-lengths : goal.returns-then-not-lengths
+pub returns-in_err-once-2 : goal.returns-in_err-once-2
 unfolding check_mesh
-returns-then-not-lengths c =
-    let a = c.args in
-    let fit : counts_fit a.n a.p ≡ true = sym c.counts_fit.ensures ∙ c.if-not-counts_fit.false in
-    let short : a.lengths ≡ false = c.if-not-lengths.true in
-    rw (fit, short)
+returns-in_err-once-2 c =
+    rw (sym c.counts_fit.ensures, sym c.once.ensures, c.in_ok-once.was, sym c.once-2.ensures) (search rules)
 
 pub returns-then-all_hold : goal.returns-then-all_hold
 returns-then-all_hold c =
     let a = c.args in
     let H = as_halfedges a.h.now in
-    let fit : counts_fit a.n a.p ≡ true = sym c.counts_fit.ensures ∙ c.if-not-counts_fit.false in
-    let long : a.lengths ≡ true = c.if-not-lengths.false in
+    let fit : counts_fit a.n a.p ≡ true = sym c.counts_fit.ensures ∙ once_accepted Counts _ (sym c.once.ensures ∙ c.in_ok-once.was) in
+    let long : a.lengths ≡ true = once_accepted Lengths _ (sym c.once-2.ensures ∙ c.in_ok-once-2.was) in
     let all : has_length (length a.h.now) a.n halfedge_stride && triangles_hold H a.n a.p ≡ true = sym c.all_hold.ensures ∙ c.if-all_hold.true in
     let few = counts_fit_lem a.n a.p fit in
     let yes : triangles_hold H a.n a.p ≡ true = (and_true (has_length (length a.h.now) a.n halfedge_stride) _ all).1 in
@@ -40,7 +34,4 @@ returns-then-all_hold c =
 pub returns : goal.returns
 unfolding check_mesh ask_each
 returns c =
-    let a = c.args in
-    let fit : counts_fit a.n a.p ≡ true = sym c.counts_fit.ensures ∙ c.if-not-counts_fit.false in
-    let long : a.lengths ≡ true = c.if-not-lengths.false in
-    rw (fit, long) c.ask_each.ensures
+    rw (sym c.counts_fit.ensures, sym c.once.ensures, c.in_ok-once.was, sym c.once-2.ensures, c.in_ok-once-2.was) c.ask_each.ensures

@@ -1,5 +1,4 @@
 -- `normals_core::make_tangents` meets its contract: four calls in a row. Assumes nothing.
-use mathlib.Core.Path.{◌∙◌}
 use Rattle.normals_state.specs.State.{get_normal}
 use Rattle.mesh.specs.Mesh.{as_halfedges}
 use Rattle.normals_state.proofs.Units.{units_in}
@@ -13,7 +12,3 @@ normal_tangents-directionless-requires c =
 pub returns-clause-tangents : goal.returns-clause-tangents
 returns-clause-tangents c =
     let a = c.args in created (as_halfedges a.h.now) a.refs.now a.pos.now a.normals.now a.face_normals.now (get_normal a.h.now a.rows.now) a.t.now a.old a.n a.p _ _ _ _ c.normal_tangents-directionless.ensures.tangents c.requires.points c.spread_tangents.ensures.report.tangents_are
-
-pub returns-clause-directionless : goal.returns-clause-directionless
-returns-clause-directionless c =
-    c.normal_tangents-directionless.ensures.directionless ∙ rw c.requires.points

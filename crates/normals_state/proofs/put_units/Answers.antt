@@ -1,24 +1,23 @@
 -- `normals_state::put_units` meets its contract. The invariant: the list is the fold over the triangles passed. Assumes nothing.
 use Prim.Native.Nat.{◌/◌}
 use native.Mathlib.Omega.{arith}
-use mathlib.Core.Path.{◌≡◌, refl, sym, ◌∙◌}
-use Rattle.common.proofs.Fold.{fold_none, fold_next}
+use mathlib.Core.Path.{◌≡◌, sym}
+use Rattle.common.proofs.Fold.{fold_none, fold_turn}
 use Rattle.normals_state.specs.Units.{put_units}
 use Rattle.normals_state.proofs.put_units.Goals as goal
 
 pub loop-t-init : goal.loop-t-init
 loop-t-init c =
-    (omega arith, refl, sym (fold_none _ _))
+    sym (fold_none _ _)
 
 pub loop-t-preserved : goal.loop-t-preserved
 loop-t-preserved c =
     let l = c.loop-t in
-    let m = c.put_unit in
-    (omega arith, m.auto.units ∙ l.invariant.1, m.ensures ∙ rw l.invariant.2 (sym (fold_next _ _ l.t)))
+    fold_turn _ _ _ _ l.t l.invariant c.put_unit.ensures
 
 pub returns : goal.returns
 unfolding put_units
 returns c =
     let l = c.loop-t in
     let q : l.t ≡ c.args.n / 3 = omega arith in
-    rw q at l.invariant.2
+    rw q at l.invariant

@@ -9,7 +9,6 @@ use Rattle.normals_steps.proofs.Carried.{normal_step_by, normal_count_by}
 use Rattle.normals_steps.proofs.Counts.{normal_step_one, normal_count_one}
 use Rattle.normals_state.specs.State.{get_normal, start_state}
 use Rattle.normals_state.specs.Carried.{halfedge_normal}
-use Rattle.normals_state.specs.Packed.{state_of}
 use Rattle.normals_state.specs.declared.CycleState.{CycleState}
 use Rattle.normals_state.proofs.Lent.{next_in, here_face_in, next_face_in}
 use Rattle.mesh.specs.Mesh.{as_halfedges}
@@ -91,7 +90,7 @@ loop-current-preserved c =
     let a = c.args in
     let w = c.requires.1 in
     let B = is_inside a.inside.now in
-    let m = walk_of l.t l.fixed (state_of l.state) in
+    let m = walk_of l.t l.fixed l.state in
     let b = l.invariant.0.walking.below in
     let done = stepped w B m b l.invariant.1 l.invariant.4 g x s.ensures.state in (
       counting_step (next_permutes w.lists.state.missing.sound) l.invariant.0 x done (counts w B m b l.invariant.1 l.invariant.4 g x s.ensures.directionless) c.if-current-e.false,
@@ -111,13 +110,13 @@ returns c =
     let a = c.args in
     let w = c.requires.1 in
     let B = is_inside a.inside.now in
-    let m = walk_of l.t l.fixed (state_of l.state) in
+    let m = walk_of l.t l.fixed l.state in
     let b = l.invariant.0.walking.below in
     let Q = next_permutes w.lists.state.missing.sound in
     let done = stepped w B m b l.invariant.1 l.invariant.4 g x s.ensures.state in
     let more = counts w B m b l.invariant.1 l.invariant.4 g x s.ensures.directionless in
-    rw c.unpack-unpacked.ensures (record {
+    record {
       state = counting_state Q l.invariant.0 x done more c.if-current-e.true;
       state_in = state_after (λ (x : ℕ). x < a.n) b (as_halfedges a.h.now) a.pos.now a.face_normals.now (get_normal a.h.now a.rows.now) B m done l.invariant.3;
       directionless = counting_count Q l.invariant.0 x done more c.if-current-e.true;
-    })
+    }

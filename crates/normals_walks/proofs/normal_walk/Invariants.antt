@@ -4,7 +4,6 @@ use Rattle.normals_steps.specs.Steps.{StateIn, walk_of, normal_step, normal_step
 use Rattle.normals_steps.specs.Carried.{is_inside}
 use Rattle.normals_state.specs.State.{get_normal, start_state}
 use Rattle.normals_state.specs.Carried.{halfedge_normal}
-use Rattle.normals_state.specs.Packed.{state_of}
 use Rattle.mesh.specs.Mesh.{as_halfedges}
 use Rattle.cycles.proofs.Paths.{is_at, steps_left}
 use Rattle.cycles.specs.Cycles.{next_around}
@@ -14,8 +13,8 @@ use Rattle.normals_walks.proofs.normal_walk.Given as goal
 
 abbrev pub invariant-loop-current : goal.invariant-loop-current
 invariant-loop-current l =
-    Counting (normal_step (as_halfedges l.h) l.pos l.face_normals (get_normal l.h l.rows) (is_inside l.inside)) (normal_step_directionless (as_halfedges l.h) l.pos l.face_normals (get_normal l.h l.rows) (is_inside l.inside)) (next_around (as_halfedges l.h)) l.n l.e (walk_of l.initial.t l.initial.fixed start_state) (walk_of l.t l.fixed (state_of l.state)) l.directionless l.current
-    × (length l.t ≡ length l.initial.t) × (length l.fixed ≡ length l.initial.fixed) × StateIn l.n (state_of l.state)
+    Counting (normal_step (as_halfedges l.h) l.pos l.face_normals (get_normal l.h l.rows) (is_inside l.inside)) (normal_step_directionless (as_halfedges l.h) l.pos l.face_normals (get_normal l.h l.rows) (is_inside l.inside)) (next_around (as_halfedges l.h)) l.n l.e (walk_of l.initial.t l.initial.fixed start_state) (walk_of l.t l.fixed l.state) l.directionless l.current
+    × (length l.t ≡ length l.initial.t) × (length l.fixed ≡ length l.initial.fixed) × StateIn l.n l.state
     × (l.here ≡ halfedge_normal l.face_units (get_normal l.h l.rows) l.current)
 
 abbrev pub decreases-loop-current : goal.decreases-loop-current

@@ -6,42 +6,44 @@ use Rattle.normals_state.specs.State.{get_normal}
 use Rattle.normals_steps.specs.Carried.{is_inside}
 use Rattle.mesh.specs.Mesh.{as_halfedges}
 use Rattle.create_shared.specs.Makings.{Tangents, tangents_of}
-use Rattle.common.specs.Counted.{Counted, counted}
+use Rattle.common.specs.Fold.{fold_to}
+use Rattle.common.specs.Counted.{Counted, counted, count_step}
 use Rattle.common.proofs.Fold.{fold_none, fold_turn}
 use Rattle.common.proofs.Counted.{counted_fold_to}
 use lib.ListN.{length}
 use Prim.Native.Nat.{◌+◌}
 use native.Mathlib.Omega.{arith}
-use mathlib.Core.Path.{◌≡◌, refl, sym, ap, ◌∙◌}
+use mathlib.Core.Path.{◌≡◌, sym, ap, ◌∙◌}
 use Rattle.normals_walks.proofs.normals_verts.Goals as goal
+use Rattle.normals_walks.proofs.normals_verts.Goals.{After-normals_vert-directionless}
 
 pub loop-v-init : goal.loop-v-init
 loop-v-init c =
-    (omega arith, refl, refl, sym (fold_none _ _))
+    sym (fold_none _ _)
+
+-- both lists and the count after this turn
+turned : (c : After-normals_vert-directionless) → let a = c.args in let H = as_halfedges a.h.now in let N = get_normal a.h.now a.rows.now in let B = is_inside a.inside.now in let m = c.normals_vert-directionless in
+    counted (tangents_of m.new.t m.new.fixed) (c.loop-v.directionless + m.result) ≡ fold_to (count_step (normals_vert H a.pos.now a.normals.now a.face_normals.now N B a.n) (normals_vert_directionless H a.pos.now a.normals.now a.face_normals.now N B a.n)) (counted (tangents_of a.t.now a.fixed.now) 0) (c.loop-v.v + 1)
+turned c =
+    let a = c.args in
+    let l = c.loop-v in
+    let m = c.normals_vert-directionless.ensures in
+    let H = as_halfedges a.h.now in
+    let N = get_normal a.h.now a.rows.now in
+    let B = is_inside a.inside.now in
+    fold_turn _ _ _ _ l.v l.invariant (turn (normals_vert H a.pos.now a.normals.now a.face_normals.now N B a.n) (normals_vert_directionless H a.pos.now a.normals.now a.face_normals.now N B a.n) l.directionless m.tangents m.directionless)
 
 pub overflow_add-directionless : goal.overflow_add-directionless
 unfolding normals_verts_directionless
 overflow_add-directionless c =
     let a = c.args in
-    let l = c.loop-v in
     let w = c.requires in
-    let m = c.normals_vert-directionless.ensures in
-    let H = as_halfedges a.h.now in
-    let N = get_normal a.h.now a.rows.now in
-    let B = is_inside a.inside.now in
-    let all = fold_turn _ _ _ _ l.v l.invariant.3 (turn (normals_vert H a.pos.now a.normals.now a.face_normals.now N B a.n) (normals_vert_directionless H a.pos.now a.normals.now a.face_normals.now N B a.n) l.directionless m.tangents m.directionless) in
-    omega (arith, ap (λ (k : Counted Tangents). k.count) all, verts_within w.sound a.pos.now a.normals.now a.face_normals.now N B (l.v + 1) (tangents_of a.t.now a.fixed.now), w.tangents)
+    let all = turned (goal.at.overflow_add-directionless c).After-normals_vert-directionless in
+    omega (arith, ap (λ (k : Counted Tangents). k.count) all, verts_within w.sound a.pos.now a.normals.now a.face_normals.now (get_normal a.h.now a.rows.now) (is_inside a.inside.now) (c.loop-v.v + 1) (tangents_of a.t.now a.fixed.now), w.tangents)
 
 pub loop-v-preserved : goal.loop-v-preserved
 loop-v-preserved c =
-    let a = c.args in
-    let l = c.loop-v in
-    let m = c.normals_vert-directionless in
-    let H = as_halfedges a.h.now in
-    let N = get_normal a.h.now a.rows.now in
-    let B = is_inside a.inside.now in
-    let all = fold_turn _ _ _ _ l.v l.invariant.3 (turn (normals_vert H a.pos.now a.normals.now a.face_normals.now N B a.n) (normals_vert_directionless H a.pos.now a.normals.now a.face_normals.now N B a.n) l.directionless m.ensures.tangents m.ensures.directionless) in
-    (omega arith, m.auto.t ∙ l.invariant.1, m.auto.fixed ∙ l.invariant.2, all)
+    turned (goal.at.loop-v-preserved c).After-normals_vert-directionless
 
 pub returns-clause-tangents : goal.returns-clause-tangents
 unfolding normals_verts
@@ -52,11 +54,11 @@ returns-clause-tangents c =
     let N = get_normal a.h.now a.rows.now in
     let B = is_inside a.inside.now in
     let q : l.v ≡ length c.args.vert_halfedge.now = omega arith in
-    rw q at (ap (λ (k : Counted Tangents). k.state) l.invariant.3 ∙ counted_fold_to (normals_vert H a.pos.now a.normals.now a.face_normals.now N B a.n) (normals_vert_directionless H a.pos.now a.normals.now a.face_normals.now N B a.n) (counted (tangents_of a.t.now a.fixed.now) 0) l.v)
+    rw q at (ap (λ (k : Counted Tangents). k.state) l.invariant ∙ counted_fold_to (normals_vert H a.pos.now a.normals.now a.face_normals.now N B a.n) (normals_vert_directionless H a.pos.now a.normals.now a.face_normals.now N B a.n) (counted (tangents_of a.t.now a.fixed.now) 0) l.v)
 
 pub returns-clause-directionless : goal.returns-clause-directionless
 unfolding normals_verts_directionless
 returns-clause-directionless c =
     let l = c.loop-v in
     let q : l.v ≡ length c.args.vert_halfedge.now = omega arith in
-    rw q at (ap (λ (k : Counted Tangents). k.count) l.invariant.3)
+    rw q at (ap (λ (k : Counted Tangents). k.count) l.invariant)

@@ -4,17 +4,11 @@ use Rattle.normals_steps.specs.Carried.{is_inside}
 use Rattle.create_shared.specs.Makings.{tangents_of}
 use Rattle.common.specs.Fold.{fold_to}
 use Rattle.common.specs.Counted.{counted, count_step}
-use lib.ListN.{length}
 use mathlib.Core.Path.{◌≡◌}
-use Prim.Native.Nat.{◌-◌, ◌≤◌}
 use Rattle.normals_state.specs.State.{get_normal}
 use Rattle.mesh.specs.Mesh.{as_halfedges}
 use Rattle.normals_walks.proofs.normals_verts.Given as goal
 
 abbrev pub invariant-loop-v : goal.invariant-loop-v
 invariant-loop-v l =
-    (l.v ≤ length l.vert_halfedge) × (length l.t ≡ length l.initial.t) × (length l.fixed ≡ length l.initial.fixed)
-    × (counted (tangents_of l.t l.fixed) l.directionless ≡ fold_to (count_step (normals_vert (as_halfedges l.h) l.pos l.normals l.face_normals (get_normal l.h l.rows) (is_inside l.inside) l.n) (normals_vert_directionless (as_halfedges l.h) l.pos l.normals l.face_normals (get_normal l.h l.rows) (is_inside l.inside) l.n)) (counted (tangents_of l.initial.t l.initial.fixed) 0) l.v)
-
-abbrev pub decreases-loop-v : goal.decreases-loop-v
-decreases-loop-v l = length l.vert_halfedge - l.v
+    counted (tangents_of l.t l.fixed) l.directionless ≡ fold_to (count_step (normals_vert (as_halfedges l.h) l.pos l.normals l.face_normals (get_normal l.h l.rows) (is_inside l.inside) l.n) (normals_vert_directionless (as_halfedges l.h) l.pos l.normals l.face_normals (get_normal l.h l.rows) (is_inside l.inside) l.n)) (counted (tangents_of l.initial.t l.initial.fixed) 0) l.v

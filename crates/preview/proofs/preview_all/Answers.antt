@@ -7,7 +7,7 @@ use Rattle.preview.proofs.preview_all.Goals as goal
 pub loop-start-init : goal.loop-start-init
 loop-start-init c =
     let p = c.requires in
-    (omega arith, omega arith, (p.0.sound, p.0.tangents, λ P N. shown_begin (lawful p.0.sound P N c.args.fixed.now) _ _ _ p.1 c.fill_bytes.ensures))
+    (omega arith, omega arith, (p.0.sound, p.0.tangents, λ P N. shown_begin (lawful p.0.sound P N c.args.fixed.now) _ _ _ p.1 (c.fill.ensures.after (λ y same. same))))
 
 pub loop-start-preserved : goal.loop-start-preserved
 loop-start-preserved c =

@@ -1,18 +1,20 @@
 -- `program_operations::check` meets its contract. Assumes nothing.
-use Prim.Native.Nat.{◌*◌}
-use mathlib.Core.Path.{◌≡◌}
-use Rattle.validate.specs.Validate.{valid_answer}
-use lib.ListN.{take}
+use Rattle.std.proofs.Common.{rules, ◌≡◌, ◌*◌, take, Err}
 use Rattle.mesh.specs.Mesh.{as_halfedges}
 use Rattle.program_operations.proofs.Shown.{check_shows}
 use Rattle.program_operations.proofs.check.Goals as goal
+
+pub returns-in_err-valid : goal.returns-in_err-valid
+returns-in_err-valid c =
+    let a = c.args in
+    let v = c.valid_tangents in
+    let e : c.from_residual.result ≡ Err c.in_err-valid.field-0.0 = search rules in
+    check_shows (as_halfedges (take (4 * a.n) a.h.now)) (take (3 * a.p) a.pos.now) (take (4 * a.n) a.t.now) a.n a.p v.result _ a.t.now
+    (rw c.in_err-valid.was e) v.ensures.answer
 
 pub returns : goal.returns
 returns c =
     let a = c.args in
     let v = c.valid_tangents in
-    let H = as_halfedges (take (4 * a.n) a.h.now) in
-    let P = take (3 * a.p) a.pos.now in
-    let T = take (4 * a.n) a.t.now in
-    let answer : v.result ≡ valid_answer H P T a.n a.p = v.ensures.answer in
-    check_shows H P T a.n a.p v.result c.check_output.result a.t.now c.check_output.ensures answer
+    check_shows (as_halfedges (take (4 * a.n) a.h.now)) (take (3 * a.p) a.pos.now) (take (4 * a.n) a.t.now) a.n a.p v.result _ a.t.now
+    (rw c.in_ok-valid.was) v.ensures.answer

@@ -1,14 +1,11 @@
 -- `records::fill_spread` meets its contract. Assumes nothing.
-use Rattle.records.specs.Records.{records_length, body_bytes}
-use native.Mathlib.Omega.{arith}
+use Rattle.std.proofs.Common.{rules, ◌∙◌}
+use Rattle.little_endian.specs.Numbers.{f64_item}
+use Rattle.little_endian.proofs.Filled.{bytes_filled}
 use Rattle.records.proofs.fill_spread.Goals as goal
 
-pub fill_f64-requires : goal.fill_f64-requires
-unfolding records_length body_bytes
-fill_f64-requires c =
-    omega (arith, c.requires)
-
-pub fill_bytes-requires : goal.fill_bytes-requires
-unfolding records_length body_bytes
-fill_bytes-requires c =
-    omega (arith, c.requires)
+pub returns : goal.returns
+unfolding f64_item
+returns c =
+    let flags = rw (c.body_at-2.ensures, c.from-halfedges.ensures) at (c.fill-2.ensures ∙ bytes_filled _ _ _ _) in
+    (search rules, flags)

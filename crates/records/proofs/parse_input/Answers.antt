@@ -1,14 +1,12 @@
 -- `records::parse_input` meets its contract. Assumes nothing.
-use Rattle.records.specs.Records.{input_refusal, parse_input}
-use borrow.Author.Tests.{le-leb, lt-leb}
+use Rattle.std.proofs.Common.{rules}
+use Rattle.records.specs.Records.{check_input, parse_input}
 use Rattle.records.proofs.parse_input.Goals as goal
 
-pub returns-then-s-le-MAX_INPUT : goal.returns-then-s-le-MAX_INPUT
-unfolding parse_input input_refusal
-returns-then-s-le-MAX_INPUT c =
-    simp (le-leb _ 65536 c.if-s-le-MAX_INPUT.true) c.parse_records.ensures
+pub returns-in_err-ask : goal.returns-in_err-ask
+unfolding parse_input check_input
+returns-in_err-ask c = rw (← c.ask.ensures) (search rules)
 
 pub returns : goal.returns
-unfolding parse_input input_refusal
-returns c =
-    simp (lt-leb _ 65536 c.if-s-le-MAX_INPUT.false)
+unfolding parse_input check_input
+returns c = rw (← c.ask.ensures, c.in_ok-ask.was) c.parse_records.ensures

@@ -1,43 +1,47 @@
 -- `records::parse_records` meets its contract: each return is the first no. Assumes nothing.
-use Rattle.records.proofs.Parse.{no_operation, unknown_operation, no_counts, bodies_left, within}
-use mathlib.Core.Path.{sym, ◌∙◌}
-use native.Mathlib.Omega.{arith}
+use Rattle.std.proofs.Common.{rules, refl, sym, ◌∙◌, arith}
+use Rattle.records.specs.Records.{check_records}
+use Rattle.records.proofs.Parse.{within, known, unknown}
 use Rattle.records.proofs.parse_records.Goals as goal
 
-pub returns-then-first-ne0 : goal.returns-then-first-ne0
-returns-then-first-ne0 c =
-    no_operation c.args.s.now c.record_refusal-first.result c.record_refusal-first.ensures c.if-first-ne0.true
+pub returns-in_err-check_record : goal.returns-in_err-check_record
+unfolding check_records
+returns-in_err-check_record c = rw (← c.check_record.ensures) (search rules)
 
 pub bounds-s-6 : goal.bounds-s-6
-bounds-s-6 c =
-    omega (arith, within c.args.s.now 0 1 1 (sym c.record_refusal-first.ensures ∙ c.if-first-ne0.false))
+bounds-s-6 c = omega (arith, within _ _ _ _ (sym c.check_record.ensures ∙ c.in_ok-check_record.was))
 
-pub returns-then-unknown-ne0 : goal.returns-then-unknown-ne0
-returns-then-unknown-ne0 c =
-    unknown_operation c.args.s.now (sym c.record_refusal-first.ensures ∙ c.if-first-ne0.false) c.operation_refusal-unknown.result c.operation_refusal-unknown.ensures c.if-unknown-ne0.true
+pub returns-in_err-operation : goal.returns-in_err-operation
+unfolding check_records
+returns-in_err-operation c =
+    rw (← c.check_record.ensures, c.in_ok-check_record.was, unknown _ _ (sym c.try_from.ensures ∙ c.in_err-operation.was)) (search rules)
 
-pub record_refusal-second-requires : goal.record_refusal-second-requires
-record_refusal-second-requires c =
-    omega (arith, within c.args.s.now 0 1 1 (sym c.record_refusal-first.ensures ∙ c.if-first-ne0.false))
+pub check_record-requires-2 : goal.check_record-requires-2
+check_record-requires-2 c = omega (arith, within _ _ _ _ (sym c.check_record.ensures ∙ c.in_ok-check_record.was))
 
-pub returns-then-second-ne0 : goal.returns-then-second-ne0
-returns-then-second-ne0 c =
-    no_counts c.args.s.now (sym c.record_refusal-first.ensures ∙ c.if-first-ne0.false) (sym c.operation_refusal-unknown.ensures ∙ c.if-unknown-ne0.false) c.record_refusal-second.result c.record_refusal-second.ensures c.if-second-ne0.true
+pub returns-in_err-check_record-2 : goal.returns-in_err-check_record-2
+unfolding check_records
+returns-in_err-check_record-2 c =
+    let o = known _ _ (sym c.try_from.ensures ∙ c.in_ok-operation.was) in
+    rw (← c.check_record.ensures, c.in_ok-check_record.was, o.0, ← c.check_record-2.ensures) (search rules)
 
-pub u16_at-points-requires : goal.u16_at-points-requires
-u16_at-points-requires c =
-    omega (arith, within c.args.s.now 7 2 4 (sym c.record_refusal-second.ensures ∙ c.if-second-ne0.false))
+pub read-requires : goal.read-requires
+read-requires c = omega (arith, within _ _ _ _ (sym c.check_record-2.ensures ∙ c.in_ok-check_record-2.was))
 
-pub u16_at-halfedges-requires : goal.u16_at-halfedges-requires
-u16_at-halfedges-requires c =
-    omega (arith, within c.args.s.now 7 2 4 (sym c.record_refusal-second.ensures ∙ c.if-second-ne0.false))
+pub read-requires-2 : goal.read-requires-2
+read-requires-2 c = omega (arith, within _ _ _ _ (sym c.check_record-2.ensures ∙ c.in_ok-check_record-2.was))
 
-pub parse_bodies-requires : goal.parse_bodies-requires
-parse_bodies-requires c =
-    (omega arith, omega arith, within c.args.s.now 7 2 4 (sym c.record_refusal-second.ensures ∙ c.if-second-ne0.false))
+pub check_bodies-requires : goal.check_bodies-requires
+check_bodies-requires c = omega (arith, within _ _ _ _ (sym c.check_record-2.ensures ∙ c.in_ok-check_record-2.was))
+
+pub returns-in_err-check_bodies : goal.returns-in_err-check_bodies
+unfolding check_records
+returns-in_err-check_bodies c =
+    let o = known _ _ (sym c.try_from.ensures ∙ c.in_ok-operation.was) in
+    rw (← c.check_record.ensures, c.in_ok-check_record.was, o.0, ← c.check_record-2.ensures, c.in_ok-check_record-2.was, ← o.1, ← c.bodies.ensures, ← c.read.ensures, ← c.read-2.ensures, ← c.check_bodies.ensures) (search rules)
 
 pub returns : goal.returns
+unfolding check_records
 returns c =
-    let x = c.u16_at-points in
-    c.parse_bodies.ensures
-    ∙ bodies_left c.args.s.now (sym c.record_refusal-first.ensures ∙ c.if-first-ne0.false) (sym c.operation_refusal-unknown.ensures ∙ c.if-unknown-ne0.false) (sym c.record_refusal-second.ensures ∙ c.if-second-ne0.false) x.result c.u16_at-halfedges.result x.ensures c.u16_at-halfedges.ensures
+    let o = known _ _ (sym c.try_from.ensures ∙ c.in_ok-operation.was) in
+    rw (← c.check_record.ensures, c.in_ok-check_record.was, o.0, ← c.check_record-2.ensures, c.in_ok-check_record-2.was, ← o.1, ← c.bodies.ensures, ← c.read.ensures, ← c.read-2.ensures, ← c.check_bodies.ensures, c.in_ok-check_bodies.was) refl

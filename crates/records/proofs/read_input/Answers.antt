@@ -1,70 +1,82 @@
 -- `records::read_input` meets its contract: a refusal goes back with the lists as lent, and an accepted input fills them. Assumes nothing.
-use Rattle.std.proofs.Common.{sym, ◌∙◌}
-use Rattle.records.specs.Lists.{lists_of}
-use Rattle.records.proofs.Parse.{few}
-use Rattle.records.proofs.Read.{read_values, goes_back, lists_go_back, as_lent, no_room, read, mesh_room, spread_room, spread_lists, mesh_lists}
+use Rattle.std.proofs.Common.{rules, ℕ, ◌≡◌, ◌*◌, sym, ◌∙◌, Err}
+use Rattle.little_endian.specs.Numbers.{f64_item, byte_item}
+use Rattle.little_endian.proofs.Filled.{filled_none}
+use Rattle.records.specs.Records.{body_at}
+use Rattle.records.specs.Lists.{lists_of, read_lists}
+use Rattle.records.specs.declared.Kind.TheVariants.{Normals, Flags}
+use Rattle.records.proofs.Accepted.{refused_back, short_lists, read, read_values, mesh_room, spread_room, none_due}
 use Rattle.records.proofs.read_input.Goals as goal
 
-pub returns-in_default : goal.returns-in_default
-returns-in_default c =
+pub returns-in_err-parsed : goal.returns-in_err-parsed
+unfolding read_lists
+returns-in_err-parsed c =
     let a = c.args in
     let L = lists_of a.h.now a.pos.now a.vn.now a.flags.now a.t.now in
-    let r = c.parse_input-parsed in
-    let d = c.in_default in
-    let e = goes_back a.input.now L r.result d.field-0 d.field-1 r.ensures d.is in
-    record { answer = e; lists = lists_go_back a.input.now L r.result d.field-0 d.field-1 r.ensures d.is; values = read_values _ _ _ e }
+    let e : c.from_residual.result ≡ Err c.in_err-parsed.field-0.0 = search rules in
+    let answer = e ∙ refused_back a.input.now L _ (sym c.parse_input.ensures ∙ c.in_err-parsed.was) in
+    record { answer = answer; lists = rw e; values = read_values a.input.now L _ answer }
 
-pub has_room-room-requires : goal.has_room-room-requires
-has_room-room-requires c =
-    let g = c.in-Input in
-    few c.args.input.now g.operation g.points g.halfedges (sym c.parse_input-parsed.ensures ∙ g.is)
-
-pub returns-then-not-room : goal.returns-then-not-room
-returns-then-not-room c =
+pub returns-in_err-ask : goal.returns-in_err-ask
+unfolding read_lists
+returns-in_err-ask c =
     let a = c.args in
-    let g = c.in-Input in
-    let e = no_room a.input.now a.pos.now a.h.now a.t.now a.vn.now a.flags.now g.operation g.points g.halfedges (sym g.is ∙ c.parse_input-parsed.ensures) c.has_room-room.result c.has_room-room.ensures c.if-not-room.true in
-    record { answer = e; lists = as_lent a.input.now (lists_of a.h.now a.pos.now a.vn.now a.flags.now a.t.now) 2 0; values = read_values _ _ _ e }
+    let L = lists_of a.h.now a.pos.now a.vn.now a.flags.now a.t.now in
+    let i = c.in_ok-parsed.parsed in
+    let e : c.from_residual-in_err-ask.result ≡ Err c.in_err-ask.field-0.0 = search rules in
+    let short = short_lists a.input.now L i (sym c.parse_input.ensures ∙ c.in_ok-parsed.was) c.has_room-room.result _ c.has_room-room.ensures (sym c.ask.ensures ∙ c.in_err-ask.was) in
+    record { answer = e ∙ short; lists = rw e; values = read_values a.input.now L _ (e ∙ short) }
 
 pub fill_mesh-requires : goal.fill_mesh-requires
 fill_mesh-requires c =
     let a = c.args in
-    let g = c.in-Input in
-    let r = c.has_room-room in
-    mesh_room a.input.now a.pos.now a.h.now a.t.now a.vn.now a.flags.now g.operation g.points g.halfedges (sym g.is ∙ c.parse_input-parsed.ensures) r.result r.ensures c.if-not-room.false
+    let L = lists_of a.h.now a.pos.now a.vn.now a.flags.now a.t.now in
+    let i = c.in_ok-parsed.parsed in
+    let p = sym c.parse_input.ensures ∙ c.in_ok-parsed.was in
+    mesh_room a.input.now L i p (read a.input.now L i p c.has_room-room.result c.has_room-room.ensures (sym c.ask.ensures ∙ c.in_ok-ask.was)).0
 
 pub fill_spread-requires : goal.fill_spread-requires
 fill_spread-requires c =
     let a = c.args in
-    let g = c.in-Input in
-    let r = c.has_room-room in
-    spread_room a.input.now a.pos.now a.h.now a.t.now a.vn.now a.flags.now g.operation g.points g.halfedges (sym g.is ∙ c.parse_input-parsed.ensures) r.result r.ensures c.if-not-room.false c.if-operation-eq2.true
+    let L = lists_of a.h.now a.pos.now a.vn.now a.flags.now a.t.now in
+    let i = c.in_ok-parsed.parsed in
+    let p = sym c.parse_input.ensures ∙ c.in_ok-parsed.was in
+    spread_room a.input.now L i p (read a.input.now L i p c.has_room-room.result c.has_room-room.ensures (sym c.ask.ensures ∙ c.in_ok-ask.was)).0 c.in-Spread.is
 
-pub returns-then-operation-eq2 : goal.returns-then-operation-eq2
-returns-then-operation-eq2 c =
+pub returns-in-Spread : goal.returns-in-Spread
+unfolding read_lists
+returns-in-Spread c =
     let a = c.args in
-    let g = c.in-Input in
-    let r = c.has_room-room in
-    let f = c.fill_mesh in
-    let w = c.fill_spread in
-    let q = sym g.is ∙ c.parse_input-parsed.ensures in
-    let e = read a.input.now a.pos.now a.h.now a.t.now a.vn.now a.flags.now g.operation g.points g.halfedges q r.result r.ensures c.if-not-room.false in
-    record {
-      answer = e;
-      lists = spread_lists a.input.now a.pos.now a.h.now a.t.now a.vn.now a.flags.now g.operation g.points g.halfedges q r.result r.ensures c.if-not-room.false c.if-operation-eq2.true _ _ _ _ _ f.ensures.0 f.ensures.1 f.ensures.2 w.ensures.0 w.ensures.1;
-      values = read_values _ _ _ e;
-    }
+    let L = lists_of a.h.now a.pos.now a.vn.now a.flags.now a.t.now in
+    let i = c.in_ok-parsed.parsed in
+    let p = sym c.parse_input.ensures ∙ c.in_ok-parsed.was in
+    let answer = (read a.input.now L i p c.has_room-room.result c.has_room-room.ensures (sym c.ask.ensures ∙ c.in_ok-ask.was)).1 in
+    let mesh = c.fill_mesh.ensures in
+    let spread = c.fill_spread.ensures in
+    record { answer = answer; lists = rw (c.in-Spread.is, mesh.0, mesh.1, mesh.2, spread.0, spread.1); values = read_values a.input.now L _ answer }
 
-pub returns-else-operation-eq2 : goal.returns-else-operation-eq2
-returns-else-operation-eq2 c =
+pub returns-in-Straighten : goal.returns-in-Straighten
+unfolding read_lists
+returns-in-Straighten c =
     let a = c.args in
-    let g = c.in-Input in
-    let r = c.has_room-room in
-    let f = c.fill_mesh in
-    let q = sym g.is ∙ c.parse_input-parsed.ensures in
-    let e = read a.input.now a.pos.now a.h.now a.t.now a.vn.now a.flags.now g.operation g.points g.halfedges q r.result r.ensures c.if-not-room.false in
+    let L = lists_of a.h.now a.pos.now a.vn.now a.flags.now a.t.now in
+    let i = c.in_ok-parsed.parsed in
+    let n = i.counts in
+    let p = sym c.parse_input.ensures ∙ c.in_ok-parsed.was in
+    let answer = (read a.input.now L i p c.has_room-room.result c.has_room-room.ensures (sym c.ask.ensures ∙ c.in_ok-ask.was)).1 in
+    let mesh = c.fill_mesh.ensures in
+    let none = λ (count : ℕ). none_due i.operation count c.in-Straighten.is in
     record {
-      answer = e;
-      lists = mesh_lists a.input.now a.pos.now a.h.now a.t.now a.vn.now a.flags.now g.operation g.points g.halfedges q r.result r.ensures c.if-not-room.false c.if-operation-eq2.false _ _ _ f.ensures.0 f.ensures.1 f.ensures.2;
-      values = read_values _ _ _ e;
+      answer = answer;
+      lists =
+          rw (
+            mesh.0,
+            mesh.1,
+            mesh.2,
+            none (3 * n.points),
+            none n.halfedges,
+            ← filled_none (f64_item a.input.now (body_at n.points n.halfedges Normals)) a.vn.now,
+            ← filled_none (byte_item a.input.now (body_at n.points n.halfedges Flags)) a.flags.now,
+          );
+      values = read_values a.input.now L _ answer;
     }

@@ -4,7 +4,7 @@ use Rattle.common.proofs.Fold.{fold_none, fold_turn}
 use Rattle.mesh.specs.Mesh.{as_halfedges}
 use Rattle.sharpen.specs.Crease.{is_crease}
 use Rattle.sharpen.specs.Entries.{Entries}
-use Rattle.sharpen.proofs.Listed.{entries_twice}
+use Rattle.sharpen.proofs.Entries.{entries_twice}
 use Rattle.sharpen.proofs.Room.{edge_fits}
 use Rattle.sharpen.proofs.list_edges.Goals as goal
 

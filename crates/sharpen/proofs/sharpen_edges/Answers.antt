@@ -1,15 +1,13 @@
 -- `sharpen::sharpen_edges` meets its contract. Assumes nothing.
-use Rattle.std.proofs.Common.{ℕ, ◌*◌, ◌/◌, List, ◌≡◌, sym, ap, ap₂, ◌∙◌, arith}
+use Rattle.std.proofs.Common.{ℕ, ◌*◌, ◌/◌, List, ◌≡◌, sym, ap, ap₂, ◌∙◌, arith, Ok}
 use lib.Ieee.{Float}
 use Rattle.mesh.specs.Mesh.{Halfedges, as_halfedges}
 use Rattle.mesh.specs.Check.{check_mesh}
-use Rattle.mesh.specs.Check as mesh
 use Rattle.sharpen.specs.Crease.{min_radians, is_crease}
 use Rattle.sharpen.specs.Entries.{Entries, entries_in}
-use Rattle.sharpen.specs.Sharpen.{check_lists, creases, crease_tally, sharpen_edges, Values}
-use Rattle.sharpen.specs.declared.Listing.{Listing}
-use Rattle.sharpen.specs.declared.Listing.TheVariants.{Listed, Refused}
-use Rattle.sharpen.proofs.Listed.{entries_twice}
+use Rattle.sharpen.specs.Sharpen.{check_lists, creases, crease_tally, Listing, listed_of, sharpen_edges, Values}
+use Rattle.sharpen.specs.declared.Listed.{Listed}
+use Rattle.sharpen.proofs.Entries.{entries_twice}
 use Rattle.sharpen.proofs.Room.{lists_checked}
 use Rattle.sharpen.proofs.Values.{values_of}
 use Rattle.sharpen.proofs.sharpen_edges.Goals as goal
@@ -24,20 +22,18 @@ returns-in_default c =
     let a = c.args in
     let answer = c.check_mesh-checked.ensures ∙ ap (check_mesh _ _ _) c.lengths_fit.ensures in
     let refused = sym answer ∙ c.in_default.is in
-    let number = c.number_of.ensures ∙ ap mesh.number_of answer in
-    let place = c.place_of.ensures ∙ ap mesh.place_of answer in
-    let listing = ap₂ Refused (rw refused at number) (rw refused at place) in
+    let listing = rw answer at c.refused.ensures.answer _ in
     record {
-      answer = rw refused listing;
+      answer = listing;
       listed = rw refused;
       copied = rw refused;
-      values = values (as_halfedges a.h.now) a.normals.now a.angle a.smooth a.halfedges.now a.smoothness.now a.n a.p (rw refused listing);
+      values = values (as_halfedges a.h.now) a.normals.now a.angle a.smooth a.halfedges.now a.smoothness.now a.n a.p listing;
     }
 
 pub list_edges-entries-requires : goal.list_edges-entries-requires
 list_edges-entries-requires c =
     let answer = c.check_mesh-checked.ensures ∙ ap (check_mesh _ _ _) c.lengths_fit.ensures in
-    lists_checked _ _ _ _ _ _ (sym answer ∙ c.in-Accepted.is)
+    lists_checked _ _ _ _ _ _ (sym answer ∙ c.in-Ok.is)
 
 pub returns : goal.returns
 returns c =
@@ -47,11 +43,11 @@ returns c =
     let E = a.halfedges.now in
     let S = a.smoothness.now in
     let answer = c.check_mesh-checked.ensures ∙ ap (check_mesh _ _ _) c.lengths_fit.ensures in
-    let accepted = sym answer ∙ c.in-Accepted.is in
+    let accepted = sym answer ∙ c.in-Ok.is in
     let made : entries_in _ _ c.list_edges-entries.result ≡ creases H A a.angle a.smooth E S a.n = rw c.min_radians-limit.ensures at c.list_edges-entries.ensures in
     let twice : c.list_edges-entries.result ≡ 2 * crease_tally H A a.angle a.n = ap (λ (x : Entries). x.count) made ∙ entries_twice E S H (is_crease H A (min_radians a.angle)) a.smooth a.n in
     let half : c.list_edges-entries.result / 2 ≡ crease_tally H A a.angle a.n = omega arith in
-    let listing = ap₂ Listed (ap (λ (x : Entries). x.count) made) half in
+    let listing = ap₂ (λ (entries tally : ℕ). Ok (listed_of entries tally)) (ap (λ (x : Entries). x.count) made) half in
     record {
       answer = rw accepted listing;
       listed = rw accepted (ap (λ (x : Entries). x.halfedges) made);

@@ -1,5 +1,0 @@
--- `replay_mesh::main` is safe and ends: the number of cases that may still be read falls. Assumes nothing.
-use Rattle.replay_mesh.proofs.main.Given as goal
-
-abbrev pub decreases-loop-more : goal.decreases-loop-more
-decreases-loop-more l = l.cases
