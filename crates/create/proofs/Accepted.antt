@@ -16,7 +16,6 @@ use Rattle.mesh.proofs.Tests.{has_length_lem, has_one}
 use Rattle.mesh.proofs.Accepted.{accepted, refs_accepted, entries_accepted}
 use Rattle.create_smoothness.specs.EntrySmoothness.{EntriesIn, entry_smoothness}
 use Rattle.create_smoothness.specs.declared.Smoothness.{Smoothness}
-use Rattle.create_core.proofs.Lent.{create_lists_in}
 use Rattle.create_core.specs.Core.{create_directionless}
 use Rattle.create_core.specs.Filled.{Lists, create_filled, filled_directionless}
 use Rattle.create_core.proofs.Filled.{filled_same, create_within}
@@ -65,14 +64,25 @@ scratch_fits_lem x f s d c l n p e =
       links = has_one l n e₆.1;
     }
 
--- all of it; the scratch list S may hold other numbers by then
+-- all of it
 pub record AcceptedLists (H : Halfedges) (P N A : List Float) (I : List ℕ) (Q T : List Float) (X F : List ℕ) (S D : List Float) (C L : List ℕ) (n p : ℕ) : Type 0 where
   pub sound : Sound H n p
+  pub mesh_lists : MeshListsFit H.numbers (length P) (length N) (length A) n p
   pub values : length Q ≡ length I
   pub named : (k : ℕ) → k < length I → get_or I k 0 < n
   pub clear : (k : ℕ) → k < length I → sign_clear (get_or Q k nan) ≡ true
-  pub smooth : length S ≡ n
-  pub lists : {S' : List Float} → length S' ≡ length S → Lists H P N A T X F S' D C L n p
+  pub tangents : length T ≡ n * 4
+  pub scratch : ScratchFits (length X) (length F) (length S) (length D) (length C) (length L) n p
+
+-- the lists that are written; the scratch list S' may hold other numbers by then
+pub written : {H : Halfedges} {P N A : List Float} {I : List ℕ} {Q T : List Float} {X F : List ℕ} {S S' D : List Float} {C L : List ℕ} {n p : ℕ}
+    → AcceptedLists H P N A I Q T X F S D C L n p → length S' ≡ length S → Lists T X F S' D C L n p
+written w same =
+    let s = w.scratch in
+    record {
+      lists = record { tangents = w.tangents; fixed = s.fixed; flat = s.flat; smooth = same ∙ s.smooth; points = s.points; links = s.links };
+      desired = s.desired;
+    }
 
 pub accepted_lists : (H : Halfedges) (P N A : List Float) (R : List ℤ) (I : List ℕ) (Q T : List Float) (X F : List ℕ) (S D : List Float) (C L : List ℕ) (n p : ℕ)
     → check_lists H P N A R I Q T X F S D C L n p ≡ Ok tt → AcceptedLists H P N A I Q T X F S D C L n p
@@ -83,18 +93,14 @@ accepted_lists H P N A R I Q T X F S D C L n p e =
     let b = accepted H n p lengths (refs_accepted (check_mesh H n p lengths) n R a.0).0 in
     let q = and_true _ _ b.0 in
     let l = lists_fit_lem _ _ _ _ _ _ _ _ n p q.0 in
-    let s = scratch_fits_lem _ _ _ _ _ _ n p q.1 in
     record {
       sound = b.1;
+      mesh_lists = l.mesh_lists;
       values = l.values;
       named = a.1;
       clear = a.2;
-      smooth = s.smooth;
-      lists = λ same. record {
-        lists = create_lists_in b.1 l.mesh_lists.halfedges l.mesh_lists.positions l.mesh_lists.normals (l.mesh_lists.face_normals b.1.triangles) l.tangents s.fixed s.flat (same ∙ s.smooth) s.points s.links;
-        desired = s.desired;
-        points = s.points;
-      };
+      tangents = l.tangents;
+      scratch = scratch_fits_lem _ _ _ _ _ _ n p q.1;
     }
 
 -- What a call answers and leaves, whose questions are answered c, and whose sharp entries E pass them: U are the tangents, and k the count, of the core with the smoothness M that the entries give.
@@ -116,6 +122,6 @@ module _ (H : Halfedges) (P N A : List Float) (R : List ℤ) (I : List ℕ) (Q T
       → (Ok k ≡ answer_of checked count) × (U ≡ tangents_after (Ok tt) H P N A R E T old n p) × (k ≤ 2 * n)
   made a m u q =
       let w = accepted_lists H P N A R I Q T X F S D C L n p (sym is ∙ a) in
-      let same = filled_same w.sound R E (entries w) w.smooth m P N A T old in
+      let same = filled_same w.sound R E (entries w) w.scratch.smooth m P N A T old in
       let told = q ∙ same.1 in
       (rw (sym is ∙ a, told), u ∙ same.0, subst (λ (d : ℕ). d ≤ 2 * n) (sym told) (within (sym is ∙ a)))

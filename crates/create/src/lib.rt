@@ -11,6 +11,7 @@ ghost use Rattle.create_smoothness.specs.Entries.{entries_of};
 ghost use Rattle.create_core.specs.Core.{create_directionless};
 ghost use Rattle.create.specs.Create.{lists_fit, scratch_fits, check_create, check_lists, tangents_after, create_answer};
 
+use create_shared::MeshLists;
 use mesh::Refusal;
 
 // Question 2 of the lists that the call reads, and of the tangents, from the length of each.
@@ -112,6 +113,7 @@ fn check_create(
 // `face_normals` and `refs` three for each triangle; `entries` and `values` are the halfedges and the smoothness of the
 // sharp entries. With `old` the tangents t hold the old ones. Of the scratch lists `at` has a place for each point, each
 // other one for each halfedge. The answer counts the circular tangents on an edge without direction.
+// The lists are parameters of their own and no struct, as the C interface has them: counts, lists read, lists written, scratch.
 pub fn create_tangents(
     n: usize,
     p: usize,
@@ -161,22 +163,17 @@ pub fn create_tangents(
         return mesh::refused(checked);
     };
     create_smoothness::entry_smoothness(entries, values, smooth);
+    let mesh = MeshLists {
+        n: n,
+        p: p,
+        h: h,
+        refs: refs,
+        pos: pos,
+        normals: normals,
+        face_normals: face_normals,
+    };
     let directionless = create_core::make_tangents(
-        n,
-        p,
-        h,
-        pos,
-        normals,
-        face_normals,
-        refs,
-        old,
-        t,
-        fixed,
-        flat,
-        smooth,
-        desired,
-        at,
-        link,
+        mesh, old, t, fixed, flat, smooth, desired, at, link,
     );
     Ok(directionless)
 }

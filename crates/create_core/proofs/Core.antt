@@ -16,9 +16,9 @@ use Rattle.create_core.specs.Core.{create_with}
 use Rattle.create_core.specs.Filled.{create_filled}
 
 -- the tangents U, where T and X are the tangents and the fixed flags before straightening, and O and S the tangents and the smoothness as lent
-pub created : (H : Halfedges) (P N A : List Float) (R : List ℤ) (S O : List Float) (old : Bool) (n p : ℕ) (T : List Float) (X : List ℕ) (U : List Float) (k : ℕ)
-    → tangents_of T X ≡ shaped_tangents H P N A R (is_inside_quad H R O old) (pairs_of H R S n) n k → k ≡ p → U ≡ (spread_tangents H P N X (linearize_flat_tangents H P T n) n).tangents
+pub created : (H : Halfedges) (P N A : List Float) (R : List ℤ) (S O : List Float) (old : Bool) (n p : ℕ) {T : List Float} {X : List ℕ} {U : List Float}
+    → tangents_of T X ≡ shaped_tangents H P N A R (is_inside_quad H R O old) (pairs_of H R S n) n p → U ≡ (spread_tangents H P N X (linearize_flat_tangents H P T n) n).tangents
     → U ≡ create_filled H P N A R S O old n p
 unfolding create_filled create_with
-created H P N A R S O old n p T X U k e q u =
-    u ∙ ap (λ (m : Tangents). (spread_tangents H P N m.fixed (linearize_flat_tangents H P m.tangents n) n).tangents) (e ∙ ap (λ (j : ℕ). shaped_tangents H P N A R (is_inside_quad H R O old) (pairs_of H R S n) n j) q)
+created H P N A R S O old n p {T} {X} {U} e u =
+    u ∙ ap (λ (m : Tangents). (spread_tangents H P N m.fixed (linearize_flat_tangents H P m.tangents n) n).tangents) e

@@ -1,5 +1,4 @@
 -- The laws of `create_core`: those that the crates above cite are public.
-pub mod Lent
 mod Shape
 mod Pillow
 mod Core

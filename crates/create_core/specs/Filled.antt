@@ -4,11 +4,10 @@ use Rattle.mesh.specs.Mesh.{Halfedges}
 use Rattle.create_core.specs.Lent.{CreateLists, pairs_of}
 use Rattle.create_core.specs.Core.{create_with, directionless_with}
 
--- the lists of an accepted call: X, F, M, D, W and L are the scratch lists `fixed`, `flat`, `smooth`, `desired`, `at` and `link`
-pub record Lists (H : Halfedges) (P N A T : List Float) (X F : List ℕ) (M D : List Float) (W L : List ℕ) (n p : ℕ) : Type 0 where
-  pub lists : CreateLists H P N A T X F M W L n
+-- the lists that an accepted call writes: X, F, M, D, W and L are the scratch lists `fixed`, `flat`, `smooth`, `desired`, `at` and `link`
+pub record Lists (T : List Float) (X F : List ℕ) (M D : List Float) (W L : List ℕ) (n p : ℕ) : Type 0 where
+  pub lists : CreateLists T X F M W L n p
   pub desired : length D ≡ n
-  pub points : length W ≡ p
 
 -- the tangents, where M holds the smoothness of the entries
 unfoldable pub create_filled : Halfedges → List Float → List Float → List Float → List ℤ → List Float → List Float → Bool → ℕ → ℕ → List Float

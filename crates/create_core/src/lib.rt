@@ -2,28 +2,26 @@
 // point, then straightening and spreading; and how many circular tangents are computed on an edge without direction.
 #![tactic(auto)]
 
-ghost use Rattle.std.specs.Prelude.{◌≡◌, length, replicate};
+ghost use Rattle.std.specs.Prelude.{◌≡◌, ◌*◌, length, replicate};
 ghost use Rattle.float.specs.Ops.{zero};
 ghost use Rattle.mesh.specs.Mesh.{as_halfedges};
 ghost use Rattle.smoothing.specs.Edges.{is_inside_quad};
 ghost use Rattle.create_shared.specs.Makings.{tangents_of};
 ghost use Rattle.linearize.specs.Linearize.{linearize_flat_tangents};
-ghost use Rattle.distribute_walks.specs.Walks.{Lists as SpreadLists};
 ghost use Rattle.distribute.specs.Distribute.{spread_tangents};
 ghost use Rattle.create_core.specs.Shape.{shaped_tangents};
 ghost use Rattle.create_core.specs.Lent.{CreateLists, pairs_of};
 ghost use Rattle.create_core.specs.Core.{directionless_with};
 ghost use Rattle.create_core.specs.Filled.{Lists, create_filled, filled_directionless};
 
+use create_shared::MeshLists;
+
 // The tangents and the fixed flags, and the count, where `smooth` holds the smoothness of the caller's entries, and whatever the
 // flags and the other scratch lists held: `flat`, `smooth` and `link` with a place for each halfedge, `at` with one for each point.
+// The lists that are written stay parameters: of a struct that lends them a clause would say `lists.entry.t.now` and
+// `lists.exit.t.now` where it says `t.old` and `t.new`.
 fn shape_tangents(
-    n: usize,
-    h: &[i32],
-    refs: &[i32],
-    pos: &[f64],
-    normals: &[f64],
-    face_normals: &[f64],
+    mesh: MeshLists<'_>,
     old: bool,
     t: &mut [f64],
     fixed: &mut [u8],
@@ -32,60 +30,53 @@ fn shape_tangents(
     at: &mut [usize],
     link: &mut [usize],
 ) -> usize
-    requires { CreateLists (as_halfedges h.now) pos.now normals.now face_normals.now t.old fixed.old flat.old smooth.old at.old link.old n }
-    ensures tangents { tangents_of t.new fixed.new ≡ shaped_tangents (as_halfedges h.now) pos.now normals.now face_normals.now refs.now (is_inside_quad (as_halfedges h.now) refs.now t.old old) (pairs_of (as_halfedges h.now) refs.now smooth.old n) n (length at.old) }
-    ensures directionless { result ≡ directionless_with (as_halfedges h.now) pos.now refs.now (pairs_of (as_halfedges h.now) refs.now smooth.old n) t.old old n (length at.old) }
+    requires { CreateLists t.old fixed.old flat.old smooth.old at.old link.old mesh.n mesh.p }
+    ensures tangents { let m = mesh.entry in let H = as_halfedges m.h.now in tangents_of t.new fixed.new ≡ shaped_tangents H m.pos.now m.normals.now m.face_normals.now m.refs.now (is_inside_quad H m.refs.now t.old old) (pairs_of H m.refs.now smooth.old m.n) m.n m.p }
+    ensures directionless { let m = mesh.entry in let H = as_halfedges m.h.now in result ≡ directionless_with H m.pos.now m.refs.now (pairs_of H m.refs.now smooth.old m.n) t.old old m.n m.p }
 {
-    let first = create_initial::first_tangents(
-        n,
-        h,
-        refs,
-        pos,
-        normals,
-        face_normals,
-        old,
-        t,
-        flat,
-        at,
-    );
-    create_creases::find_creases(n, h, refs, flat, smooth, at, link);
+    let first = create_initial::first_tangents(mesh, old, t, flat, at);
+    create_creases::find_creases(mesh.n, mesh.h, mesh.refs, flat, smooth, at, link);
     fixed.fill(0);
-    let creases = create_sharpen::shape_verts(n, h, pos, flat, smooth, at, link, t, fixed);
+    let creases = create_sharpen::shape_verts(
+        mesh.n, mesh.h, mesh.pos, flat, smooth, at, link, t, fixed,
+    );
     first + creases
 }
 
 // Straightening, then spreading by the point normals and the halfedges that are fixed, with `smooth` and `desired` as its
 // scratch lists.
 fn finish_tangents(
-    n: usize,
-    p: usize,
-    h: &[i32],
-    pos: &[f64],
-    normals: &[f64],
+    mesh: MeshLists<'_>,
     fixed: &[u8],
     t: &mut [f64],
     smooth: &mut [f64],
     desired: &mut [f64],
 )
-    requires { SpreadLists (as_halfedges h.now) pos.now normals.now fixed.now t.old smooth.old desired.old n p }
-    ensures tangents { t.new ≡ (spread_tangents (as_halfedges h.now) pos.now normals.now fixed.now (linearize_flat_tangents (as_halfedges h.now) pos.now t.old n) n).tangents }
-    ensures smooth { smooth.new ≡ replicate n zero }
-    ensures desired { desired.new ≡ replicate n zero }
+    requires fixed { length fixed.now ≡ mesh.n }
+    requires tangents { length t.old ≡ mesh.n * 4 }
+    requires scratch { (length smooth.old ≡ mesh.n) × (length desired.old ≡ mesh.n) }
+    ensures tangents { let m = mesh.entry in let H = as_halfedges m.h.now in t.new ≡ (spread_tangents H m.pos.now m.normals.now fixed.now (linearize_flat_tangents H m.pos.now t.old m.n) m.n).tangents }
+    ensures smooth { smooth.new ≡ replicate mesh.entry.n zero }
+    ensures desired { desired.new ≡ replicate mesh.entry.n zero }
 {
-    linearize::linearize_all(n, p, h, pos, t);
-    distribute::spread_tangents(n, p, h, pos, normals, fixed, t, smooth, desired);
+    linearize::linearize_all(mesh.n, mesh.p, mesh.h, mesh.pos, t);
+    distribute::spread_tangents(
+        mesh.n,
+        mesh.p,
+        mesh.h,
+        mesh.pos,
+        mesh.normals,
+        fixed,
+        t,
+        smooth,
+        desired,
+    );
 }
 
 // The tangents of an accepted call, where `smooth` holds the smoothness of the entries, and zeros in all scratch lists; and the
 // count.
 pub fn make_tangents(
-    n: usize,
-    p: usize,
-    h: &[i32],
-    pos: &[f64],
-    normals: &[f64],
-    face_normals: &[f64],
-    refs: &[i32],
+    mesh: MeshLists<'_>,
     old: bool,
     t: &mut [f64],
     fixed: &mut [u8],
@@ -95,32 +86,18 @@ pub fn make_tangents(
     at: &mut [usize],
     link: &mut [usize],
 ) -> usize
-    requires { Lists (as_halfedges h.now) pos.now normals.now face_normals.now t.old fixed.old flat.old smooth.old desired.old at.old link.old n p }
-    ensures tangents { t.new ≡ create_filled (as_halfedges h.now) pos.now normals.now face_normals.now refs.now smooth.old t.old old n p }
-    ensures fixed { fixed.new ≡ replicate n 0 }
-    ensures flat { flat.new ≡ replicate n 0 }
-    ensures smooth { smooth.new ≡ replicate n zero }
-    ensures desired { desired.new ≡ replicate n zero }
-    ensures at { at.new ≡ replicate p 0 }
-    ensures link { link.new ≡ replicate n 0 }
-    ensures directionless { result ≡ filled_directionless (as_halfedges h.now) pos.now refs.now smooth.old t.old old n p }
+    requires { Lists t.old fixed.old flat.old smooth.old desired.old at.old link.old mesh.n mesh.p }
+    ensures tangents { let m = mesh.entry in t.new ≡ create_filled (as_halfedges m.h.now) m.pos.now m.normals.now m.face_normals.now m.refs.now smooth.old t.old old m.n m.p }
+    ensures fixed { fixed.new ≡ replicate mesh.entry.n 0 }
+    ensures flat { flat.new ≡ replicate mesh.entry.n 0 }
+    ensures smooth { smooth.new ≡ replicate mesh.entry.n zero }
+    ensures desired { desired.new ≡ replicate mesh.entry.n zero }
+    ensures at { at.new ≡ replicate mesh.entry.p 0 }
+    ensures link { link.new ≡ replicate mesh.entry.n 0 }
+    ensures directionless { let m = mesh.entry in result ≡ filled_directionless (as_halfedges m.h.now) m.pos.now m.refs.now smooth.old t.old old m.n m.p }
 {
-    let directionless = shape_tangents(
-        n,
-        h,
-        refs,
-        pos,
-        normals,
-        face_normals,
-        old,
-        t,
-        fixed,
-        flat,
-        smooth,
-        at,
-        link,
-    );
-    finish_tangents(n, p, h, pos, normals, fixed, t, smooth, desired);
+    let directionless = shape_tangents(mesh, old, t, fixed, flat, smooth, at, link);
+    finish_tangents(mesh, fixed, t, smooth, desired);
     fixed.fill(0);
     flat.fill(0);
     at.fill(0);

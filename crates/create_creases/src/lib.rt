@@ -93,6 +93,7 @@ pub fn find_creases(
 
 // The halfedge that stands at a point after `link_creases`: that of its first crease, or with no crease its lowest, n for none.
 // No Option: at a meeting, which is walked round from it, it is always there, and a branch for none would be one that nothing takes.
+#[tactic(auto, unfolding(crate::specs::Linked::halfedge_of))]
 pub fn first_crease(n: usize, at: &[usize], v: usize) -> usize
     requires { (v < length at.now) × (n + 1 < 2 ^ 64) }
     ensures { result ≡ halfedge_of n (get_or at.now v 0) }
@@ -114,6 +115,7 @@ fn count(s: f64) -> f64
 }
 
 // The sums with both sides of crease e.
+#[tactic(auto, unfolding(crate::specs::Creases::add_sides))]
 fn add_sides(h: &[i32], smooth: &[f64], sums: Sums, e: usize) -> Sums
     requires { SidesIn (as_halfedges h.now) smooth.now e }
     ensures { result ≡ add_sides sums (pair_at (as_halfedges h.now) smooth.now e) }
@@ -145,6 +147,7 @@ fn crease_sums(n: usize, h: &[i32], smooth: &[f64], at: &[usize], link: &[usize]
 }
 
 // Their mean smoothness.
+#[tactic(auto, unfolding(crate::specs::Creases::mean_of))]
 fn mean(sums: Sums) -> f64
     ensures { result ≡ mean_of sums }
 {
@@ -156,6 +159,7 @@ fn mean(sums: Sums) -> f64
 }
 
 // A crease through a point, of the halfedges `first` and `second`.
+#[tactic(auto, unfolding(crate::specs::Creases::through_of))]
 fn through(h: &[i32], smooth: &[f64], first: usize, second: usize) -> Crease
     requires { SidesIn (as_halfedges h.now) smooth.now first × SidesIn (as_halfedges h.now) smooth.now second }
     ensures { result ≡ through_of (pair_at (as_halfedges h.now) smooth.now first) (pair_at (as_halfedges h.now) smooth.now second) }

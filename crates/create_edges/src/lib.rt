@@ -10,6 +10,7 @@ ghost use Rattle.create_edges.specs.Lent.{SidesIn};
 ghost use Rattle.create_edges.specs.Smoothness.{is_flat_boundary, add_flat_boundary, smoothness, pair_smoothness, is_crease};
 
 // Does halfedge e lie in a flat face, and across it another face?
+#[tactic(auto, unfolding(crate::specs::Smoothness::is_flat_boundary))]
 fn is_flat_boundary(h: &[i32], refs: &[i32], flat: &[u8], e: usize) -> bool
     requires { (e < length flat.now) × FlatIn (as_halfedges h.now) (length flat.now) }
     ensures { result ≡ is_flat_boundary (as_halfedges h.now) refs.now (is_flat flat.now) e }
@@ -26,6 +27,7 @@ fn is_flat_boundary(h: &[i32], refs: &[i32], flat: &[u8], e: usize) -> bool
 }
 
 // The entry of a flat face for halfedge e, if it ends there.
+#[tactic(auto, unfolding(crate::specs::Smoothness::add_flat_boundary))]
 fn add_flat_boundary(h: &[i32], refs: &[i32], flat: &[u8], smooth: &mut [f64], e: usize)
     requires { (e < length flat.now) × FlatIn (as_halfedges h.now) (length flat.now) × (length smooth.old ≡ length flat.now) }
     ensures { smooth.new ≡ add_flat_boundary (as_halfedges h.now) refs.now (is_flat flat.now) smooth.old e }
@@ -56,6 +58,7 @@ pub fn pair_smoothness(h: &[i32], smooth: &[f64], e: usize) -> f64
 }
 
 // Is f the forward halfedge of a crease?
+#[tactic(auto, unfolding(crate::specs::Smoothness::is_crease))]
 pub fn is_crease(h: &[i32], smooth: &[f64], f: usize) -> bool
     requires { SidesIn (as_halfedges h.now) smooth.now f }
     ensures { result ≡ is_crease (as_halfedges h.now) smooth.now f }

@@ -12,6 +12,7 @@ ghost use Rattle.create.specs.Create.{lists_fit, scratch_fits, tangents_after};
 ghost use Rattle.create_core.specs.Core.{create_directionless};
 ghost use Rattle.create_entries.specs.CreateEntries.{check_lists, create_answer};
 
+use create_shared::MeshLists;
 use create_smoothness::Smoothness;
 use mesh::Refusal;
 
@@ -54,6 +55,7 @@ fn check_lists(
 }
 
 // Making from sharp edges, for lists of any length and content: `create::create_tangents` with the sharp entries as structs.
+// The parameters are in the order of that call: the C interface's counts, lists read, lists written, scratch.
 pub fn create_entries(
     n: usize,
     p: usize,
@@ -104,22 +106,17 @@ pub fn create_entries(
         return mesh::refused(checked);
     };
     create_smoothness::sharp_smoothness(sharp, smooth);
+    let mesh = MeshLists {
+        n: n,
+        p: p,
+        h: h,
+        refs: refs,
+        pos: pos,
+        normals: normals,
+        face_normals: face_normals,
+    };
     let directionless = create_core::make_tangents(
-        n,
-        p,
-        h,
-        pos,
-        normals,
-        face_normals,
-        refs,
-        old,
-        t,
-        fixed,
-        flat,
-        smooth,
-        desired,
-        at,
-        link,
+        mesh, old, t, fixed, flat, smooth, desired, at, link,
     );
     Ok(directionless)
 }

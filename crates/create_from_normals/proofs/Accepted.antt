@@ -1,7 +1,7 @@
 -- What an accepted call establishes of its lists. Assumes nothing.
 use Prim.Native.Nat.{ℕ, ◌*◌, ◌/◌, ◌%◌, ◌<◌}
 use native.Mathlib.Omega.{arith}
-use mathlib.Core.Path.{◌≡◌, sym, subst, ◌∙◌}
+use mathlib.Core.Path.{◌≡◌, ◌∙◌}
 use mathlib.Core.Bool.{true, ◌&&◌}
 use mathlib.Core.List.{List}
 use borrow.Author.Tests.{eqb-true}
@@ -18,7 +18,7 @@ use Rattle.common.proofs.Tests.{and_true}
 use Rattle.mesh.proofs.Tests.{has_length_lem, has_one}
 use Rattle.mesh.proofs.Accepted.{accepted, rows_accepted, refs_accepted, list_numbers}
 use Rattle.normals_state.specs.State.{RowIn}
-use Rattle.normals_core.specs.Core.{Lists}
+use Rattle.normals_core.specs.Core.{ScratchIn}
 use Rattle.create_shared.proofs.Lengths.{MeshListsFit, mesh_lists_fit_lem}
 use Rattle.create_from_normals.specs.FromNormals.{lists_fit, scratch_fits, check_normals, check_lists}
 
@@ -69,6 +69,16 @@ rows_in list G n whole thirds rows e h = record {
   row_in = omega (arith, thirds, (rows e h).1);
 }
 
+-- what `NormalLists` keeps of the lists that are read, and the lengths of those that are written
+pub record Lists (list : List ℤ) (P N A G T : List Float) (X Q : List ℕ) (C D : List Float) (F : List ℕ) (n p : ℕ) : Type 0 where
+  pub sound : Sound (as_halfedges list) n p
+  pub whole : (as_halfedges list).numbers ≡ n * halfedge_stride
+  pub positions : length P ≡ p * 3
+  pub point_normals : length N ≡ p * 3
+  pub triangle_normals : length A ≡ n
+  pub halfedge_normals : (e : ℕ) → e < n → RowIn list G e
+  pub written : ScratchIn T X Q C D F n p
+
 -- the lists of an accepted call
 pub lists_of : (list : List ℤ) (P N A : List Float) (R : List ℤ) (G T : List Float) (X Q : List ℕ) (C D : List Float) (F : List ℕ) (n p : ℕ)
     → check_lists list P N A R G T X Q C D F n p ≡ Ok tt → Lists list P N A G T X Q C D F n p
@@ -84,18 +94,15 @@ lists_of list P N A R G T X Q C D F n p e =
     let l = lists_fit_lem _ _ _ _ _ _ _ n p q.0 in
     let s = scratch_fits_lem _ _ _ _ _ n p q.1 in
     record {
-      lists = record {
-        sound = subst (Sound H n) (sym s.points) b.1;
-        whole = list_numbers list ∙ l.mesh_lists.halfedges;
-        positions = omega (arith, l.mesh_lists.positions, s.points);
-        normals = omega (arith, l.mesh_lists.normals, s.points);
-        face_normals = l.mesh_lists.face_normals b.1.triangles;
-        halfedge_normals = rows_in list G n l.mesh_lists.halfedges l.row_numbers r.1;
-        tangents = l.tangents;
-        fixed = s.fixed;
-        inside = s.inside;
+      sound = b.1;
+      whole = list_numbers list ∙ l.mesh_lists.halfedges;
+      positions = omega (arith, l.mesh_lists.positions);
+      point_normals = omega (arith, l.mesh_lists.normals);
+      triangle_normals = l.mesh_lists.face_normals b.1.triangles;
+      halfedge_normals = rows_in list G n l.mesh_lists.halfedges l.row_numbers r.1;
+      written = record {
+        made = record { tangents = l.tangents; fixed = s.fixed; inside = s.inside; points = s.points };
+        current = s.current;
+        desired = s.desired;
       };
-      points = s.points;
-      current = s.current;
-      desired = s.desired;
     }

@@ -12,6 +12,7 @@ ghost use Rattle.normals_core.specs.Core.{from_normals_directionless};
 ghost use Rattle.create_from_normals.specs.FromNormals.{lists_fit, scratch_fits, check_normals, check_lists, tangents_after, create_answer};
 
 use mesh::Refusal;
+use normals_walks::NormalLists;
 
 // Question 2 of the lists that the call reads, and of the tangents, from the length of each.
 fn lists_fit(
@@ -85,6 +86,7 @@ fn check_normals(
 // `face_normals` and `refs` three for each triangle, `rows` three for each row: the normal of the corners whose halfedges have
 // this row, 0 where it is missing. With `old` the tangents t hold the old ones. Of the scratch lists `first` has a place for
 // each point, each other one for each halfedge. The answer counts the circular tangents on an edge without direction.
+// The lists are lent flat, counts first, then those read, written and scratch: the form of the C interface and of all makings.
 pub fn create_tangents_from_normals(
     n: usize,
     p: usize,
@@ -129,7 +131,7 @@ pub fn create_tangents_from_normals(
     let Ok(()) = checked else {
         return mesh::refused(checked);
     };
-    let directionless = normals_core::make_tangents(
+    let read = NormalLists {
         n,
         p,
         h,
@@ -138,13 +140,9 @@ pub fn create_tangents_from_normals(
         face_normals,
         refs,
         rows,
-        old,
-        t,
-        fixed,
-        inside,
-        current,
-        desired,
-        first,
+    };
+    let directionless = normals_core::make_tangents(
+        &read, old, t, fixed, inside, current, desired, first,
     );
     Ok(directionless)
 }

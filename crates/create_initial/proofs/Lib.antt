@@ -1,4 +1,3 @@
 -- The laws of `create_initial`: those that the crates above cite are public.
-pub mod Lent
 pub mod Counts
 mod First

@@ -4,14 +4,13 @@
 ghost use Rattle.std.specs.Prelude.{◌≡◌, true, false, cond, ◌+◌, ◌*◌, ◌≤◌, ◌<◌, length};
 ghost use Rattle.common.specs.Fold.{fold_to};
 ghost use Rattle.mesh.specs.Mesh.{as_halfedges};
-ghost use Rattle.smoothing.specs.Edges.{is_inside_quad};
 ghost use Rattle.create_shared.specs.Lent.{flat_flags};
 ghost use Rattle.smoothing.specs.Lists.{put_tangent};
 ghost use Rattle.smoothing.specs.Inner.{put_edge};
-ghost use Rattle.create_initial.specs.First.{vert_normal, inside_quad_tangent, put_first_tangent, first_tangents, first_directionless, firsts_directionless};
-ghost use Rattle.create_initial.specs.Lent.{FaceIn, FirstLists, face_at, FirstIn, NormalIn, normal_at, first_at, first_made, edge_tangents, edge_directionless};
+ghost use Rattle.create_initial.specs.First.{vert_normal, inside_quad_tangent, first_tangents};
+ghost use Rattle.create_initial.specs.Lent.{FaceIn, FacesAt, FirstIn, normal_at, inside_quad, first_at, counts_first, first_made, put_first, count_firsts, edge_tangents, edge_directionless};
 
-use create_shared::FlatFace;
+use create_shared::{FlatFace, MeshLists};
 use linalg::{Vec3, Vec4};
 use smoothing::{CircularTangent, TwoTangents};
 
@@ -28,12 +27,17 @@ fn vert_normal(normals: &[f64], face_normals: &[f64], v: usize, face: FlatFace) 
 }
 
 // The normal of the start point of halfedge e, where `at` is the result of `vert_flat_face`.
-fn normal_at(h: &[i32], normals: &[f64], face_normals: &[f64], at: &[usize], e: usize) -> Vec3
-    requires { NormalIn (as_halfedges h.now) normals.now face_normals.now at.now e }
-    ensures { result ≡ normal_at (as_halfedges h.now) normals.now face_normals.now at.now e }
+fn normal_at(mesh: MeshLists<'_>, at: &[usize], e: usize) -> Vec3
+    requires { (e < mesh.n) × FacesAt mesh at.now }
+    ensures { result ≡ normal_at mesh.entry at.now e }
 {
-    let v = mesh::start_vert(h, e);
-    vert_normal(normals, face_normals, v, create_shared::flat_face(at, v))
+    let v = mesh::start_vert(mesh.h, e);
+    vert_normal(
+        mesh.normals,
+        mesh.face_normals,
+        v,
+        create_shared::flat_face(at, v),
+    )
 }
 
 // The mark of a halfedge inside a quad.
@@ -52,69 +56,40 @@ fn inside_quad_tangent() -> Vec4
 
 // The first tangent of halfedge e, and whether it is a circular tangent on an edge without direction. `t` still holds its old
 // weight.
-fn first_tangent(
-    n: usize,
-    h: &[i32],
-    refs: &[i32],
-    pos: &[f64],
-    normals: &[f64],
-    face_normals: &[f64],
-    at: &[usize],
-    t: &[f64],
-    e: usize,
-) -> CircularTangent
-    requires { (e < n) × FirstIn (as_halfedges h.now) pos.now normals.now face_normals.now at.now t.now n }
-    ensures { result ≡ first_made (as_halfedges h.now) pos.now normals.now face_normals.now refs.now at.now t.now true e }
+fn first_tangent(mesh: MeshLists<'_>, at: &[usize], t: &[f64], e: usize) -> CircularTangent
+    requires { (e < mesh.n) × FirstIn mesh at.now t.now }
+    ensures { result ≡ first_made mesh.entry at.now t.now true e }
 {
-    if smoothing::is_inside_quad(h, refs, t, true, e) {
+    if smoothing::is_inside_quad(mesh.h, mesh.refs, t, true, e) {
         return CircularTangent {
             tangent: inside_quad_tangent(),
             directionless: false,
         };
     }
-    let normal = normal_at(h, normals, face_normals, at, e);
-    smoothing::tangent_from_normal(h, pos, face_normals, normal, e)
+    let normal = normal_at(mesh, at, e);
+    smoothing::tangent_from_normal(mesh.h, mesh.pos, mesh.face_normals, normal, e)
 }
 
 // Writes it, in the list that the old weights are read from, and says what it counts. That is safe: of the old weights only e's own
 // is read, before it is written here, and no other turn of the loop writes it.
-fn put_first_tangent(
-    n: usize,
-    h: &[i32],
-    refs: &[i32],
-    pos: &[f64],
-    normals: &[f64],
-    face_normals: &[f64],
-    at: &[usize],
-    t: &mut [f64],
-    e: usize,
-) -> usize
-    requires { (e < n) × FirstIn (as_halfedges h.now) pos.now normals.now face_normals.now at.now t.old n }
-    ensures tangents { t.new ≡ put_first_tangent (as_halfedges h.now) pos.now normals.now face_normals.now (is_inside_quad (as_halfedges h.now) refs.now t.old true) (face_at at.now) t.old e }
-    ensures directionless { result ≡ cond (first_directionless (as_halfedges h.now) pos.now (is_inside_quad (as_halfedges h.now) refs.now t.old true) e) 1 0 }
+fn put_first_tangent(mesh: MeshLists<'_>, at: &[usize], t: &mut [f64], e: usize) -> usize
+    requires { (e < mesh.n) × FirstIn mesh at.now t.old }
+    ensures tangents { t.new ≡ put_first mesh.entry at.now t.old true t.old e }
+    ensures directionless { result ≡ cond (counts_first mesh.entry t.old true e) 1 0 }
 {
-    let first = first_tangent(n, h, refs, pos, normals, face_normals, at, t, e);
+    let first = first_tangent(mesh, at, t, e);
     smoothing::put_tangent(t, e, first.tangent);
     common::one_if(first.directionless)
 }
 
-fn put_each(
-    n: usize,
-    h: &[i32],
-    refs: &[i32],
-    pos: &[f64],
-    normals: &[f64],
-    face_normals: &[f64],
-    at: &[usize],
-    t: &mut [f64],
-) -> usize
-    requires { FirstIn (as_halfedges h.now) pos.now normals.now face_normals.now at.now t.old n }
-    ensures tangents { t.new ≡ fold_to (put_first_tangent (as_halfedges h.now) pos.now normals.now face_normals.now (is_inside_quad (as_halfedges h.now) refs.now t.old true) (face_at at.now)) t.old n }
-    ensures directionless { result ≡ firsts_directionless (as_halfedges h.now) pos.now (is_inside_quad (as_halfedges h.now) refs.now t.old true) n }
+fn put_each(mesh: MeshLists<'_>, at: &[usize], t: &mut [f64]) -> usize
+    requires { FirstIn mesh at.now t.old }
+    ensures tangents { t.new ≡ fold_to (put_first mesh.entry at.now t.old true) t.old mesh.entry.n }
+    ensures directionless { result ≡ count_firsts mesh.entry t.old true }
 {
     let mut directionless = 0;
-    for e in 0..n {
-        directionless += put_first_tangent(n, h, refs, pos, normals, face_normals, at, t, e);
+    for e in 0..mesh.n {
+        directionless += put_first_tangent(mesh, at, t, e);
     }
     directionless
 }
@@ -122,21 +97,11 @@ fn put_each(
 // ---- without: edge by edge
 
 // The first tangents of halfedge e and of its pair: both are inside a quad or neither is, and they share the length of the edge.
-fn edge_tangents(
-    n: usize,
-    h: &[i32],
-    refs: &[i32],
-    pos: &[f64],
-    normals: &[f64],
-    face_normals: &[f64],
-    at: &[usize],
-    t: &[f64],
-    e: usize,
-) -> TwoTangents
-    requires { (e < n) × FirstIn (as_halfedges h.now) pos.now normals.now face_normals.now at.now t.now n }
-    ensures { result ≡ edge_tangents (as_halfedges h.now) pos.now normals.now face_normals.now refs.now at.now t.now e }
+fn edge_tangents(mesh: MeshLists<'_>, at: &[usize], t: &[f64], e: usize) -> TwoTangents
+    requires { (e < mesh.n) × FirstIn mesh at.now t.now }
+    ensures { result ≡ edge_tangents mesh.entry at.now t.now e }
 {
-    if smoothing::is_inside_quad(h, refs, t, false, e) {
+    if smoothing::is_inside_quad(mesh.h, mesh.refs, t, false, e) {
         let mark = inside_quad_tangent();
         return TwoTangents {
             here: mark,
@@ -144,32 +109,22 @@ fn edge_tangents(
             directionless: false,
         };
     }
-    let a = normal_at(h, normals, face_normals, at, e);
-    let b = normal_at(h, normals, face_normals, at, mesh::paired_halfedge(h, e));
-    smoothing::tangents_from_normals(h, pos, face_normals, a, b, e)
+    let a = normal_at(mesh, at, e);
+    let b = normal_at(mesh, at, mesh::paired_halfedge(mesh.h, e));
+    smoothing::tangents_from_normals(mesh.h, mesh.pos, mesh.face_normals, a, b, e)
 }
 
 // Writes both, at the forward one of the two, and says what they count.
-fn put_edge(
-    n: usize,
-    h: &[i32],
-    refs: &[i32],
-    pos: &[f64],
-    normals: &[f64],
-    face_normals: &[f64],
-    at: &[usize],
-    t: &mut [f64],
-    e: usize,
-) -> usize
-    requires { (e < n) × FirstIn (as_halfedges h.now) pos.now normals.now face_normals.now at.now t.old n }
-    ensures tangents { t.new ≡ put_edge put_tangent (as_halfedges h.now) (first_at (as_halfedges h.now) pos.now normals.now face_normals.now refs.now at.now t.old false) t.old e }
-    ensures directionless { result ≡ edge_directionless (as_halfedges h.now) pos.now (is_inside_quad (as_halfedges h.now) refs.now t.old false) e }
+fn put_edge(mesh: MeshLists<'_>, at: &[usize], t: &mut [f64], e: usize) -> usize
+    requires { (e < mesh.n) × FirstIn mesh at.now t.old }
+    ensures tangents { t.new ≡ put_edge put_tangent (as_halfedges mesh.entry.h.now) (first_at mesh.entry at.now t.old false) t.old e }
+    ensures directionless { result ≡ edge_directionless mesh.entry t.old e }
 {
-    if !mesh::is_forward(h, e) {
+    if !mesh::is_forward(mesh.h, e) {
         return 0;
     }
-    let tangents = edge_tangents(n, h, refs, pos, normals, face_normals, at, t, e);
-    let pair = mesh::paired_halfedge(h, e);
+    let tangents = edge_tangents(mesh, at, t, e);
+    let pair = mesh::paired_halfedge(mesh.h, e);
     smoothing::put_tangent(t, e, tangents.here);
     smoothing::put_tangent(t, pair, tangents.there);
     if tangents.directionless { 2 } else { 0 }
@@ -177,23 +132,14 @@ fn put_edge(
 
 // A loop of its own, and not a test of `old` in that of `put_each`: each keeps another invariant, this one that of both halfedges
 // of an edge.
-fn put_edges(
-    n: usize,
-    h: &[i32],
-    refs: &[i32],
-    pos: &[f64],
-    normals: &[f64],
-    face_normals: &[f64],
-    at: &[usize],
-    t: &mut [f64],
-) -> usize
-    requires { FirstIn (as_halfedges h.now) pos.now normals.now face_normals.now at.now t.old n }
-    ensures tangents { t.new ≡ fold_to (put_first_tangent (as_halfedges h.now) pos.now normals.now face_normals.now (is_inside_quad (as_halfedges h.now) refs.now t.old false) (face_at at.now)) t.old n }
-    ensures directionless { result ≡ firsts_directionless (as_halfedges h.now) pos.now (is_inside_quad (as_halfedges h.now) refs.now t.old false) n }
+fn put_edges(mesh: MeshLists<'_>, at: &[usize], t: &mut [f64]) -> usize
+    requires { FirstIn mesh at.now t.old }
+    ensures tangents { t.new ≡ fold_to (put_first mesh.entry at.now t.old false) t.old mesh.entry.n }
+    ensures directionless { result ≡ count_firsts mesh.entry t.old false }
 {
     let mut directionless = 0;
-    for e in 0..n {
-        directionless += put_edge(n, h, refs, pos, normals, face_normals, at, t, e);
+    for e in 0..mesh.n {
+        directionless += put_edge(mesh, at, t, e);
     }
     directionless
 }
@@ -201,47 +147,32 @@ fn put_edges(
 // ---- all of them
 
 // The first tangents, where `at` is the result of `vert_flat_face`, and what they count.
-fn put_first_tangents(
-    n: usize,
-    h: &[i32],
-    refs: &[i32],
-    pos: &[f64],
-    normals: &[f64],
-    face_normals: &[f64],
-    at: &[usize],
-    old: bool,
-    t: &mut [f64],
-) -> usize
-    requires { FirstIn (as_halfedges h.now) pos.now normals.now face_normals.now at.now t.old n }
-    ensures tangents { t.new ≡ fold_to (put_first_tangent (as_halfedges h.now) pos.now normals.now face_normals.now (is_inside_quad (as_halfedges h.now) refs.now t.old old) (face_at at.now)) t.old n }
-    ensures directionless { result ≡ firsts_directionless (as_halfedges h.now) pos.now (is_inside_quad (as_halfedges h.now) refs.now t.old old) n }
+fn put_first_tangents(mesh: MeshLists<'_>, at: &[usize], old: bool, t: &mut [f64]) -> usize
+    requires { FirstIn mesh at.now t.old }
+    ensures tangents { t.new ≡ fold_to (put_first mesh.entry at.now t.old old) t.old mesh.entry.n }
+    ensures directionless { result ≡ count_firsts mesh.entry t.old old }
 {
     if old {
-        return put_each(n, h, refs, pos, normals, face_normals, at, t);
+        return put_each(mesh, at, t);
     }
-    put_edges(n, h, refs, pos, normals, face_normals, at, t)
+    put_edges(mesh, at, t)
 }
 
 // Which triangles lie in flat faces, and the first tangents, whatever `flat` and `at` held; and how many of these are circular
 // tangents on an edge without direction. Each tangent is written whole, so `t` may stand for the Rust's list of zeros.
 pub fn first_tangents(
-    n: usize,
-    h: &[i32],
-    refs: &[i32],
-    pos: &[f64],
-    normals: &[f64],
-    face_normals: &[f64],
+    mesh: MeshLists<'_>,
     old: bool,
     t: &mut [f64],
     flat: &mut [u8],
     at: &mut [usize],
 ) -> usize
-    requires { FirstLists (as_halfedges h.now) pos.now normals.now face_normals.now at.old t.old n × (length flat.old ≡ n) }
-    ensures flat { flat.new ≡ flat_flags (as_halfedges h.now) refs.now n }
-    ensures tangents { t.new ≡ first_tangents (as_halfedges h.now) pos.now normals.now face_normals.now refs.now (is_inside_quad (as_halfedges h.now) refs.now t.old old) n }
-    ensures directionless { result ≡ firsts_directionless (as_halfedges h.now) pos.now (is_inside_quad (as_halfedges h.now) refs.now t.old old) n }
+    requires { (length t.old ≡ mesh.n * 4) × (length flat.old ≡ mesh.n) × (length at.old ≡ mesh.p) }
+    ensures flat { flat.new ≡ flat_flags (as_halfedges mesh.entry.h.now) mesh.entry.refs.now mesh.entry.n }
+    ensures tangents { let m = mesh.entry in t.new ≡ first_tangents (as_halfedges m.h.now) m.pos.now m.normals.now m.face_normals.now m.refs.now (inside_quad m t.old old) m.n }
+    ensures directionless { result ≡ count_firsts mesh.entry t.old old }
 {
-    create_shared::flat_faces(h, refs, flat);
-    create_shared::vert_flat_face(h, refs, flat, at);
-    put_first_tangents(n, h, refs, pos, normals, face_normals, at, old, t)
+    create_shared::flat_faces(mesh.h, mesh.refs, flat);
+    create_shared::vert_flat_face(mesh.h, mesh.refs, flat, at);
+    put_first_tangents(mesh, at, old, t)
 }

@@ -13,8 +13,11 @@ ghost use Rattle.create_shared.specs.Lengths.{mesh_lists_fit};
 ghost use Rattle.create_shared.specs.Makings.{MakingIn, tangents_of, put_circular_tangent, align_tangents, directionless_at, aligned_directionless};
 ghost use Rattle.create_shared.specs.Answer.{directionless_of};
 
+mod mesh_lists;
+
 use linalg::Vec3;
 use mesh::Refusal;
+pub use mesh_lists::MeshLists;
 
 // The flat faces at a point, the Rust's -1, triangle and -2: none; one, with its lowest triangle; or more, with the last
 // triangle that brought another face.

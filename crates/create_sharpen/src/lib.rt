@@ -18,6 +18,7 @@ use linalg::{Vec3, Vec4};
 // ---- a vertex cycle
 
 // A tangent multiplied by the smoothness s; at 0 its weight becomes 0 too.
+#[tactic(auto, unfolding(crate::specs::Sharpen::sharpened))]
 fn sharpened(t: Vec4, s: f64) -> Vec4
     ensures { result ≡ sharpened s t }
 {
@@ -30,6 +31,7 @@ fn sharpened(t: Vec4, s: f64) -> Vec4
 }
 
 // The same, of halfedge e.
+#[tactic(auto, unfolding(crate::specs::Sharpen::sharpen_tangent))]
 fn sharpen_tangent(t: &mut [f64], e: usize, s: f64)
     requires { e * 4 + 4 ≤ length t.old }
     ensures { t.new ≡ sharpen_tangent t.old e s }
@@ -39,6 +41,7 @@ fn sharpen_tangent(t: &mut [f64], e: usize, s: f64)
 }
 
 // The line of a crease through a point, in the direction of `first`.
+#[tactic(auto, unfolding(crate::specs::Sharpen::new_tangent))]
 fn new_tangent(t: &[f64], first: usize, second: usize) -> Vec3
     requires { (first * 4 + 4 ≤ length t.now) × (second * 4 + 4 ≤ length t.now) }
     ensures { result ≡ new_tangent t.now first second }
@@ -49,6 +52,7 @@ fn new_tangent(t: &[f64], first: usize, second: usize) -> Vec3
 }
 
 // One halfedge beside a crease through a point: the smoothness of the side that the walk is on, after it.
+#[tactic(auto, unfolding(crate::specs::Sharpen::sharpen_side))]
 fn sharpen_side(
     t: &mut [f64],
     first: usize,
@@ -72,6 +76,7 @@ fn sharpen_side(
 }
 
 // The smoothness of a halfedge at a meeting: 0 beside a flat face, else the mean.
+#[tactic(auto, unfolding(crate::specs::Sharpen::meeting_smoothness))]
 fn meeting_smoothness(h: &[i32], flat: &[u8], mean: f64, current: usize) -> f64
     requires { (current < length flat.now) × FlatIn (as_halfedges h.now) (length flat.now) }
     ensures { result ≡ meeting_smoothness (as_halfedges h.now) (is_flat flat.now) mean current }
@@ -85,6 +90,7 @@ fn meeting_smoothness(h: &[i32], flat: &[u8], mean: f64, current: usize) -> f64
 }
 
 // One halfedge of a meeting.
+#[tactic(auto, unfolding(crate::specs::Sharpen::sharpen_meeting_at))]
 fn sharpen_meeting_at(h: &[i32], flat: &[u8], t: &mut [f64], mean: f64, current: usize)
     requires { (current * 4 + 4 ≤ length t.old) × (current < length flat.now) × FlatIn (as_halfedges h.now) (length flat.now) }
     ensures { t.new ≡ sharpen_meeting_at (as_halfedges h.now) (is_flat flat.now) mean t.old current }
@@ -138,6 +144,7 @@ fn sharpen_meeting(n: usize, h: &[i32], flat: &[u8], t: &mut [f64], first: usize
 // ---- a point
 
 // A crease through a point: how many of its two edges have no direction.
+#[tactic(auto, unfolding(crate::specs::Shapes::shape_through))]
 fn shape_through(
     n: usize,
     h: &[i32],
@@ -160,6 +167,7 @@ fn shape_through(
 }
 
 // Fixes halfedge e, if it is one.
+#[tactic(auto, unfolding(crate::specs::Shapes::fix_halfedge))]
 fn fix_halfedge(n: usize, fixed: &mut [u8], e: usize)
     requires { length fixed.old ≡ n }
     ensures { fixed.new ≡ fix_halfedge n fixed.old e }
@@ -171,6 +179,7 @@ fn fix_halfedge(n: usize, fixed: &mut [u8], e: usize)
 }
 
 // What the creases of a point do, and count. `first` is the halfedge of the first one, and with no crease the point's lowest.
+#[tactic(auto, unfolding(crate::specs::Shapes::shape_crease, crate::specs::Shapes::crease_directionless, crate::specs::Shapes::shape_meeting))]
 fn shape_crease(
     n: usize,
     h: &[i32],

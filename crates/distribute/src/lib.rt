@@ -5,11 +5,13 @@
 ghost use Rattle.std.specs.Prelude.{◌≡◌, length, replicate};
 ghost use Rattle.float.specs.Ops.{zero};
 ghost use Rattle.mesh.specs.Mesh.{as_halfedges};
+ghost use Rattle.distribute_spread.specs.Spread.{pass};
 ghost use Rattle.distribute_steps.specs.FloatSteps.{float_steps};
-ghost use Rattle.distribute_walks.specs.Walks.{Lists};
+ghost use Rattle.distribute_walks.specs.Walks.{Lists, Written, steps_of};
 ghost use Rattle.distribute.specs.Distribute.{looked_of, turned_of, lists_fit, lengths_fit, check_lists, spread_tangents, Reports, distribute_tangents, tangents_after, scratch_after, AnyOrder, Values};
 
 pub use distribute_walks::Counts;
+use distribute_walks::SpreadLists;
 use mesh::Refusal;
 
 // How many steps were looked at; 0 where the call is refused.
@@ -34,32 +36,26 @@ pub fn turned_of(spreading: Result<Counts, Refusal>) -> usize
 
 // The loop over the halfedges of an accepted mesh.
 fn spread_all(
-    n: usize,
-    p: usize,
-    h: &[i32],
-    pos: &[f64],
-    normals: &[f64],
-    fixed: &[u8],
+    lists: &SpreadLists,
     t: &mut [f64],
     current: &mut [f64],
     desired: &mut [f64],
 ) -> Counts
-    requires { Lists (as_halfedges h.now) pos.now normals.now fixed.now t.old current.old desired.old n p }
-    ensures { Reports (float_steps (as_halfedges h.now) pos.now normals.now fixed.now n) (spread_tangents (as_halfedges h.now) pos.now normals.now fixed.now t.old n) t.new result }
+    requires { Written lists.now t.old current.old desired.old }
+    ensures { Reports (steps_of lists.now) (pass (steps_of lists.now) t.old) t.new result }
 {
     let mut counts = Counts {
         looked: 0,
         turned: 0,
     };
-    for start in 0..n {
-        counts = distribute_walks::spread_at(
-            n, p, h, pos, normals, fixed, t, current, desired, start, counts,
-        );
+    for start in 0..lists.n {
+        counts = distribute_walks::spread_at(lists, t, current, desired, start, counts);
     }
     counts
 }
 
-// Spreading of an accepted mesh: the loop, and then zeros in both scratch lists.
+// Spreading of an accepted mesh: the loop, and then zeros in both scratch lists. The signature is that of the call, for
+// the crates above hand on lists that the C interface lends.
 pub fn spread_tangents(
     n: usize,
     p: usize,
@@ -76,13 +72,22 @@ pub fn spread_tangents(
     ensures current { current.new ≡ replicate n zero }
     ensures desired { desired.new ≡ replicate n zero }
 {
-    let counts = spread_all(n, p, h, pos, normals, fixed, t, current, desired);
-    common::fill_floats(current, 0.0);
-    common::fill_floats(desired, 0.0);
+    let lists = SpreadLists {
+        n,
+        p,
+        h,
+        pos,
+        normals,
+        fixed,
+    };
+    let counts = spread_all(&lists, t, current, desired);
+    current.fill(0.0);
+    desired.fill(0.0);
     counts
 }
 
-// Question 2 of the lists that spreading and its preview read or turn.
+// Question 2 of the lists that spreading and its preview read or turn. No struct, here or in the other questions: what its
+// invariant would say is what they ask.
 pub fn lists_fit(
     n: usize,
     p: usize,
@@ -150,6 +155,7 @@ fn check_lists(
 // Spreading, for lists of any length and content. `pos` and `normals` have three numbers for each point, `fixed` a flag
 // for each halfedge, and the scratch lists `current` and `desired` (the Rust's `current_angle` and `desired_angle`) a
 // place for each halfedge.
+// The signature stays flat, as the C interface lends: counts, lists read, lists written, scratch.
 pub fn distribute_tangents(
     n: usize,
     p: usize,

@@ -18,7 +18,8 @@ use Rattle.distribute_spread.proofs.Places.{stop_is}
 use Rattle.distribute_spread.proofs.Loops.{angles_left}
 use Rattle.distribute_spread.proofs.Guards.{angles_gathered}
 use Rattle.distribute_steps.specs.FloatSteps.{Gathered, is_start, begin, gather_edge, turn_angle, turned_tangent, float_steps}
-use Rattle.distribute_walks.specs.Walks.{Lists, first_from}
+use Rattle.distribute_walks.specs.Walks.{steps_of, first_from}
+use Rattle.distribute_walks.specs.declared.lists.SpreadLists.{SpreadLists}
 
 pub weight_kept : (axis : Vec3) (angle : Float) (v : Vec4) → (turned_tangent axis angle v).w ≡ v.w
 unfolding turned_tangent
@@ -36,8 +37,8 @@ lawful {H} {n} s P N F = record {
   same_tangents = λ T U t u f. same_tangents n T U t u f;
 }
 
-abbrev pub laws : {H : Halfedges} {P N : List Float} {F : List ℕ} {T C D : List Float} {n p : ℕ} → Lists H P N F T C D n p → Lawful (float_steps H P N F n)
-laws {P = P} {N = N} {F = F} l = lawful l.sound P N F
+abbrev pub laws : (lists : SpreadLists) → Lawful (steps_of lists)
+laws lists = lawful lists.sound lists.pos.now lists.normals.now lists.fixed.now
 
 -- the number of angles
 abbrev pub angle_count : Gathered → ℕ

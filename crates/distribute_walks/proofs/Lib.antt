@@ -1,5 +1,4 @@
 -- The laws of `distribute_walks`, for the crates above.
 pub mod Lawful
-mod Points
 mod Bodies
 mod Starts

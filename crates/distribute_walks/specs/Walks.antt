@@ -1,17 +1,18 @@
 -- What the walks of the code ask and ensure: the lists of an accepted call, the code's state, and one step of each walk. H are the halfedges, P the positions, N the point normals, X the flags, T the tangents, C and D the scratch lists, n and p the counts of halfedges and points.
 use Rattle.std.specs.Prelude.{ℕ, suc, ◌+◌, ◌*◌, ◌^◌, ◌≤◌, ◌<◌, ◌≡◌, List, true, false, length, Float}
-use Rattle.mesh.specs.Mesh.{halfedge_stride, Halfedges}
+use Rattle.mesh.specs.Mesh.{halfedge_stride, as_halfedges, Halfedges}
 use Rattle.mesh.specs.Sound.{Sound}
 use Rattle.smoothing.specs.Lists.{tangent_at}
 use Rattle.distribute_spread.specs.Steps.{Steps}
 use Rattle.distribute_spread.specs.Spread.{Found, State, first_walk}
 use Rattle.distribute_steps.specs.FloatSteps.{is_mark, is_start, begin, float_steps}
-use Rattle.distribute_steps.specs.Scratch.{gathered_of, directions_at, EdgeFrom}
+use Rattle.distribute_steps.specs.Scratch.{gathered_of, directions_at}
 use Rattle.distribute_steps.specs.declared.Carried.{Carried}
 use Rattle.distribute_steps.specs.declared.Directions.{Directions}
 use Rattle.distribute_steps.specs.declared.Turning.{Turning}
 use Rattle.distribute_walks.specs.declared.Counts.{Counts}
 use Rattle.distribute_walks.specs.declared.Ended.{Ended}
+use Rattle.distribute_walks.specs.declared.lists.SpreadLists.{SpreadLists}
 
 -- ---- the lists of an accepted call
 
@@ -24,6 +25,16 @@ pub record Lists (H : Halfedges) (P N : List Float) (X : List ℕ) (T C D : List
   pub tangents : length T ≡ n * 4
   pub current : length C ≡ n
   pub desired : length D ≡ n
+
+-- the lists that a walk writes, beside those that it only reads
+pub record Written (lists : SpreadLists) (T C D : List Float) : Type 0 where
+  pub tangents : length T ≡ lists.n * 4
+  pub current : length C ≡ lists.n
+  pub desired : length D ≡ lists.n
+
+-- the steps of spreading over the lists
+abbrev pub steps_of : SpreadLists → Steps
+steps_of lists = float_steps (as_halfedges lists.h.now) lists.pos.now lists.normals.now lists.fixed.now lists.n
 
 -- both counts may grow by one for each halfedge
 pub record Room (n : ℕ) (k : Counts) : Type 0 where
@@ -47,22 +58,26 @@ Gives S part ts k ts' k' = (places : List ℕ) → (after : List ℕ) × (part (
 -- ---- the first walk
 
 -- what it found, with the angles in the scratch lists
-abbrev pub found_of : (H : Halfedges) (P N : List Float) (X : List ℕ) (n : ℕ) → List Float → List Float → Ended → Found (float_steps H P N X n)
-found_of H P N X n C D r = record { last = r.last; looked = r.looked; gathered = gathered_of C D r.carried }
+abbrev pub found_of : (lists : SpreadLists) → List Float → List Float → Ended → Found (steps_of lists)
+found_of lists C D r = record { last = r.last; looked = r.looked; gathered = gathered_of C D r.carried }
 
 -- what it comes to, from a start and with so many steps looked at before
 abbrev pub first_from : (H : Halfedges) (P N : List Float) (X : List ℕ) (n : ℕ) → List Float → ℕ → ℕ → Found (float_steps H P N X n)
 first_from H P N X n T start looked = first_walk (float_steps H P N X n) (suc n) T start start looked (begin H P start (tangent_at T start))
 
--- halfedge e has a tangent and an edge, and `first` are the directions at the start
-pub record CanLook (H : Halfedges) (P T : List Float) (start e : ℕ) (first : Directions) : Type 0 where
-  pub tangent_in : e * 4 + 4 ≤ length T
-  pub edge : EdgeFrom H P start e
-  pub first_is : first ≡ directions_at H P T start start
+abbrev pub first_found : (lists : SpreadLists) → List Float → ℕ → ℕ → Found (steps_of lists)
+first_found lists T start looked = first_from (as_halfedges lists.h.now) lists.pos.now lists.normals.now lists.fixed.now lists.n T start looked
 
--- a step onto halfedge e: there is a place for its angles
-pub record CanGather (H : Halfedges) (P T C D : List Float) (start e : ℕ) (first : Directions) (g : Carried) : Type 0 where
-  pub look : CanLook H P T start e first
+-- a step onto halfedge e, where `first` are the directions at the start
+pub record CanLook (lists : SpreadLists) (T : List Float) (start e : ℕ) (first : Directions) : Type 0 where
+  pub start_below : start < lists.n
+  pub below : e < lists.n
+  pub tangents : length T ≡ lists.n * 4
+  pub first_is : first ≡ directions_at (as_halfedges lists.h.now) lists.pos.now T start start
+
+-- and there is a place for its angles
+pub record CanGather (lists : SpreadLists) (T C D : List Float) (start e : ℕ) (first : Directions) (g : Carried) : Type 0 where
+  pub look : CanLook lists T start e first
   pub current_in : g.count < length C
   pub desired_in : g.count < length D
 
@@ -77,16 +92,11 @@ pub record CanTurn (T C D : List Float) (by : Turning) (i e : ℕ) : Type 0 wher
   pub angle_below : is_mark (tangent_at T e).w ≡ false → i < by.count
 
 -- what the walk from `start` is lent: as many angles as the first walk gathers
-pub record SecondInput (H : Halfedges) (X : List ℕ) (T C D : List Float) (n p start : ℕ) (by : Turning) : Type 0 where
-  pub sound : Sound H n p
-  pub whole : H.numbers ≡ n * halfedge_stride
-  pub flags : length X ≡ n
-  pub tangents : length T ≡ n * 4
+pub record SecondInput (lists : SpreadLists) (T C D : List Float) (start : ℕ) (by : Turning) : Type 0 where
+  pub tangents : length T ≡ lists.n * 4
   pub current_in : by.count ≤ length C
   pub desired_in : by.count ≤ length D
-  pub start_below : start < n
-  pub start_is : is_start X T start ≡ true
-  pub positions : List Float
-  pub normals : List Float
+  pub start_below : start < lists.n
+  pub start_is : is_start lists.fixed.now T start ≡ true
   pub looked : ℕ
-  pub angles : by.count ≡ length (first_from H positions normals X n T start looked).gathered.desired_angle
+  pub angles : by.count ≡ length (first_found lists T start looked).gathered.desired_angle

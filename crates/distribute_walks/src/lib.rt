@@ -8,11 +8,14 @@ ghost use Rattle.smoothing.specs.Lists.{tangent_at, put_tangent};
 ghost use Rattle.distribute_spread.specs.Spread.{second_walk, spread_at};
 ghost use Rattle.distribute_steps.specs.FloatSteps.{is_mark, is_fixed, is_start, edge_direction, gather_edge, turn, next, float_steps};
 ghost use Rattle.distribute_steps.specs.Scratch.{gathered_of, directions_at, plan_of};
-ghost use Rattle.distribute_walks.specs.Walks.{Lists, Room, Gives, more_turned, found_of, first_from, CanLook, CanGather, CanTurn, SecondInput};
+ghost use Rattle.distribute_walks.specs.Walks.{Written, Room, Gives, more_turned, steps_of, found_of, first_found, CanLook, CanGather, CanTurn, SecondInput};
 ghost use Rattle.distribute_walks.specs.declared.Counts.{Counts};
+
+mod lists;
 
 use distribute_steps::{Carried, Directions, Turning};
 use linalg::Vec3;
+pub use lists::SpreadLists;
 
 // How many steps the first walks took, and how many tangents the second walks wrote.
 #[derive(Clone, Copy)]
@@ -31,28 +34,26 @@ pub struct Ended {
 
 // The two directions at halfedge e of a walk from `start`. Back there, the walk uses those that it set out with, `first`.
 fn directions_at(
-    h: &[i32],
-    pos: &[f64],
+    lists: &SpreadLists,
     t: &[f64],
     start: usize,
     e: usize,
     first: Directions,
 ) -> Directions
-    requires { CanLook (as_halfedges h.now) pos.now t.now start e first }
-    ensures { result ≡ directions_at (as_halfedges h.now) pos.now t.now start e }
+    requires { CanLook lists.now t.now start e first }
+    ensures { result ≡ directions_at (as_halfedges lists.now.h.now) lists.now.pos.now t.now start e }
 {
     if e == start {
         return first;
     }
-    let edge = distribute_steps::edge_direction(h, pos, start, e);
+    let edge = distribute_steps::edge_direction(lists.h, lists.pos, start, e);
     let tangent = distribute_steps::tangent_direction(smoothing::tangent_at(t, e));
     Directions { edge, tangent }
 }
 
 // One step of the first walk, onto halfedge e: the mark is read before anything else, and a marked one gathers nothing.
 fn gather_at(
-    h: &[i32],
-    pos: &[f64],
+    lists: &SpreadLists,
     t: &[f64],
     current: &mut [f64],
     desired: &mut [f64],
@@ -62,50 +63,45 @@ fn gather_at(
     first: Directions,
     g: Carried,
 ) -> Carried
-    requires { CanGather (as_halfedges h.now) pos.now t.now current.old desired.old start e first g }
-    ensures result_after { gathered_of current.new desired.new result ≡ cond (is_mark (tangent_at t.now e).w) (gathered_of current.old desired.old g) (gather_edge approx (edge_direction (as_halfedges h.now) pos.now start e) (eqb e start) (tangent_at t.now e) (gathered_of current.old desired.old g)) }
+    requires { CanGather lists.now t.now current.old desired.old start e first g }
+    ensures result_after { gathered_of current.new desired.new result ≡ cond (is_mark (tangent_at t.now e).w) (gathered_of current.old desired.old g) (gather_edge approx (edge_direction (as_halfedges lists.now.h.now) lists.now.pos.now start e) (eqb e start) (tangent_at t.now e) (gathered_of current.old desired.old g)) }
     ensures count_value { result.count ≡ cond (is_mark (tangent_at t.now e).w) g.count (g.count + 1) }
 {
     if distribute_steps::is_marked(t, e) {
         return g;
     }
-    let at = directions_at(h, pos, t, start, e, first);
+    let at = directions_at(lists, t, start, e, first);
     distribute_steps::gather_edge(current, desired, approx, at, e == start, g)
 }
 
 // The first walk, document 01's "loop that yields the halfedge where it stopped": breaks with the next one that is fixed and
-// unmarked.
+// unmarked. No iterator, here or in the second walk: document 01 names this form.
 fn first_walk(
-    n: usize,
-    p: usize,
-    h: &[i32],
-    pos: &[f64],
-    normals: &[f64],
-    fixed: &[u8],
+    lists: &SpreadLists,
     t: &[f64],
     current: &mut [f64],
     desired: &mut [f64],
     start: usize,
     counts: Counts,
 ) -> Ended
-    requires lists { Lists (as_halfedges h.now) pos.now normals.now fixed.now t.now current.old desired.old n p }
-    requires start_lt_n { (start < n) × (is_start fixed.now t.now start ≡ true) × Room n counts }
-    ensures result_after { found_of (as_halfedges h.now) pos.now normals.now fixed.now n current.new desired.new result ≡ first_from (as_halfedges h.now) pos.now normals.now fixed.now n t.now start counts.looked }
-    ensures looked_bound { (result.looked ≤ counts.looked + n) × (result.carried.count ≤ n) }
+    requires written { Written lists.now t.now current.old desired.old }
+    requires start_lt_n { (start < lists.now.n) × (is_start lists.now.fixed.now t.now start ≡ true) × Room lists.now.n counts }
+    ensures result_after { found_of lists.now current.new desired.new result ≡ first_found lists.now t.now start counts.looked }
+    ensures looked_bound { (result.looked ≤ counts.looked + lists.now.n) × (result.carried.count ≤ lists.now.n) }
 {
-    let approx = smoothing::point_at(normals, mesh::start_vert(h, start));
+    let approx = smoothing::point_at(lists.normals, mesh::start_vert(lists.h, start));
     let v = smoothing::tangent_at(t, start);
-    let mut g = distribute_steps::begin(h, pos, start, v);
+    let mut g = distribute_steps::begin(lists.h, lists.pos, start, v);
     let edge = g.last_edge;
     let tangent = g.first_tangent;
     let first = Directions { edge, tangent };
     let mut looked = counts.looked;
     let mut here = start;
     let last = loop {
-        here = cycles::next_around(h, here);
+        here = cycles::next_around(lists.h, here);
         looked += 1;
-        g = gather_at(h, pos, t, current, desired, approx, start, here, first, g);
-        if distribute_steps::is_start(fixed, t, here) {
+        g = gather_at(lists, t, current, desired, approx, start, here, first, g);
+        if distribute_steps::is_start(lists.fixed, t, here) {
             break here;
         }
     };
@@ -147,24 +143,22 @@ pub fn leaves(fixed: &[u8], start: usize, e: usize) -> bool
 
 // The second walk: leaves by its label at a fixed halfedge other than the start, before that one's mark is read.
 fn second_walk(
-    n: usize,
-    p: usize,
-    h: &[i32],
-    fixed: &[u8],
+    lists: &SpreadLists,
     t: &mut [f64],
     current: &[f64],
     desired: &mut [f64],
     start: usize,
     by: Turning,
 ) -> usize
-    requires { SecondInput (as_halfedges h.now) fixed.now t.old current.now desired.old n p start by }
-    ensures { ((P N : List Float) (k : Counts) → Gives (float_steps (as_halfedges h.now) P N fixed.now n) (second_walk (float_steps (as_halfedges h.now) P N fixed.now n) (suc n) start start (plan_of current.now desired.old by 0)) t.old k t.new (more_turned k result)) × (result ≤ by.count) }
+    requires { SecondInput lists.now t.old current.now desired.old start by }
+    ensures gives { (k : Counts) → Gives (steps_of lists.now) (second_walk (steps_of lists.now) (suc lists.now.n) start start (plan_of current.now desired.old by 0)) t.old k t.new (more_turned k result) }
+    ensures few { result ≤ by.count }
 {
     let mut here = start;
     let mut i: usize = 0;
     'walk: loop {
-        here = cycles::next_around(h, here);
-        if leaves(fixed, start, here) {
+        here = cycles::next_around(lists.h, here);
+        if leaves(lists.fixed, start, here) {
             break 'walk;
         }
         i = turn_unmarked(t, current, desired, by, i, here);
@@ -178,29 +172,22 @@ fn second_walk(
 // One turn of the loop over the halfedges: one that is not fixed is no start, and a marked start is passed over. From any
 // other start both walks go.
 pub fn spread_at(
-    n: usize,
-    p: usize,
-    h: &[i32],
-    pos: &[f64],
-    normals: &[f64],
-    fixed: &[u8],
+    lists: &SpreadLists,
     t: &mut [f64],
     current: &mut [f64],
     desired: &mut [f64],
     start: usize,
     counts: Counts,
 ) -> Counts
-    requires lists { Lists (as_halfedges h.now) pos.now normals.now fixed.now t.old current.old desired.old n p }
-    requires start_lt_n { (start < n) × Room n counts }
-    ensures gives { Gives (float_steps (as_halfedges h.now) pos.now normals.now fixed.now n) (spread_at (float_steps (as_halfedges h.now) pos.now normals.now fixed.now n) start) t.old counts t.new result }
-    ensures looked_bound { (result.looked ≤ counts.looked + n) × (result.turned ≤ counts.turned + n) }
+    requires written { Written lists.now t.old current.old desired.old }
+    requires start_lt_n { (start < lists.now.n) × Room lists.now.n counts }
+    ensures gives { Gives (steps_of lists.now) (spread_at (steps_of lists.now) start) t.old counts t.new result }
+    ensures looked_bound { (result.looked ≤ counts.looked + lists.now.n) × (result.turned ≤ counts.turned + lists.now.n) }
 {
-    if !distribute_steps::is_start(fixed, t, start) {
+    if !distribute_steps::is_start(lists.fixed, t, start) {
         return counts;
     }
-    let ended = first_walk(
-        n, p, h, pos, normals, fixed, t, current, desired, start, counts,
-    );
+    let ended = first_walk(lists, t, current, desired, start, counts);
     let carried = ended.carried;
     if distribute_steps::turns_none(carried.count, carried.normal) {
         return Counts {
@@ -209,7 +196,7 @@ pub fn spread_at(
         };
     }
     let by = distribute_steps::plan(current, desired, start, ended.last, carried);
-    let turned = second_walk(n, p, h, fixed, t, current, desired, start, by);
+    let turned = second_walk(lists, t, current, desired, start, by);
     Counts {
         looked: ended.looked,
         turned: counts.turned + turned,

@@ -1,33 +1,25 @@
 -- `create_tangents_from_normals` of src/smoothing_tangents.rs: the tangents that it leaves on an accepted mesh, and request 3's count. H are the halfedges, P the positions, N the point normals, A the face normals, R the face references, `normal` gives the normal of a halfedge, T the tangents as lent, `old` whether these are old tangents, n and p the counts of halfedges and points.
-use Rattle.std.specs.Prelude.{ℕ, ◌*◌, ◌<◌, ◌≡◌, List, Bool, length, replicate, ℤ, Float}
+use Rattle.std.specs.Prelude.{ℕ, ◌*◌, ◌≡◌, List, Bool, length, replicate, ℤ, Float}
 use Rattle.float.specs.Ops.{zero}
 use Rattle.linalg.specs.declared.Vec3.{Vec3}
-use Rattle.mesh.specs.Mesh.{halfedge_stride, Halfedges, as_halfedges}
-use Rattle.mesh.specs.Sound.{Sound}
+use Rattle.mesh.specs.Mesh.{Halfedges}
 use Rattle.smoothing.specs.Edges.{is_inside_quad}
 use Rattle.create_shared.specs.Makings.{Tangents, tangents_of}
-use Rattle.normals_state.specs.State.{RowIn}
 use Rattle.normals_walks.specs.Walks.{normals_verts, normals_verts_directionless}
 use Rattle.distribute.specs.Distribute.{spread_tangents}
 
--- ---- what the lists must be for a call: T are the tangents, X, B, C, D and W the scratch lists `fixed`, `inside`, `current`, `desired` and `first`
+-- ---- what the written lists must be for a call: T are the tangents, X, B, C, D and W the scratch lists `fixed`, `inside`, `current`, `desired` and `first`
 
--- W has a place for each point
-pub record TangentLists (list : List ℤ) (P N A G T : List Float) (X B W : List ℕ) (n : ℕ) : Type 0 where
-  pub sound : Sound (as_halfedges list) n (length W)
-  pub whole : (as_halfedges list).numbers ≡ n * halfedge_stride
-  pub positions : length P ≡ length W * 3
-  pub normals : length N ≡ length W * 3
-  pub face_normals : length A ≡ n
-  pub halfedge_normals : (e : ℕ) → e < n → RowIn list G e
+-- a tangent and two flags for each halfedge, and a place for each point
+pub record MadeIn (T : List Float) (X B W : List ℕ) (n p : ℕ) : Type 0 where
   pub tangents : length T ≡ n * 4
   pub fixed : length X ≡ n
   pub inside : length B ≡ n
-
--- the lists of an accepted call
-pub record Lists (list : List ℤ) (P N A G T : List Float) (X B : List ℕ) (C D : List Float) (W : List ℕ) (n p : ℕ) : Type 0 where
-  pub lists : TangentLists list P N A G T X B W n
   pub points : length W ≡ p
+
+-- and two angles for each halfedge
+pub record ScratchIn (T : List Float) (X B : List ℕ) (C D : List Float) (W : List ℕ) (n p : ℕ) : Type 0 where
+  pub made : MadeIn T X B W n p
   pub current : length C ≡ n
   pub desired : length D ≡ n
 

@@ -1,3 +1,4 @@
 -- The specs of `normals_core`.
 pub mod Core
 pub mod Flags
+pub mod Lists

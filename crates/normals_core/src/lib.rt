@@ -7,12 +7,14 @@ ghost use Rattle.mesh.specs.Mesh.{as_halfedges};
 ghost use Rattle.smoothing.specs.Edges.{InsideQuadIn};
 ghost use Rattle.smoothing.specs.Inner.{put_edge};
 ghost use Rattle.create_shared.specs.Makings.{tangents_of};
-ghost use Rattle.normals_state.specs.State.{get_normal};
 ghost use Rattle.normals_state.specs.Units.{UnitsIn};
 ghost use Rattle.distribute_walks.specs.Walks.{Lists as SpreadLists};
 ghost use Rattle.distribute.specs.Distribute.{spread_tangents};
-ghost use Rattle.normals_core.specs.Core.{TangentLists, Lists, normal_tangents, create_tangents_from_normals, from_normals_directionless};
+ghost use Rattle.normals_core.specs.Core.{MadeIn, ScratchIn};
+ghost use Rattle.normals_core.specs.Lists.{normal_tangents_by, create_tangents_by, from_normals_count};
 ghost use Rattle.normals_core.specs.Flags.{InsideIn, FlagIn, quad_flag, inside_quads, inside_quad_step};
+
+use normals_walks::{NormalLists, WalkLists};
 
 // The flag of halfedge e: 1 if it is inside a quad.
 fn quad_flag(h: &[i32], refs: &[i32], t: &[f64], old: bool, e: usize) -> u8
@@ -64,54 +66,37 @@ fn inside_quads(n: usize, h: &[i32], refs: &[i32], t: &[f64], old: bool, inside:
 
 // The tangents and the fixed flags before spreading, and the count. The old weights are read before the tangents become 0.
 fn normal_tangents(
-    n: usize,
-    h: &[i32],
-    pos: &[f64],
-    normals: &[f64],
-    face_normals: &[f64],
+    lists: &NormalLists<'_>,
     face_units: &[f64],
-    refs: &[i32],
-    rows: &[f64],
     old: bool,
     t: &mut [f64],
     fixed: &mut [u8],
     inside: &mut [u8],
     first: &mut [usize],
 ) -> usize
-    requires { TangentLists h.now pos.now normals.now face_normals.now rows.now t.old fixed.old inside.old first.old n × UnitsIn face_normals.now face_units.now n }
-    ensures tangents { tangents_of t.new fixed.new ≡ normal_tangents (as_halfedges h.now) pos.now normals.now face_normals.now refs.now (get_normal h.now rows.now) t.old old n (length first.old) }
-    ensures directionless { result ≡ from_normals_directionless (as_halfedges h.now) pos.now normals.now face_normals.now refs.now (get_normal h.now rows.now) t.old old n (length first.old) }
+    requires { UnitsIn lists.now.face_normals.now face_units.now lists.now.n × MadeIn t.old fixed.old inside.old first.old lists.now.n lists.now.p }
+    ensures tangents { tangents_of t.new fixed.new ≡ normal_tangents_by lists.now t.old old }
+    ensures directionless { result ≡ from_normals_count lists.now t.old old }
 {
-    inside_quads(n, h, refs, t, old, inside);
+    let n = lists.n;
+    let h = lists.h;
+    inside_quads(n, h, lists.refs, t, old, inside);
     t.fill(0.0);
     fixed.fill(0);
     create_shared::vert_halfedge(h, first, n);
-    normals_walks::normals_verts(
-        n,
-        h,
-        pos,
-        normals,
-        face_normals,
+    let walks = WalkLists {
+        lists: *lists,
         face_units,
-        rows,
         inside,
         first,
-        t,
-        fixed,
-    )
+    };
+    normals_walks::normals_verts(&walks, t, fixed)
 }
 
 // The tangents of an accepted call, and zeros in all scratch lists; and the count. Until spreading, `current` holds the unit
 // vectors of the triangles' normals.
 pub fn make_tangents(
-    n: usize,
-    p: usize,
-    h: &[i32],
-    pos: &[f64],
-    normals: &[f64],
-    face_normals: &[f64],
-    refs: &[i32],
-    rows: &[f64],
+    lists: &NormalLists<'_>,
     old: bool,
     t: &mut [f64],
     fixed: &mut [u8],
@@ -120,31 +105,22 @@ pub fn make_tangents(
     desired: &mut [f64],
     first: &mut [usize],
 ) -> usize
-    requires { Lists h.now pos.now normals.now face_normals.now rows.now t.old fixed.old inside.old current.old desired.old first.old n p }
-    ensures tangents { t.new ≡ create_tangents_from_normals (as_halfedges h.now) pos.now normals.now face_normals.now refs.now (get_normal h.now rows.now) t.old old n p }
-    ensures fixed { fixed.new ≡ replicate n 0 }
-    ensures inside { inside.new ≡ replicate n 0 }
-    ensures current { current.new ≡ replicate n zero }
-    ensures desired { desired.new ≡ replicate n zero }
-    ensures first { first.new ≡ replicate p 0 }
-    ensures directionless { result ≡ from_normals_directionless (as_halfedges h.now) pos.now normals.now face_normals.now refs.now (get_normal h.now rows.now) t.old old n p }
+    requires { ScratchIn t.old fixed.old inside.old current.old desired.old first.old lists.now.n lists.now.p }
+    ensures tangents { t.new ≡ create_tangents_by lists.now t.old old }
+    ensures fixed { fixed.new ≡ replicate lists.now.n 0 }
+    ensures inside { inside.new ≡ replicate lists.now.n 0 }
+    ensures current { current.new ≡ replicate lists.now.n zero }
+    ensures desired { desired.new ≡ replicate lists.now.n zero }
+    ensures first { first.new ≡ replicate lists.now.p 0 }
+    ensures directionless { result ≡ from_normals_count lists.now t.old old }
 {
-    normals_state::put_units(n, face_normals, current);
-    let directionless = normal_tangents(
-        n,
-        h,
-        pos,
-        normals,
-        face_normals,
-        current,
-        refs,
-        rows,
-        old,
-        t,
-        fixed,
-        inside,
-        first,
-    );
+    let n = lists.n;
+    let p = lists.p;
+    let h = lists.h;
+    let pos = lists.pos;
+    let normals = lists.normals;
+    normals_state::put_units(n, lists.face_normals, current);
+    let directionless = normal_tangents(lists, current, old, t, fixed, inside, first);
     distribute::spread_tangents(n, p, h, pos, normals, fixed, t, current, desired);
     fixed.fill(0);
     inside.fill(0);

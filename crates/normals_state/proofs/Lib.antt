@@ -1,4 +1,3 @@
 -- The laws of `normals_state`, which the crates above cite.
-pub mod Lent
 pub mod Carried
 pub mod Units

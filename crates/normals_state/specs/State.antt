@@ -1,11 +1,10 @@
 -- What `create_tangents_from_normals` reads of a normal, and what it carries on its way round a vertex cycle. H are the halfedges, A the face normals, `normal` gives the normal of a halfedge (`get_normal`).
-use Rattle.std.specs.Prelude.{ℕ, ◌+◌, ◌*◌, ◌/◌, ◌≤◌, ◌<◌, ◌≡◌, List, Bool, true, false, cond, not, ◌&&◌, ◌||◌, length, ℤ, Float}
+use Rattle.std.specs.Prelude.{ℕ, ◌+◌, ◌*◌, ◌/◌, ◌≤◌, ◌<◌, List, Bool, true, false, cond, not, ◌&&◌, ◌||◌, length, ℤ, Float}
 use Rattle.std.specs.Bool.{xor}
 use Rattle.std.specs.Float.Ieee.{eq}
 use Rattle.float.specs.Ops.{zero}
 use Rattle.linalg.specs.declared.Vec3.{Vec3}
-use Rattle.mesh.specs.Mesh.{halfedge_stride, no_index, Halfedges, as_halfedges, prop_vert}
-use Rattle.mesh.specs.Sound.{Sound}
+use Rattle.mesh.specs.Mesh.{halfedge_stride, no_index, Halfedges, prop_vert}
 use Rattle.smoothing.specs.Directions.{equal_normals}
 use Rattle.smoothing.specs.Lists.{point_at}
 use Rattle.cycles.specs.Cycles.{next_around}
@@ -22,18 +21,6 @@ pub record RowIn (list : List ℤ) (G : List Float) (e : ℕ) : Type 0 where
   pub within : e * halfedge_stride + halfedge_stride ≤ length list
   pub row_index : prop_vert list e < no_index
   pub row_in : prop_vert list e * 3 + 3 ≤ length G
-
--- a sound mesh, and a row for each halfedge
-pub record MissingIn (list : List ℤ) (G : List Float) (n : ℕ) : Type 0 where
-  pub points : ℕ
-  pub sound : Sound (as_halfedges list) n points
-  pub whole : (as_halfedges list).numbers ≡ n * halfedge_stride
-  pub normals : (e : ℕ) → e < n → RowIn list G e
-
--- and one for each triangle
-pub record StateLists (list : List ℤ) (A G : List Float) (n : ℕ) : Type 0 where
-  pub missing : MissingIn list G n
-  pub face_normals : length A ≡ n
 
 -- ---- normals
 

@@ -57,6 +57,7 @@ pub fn get_normal(h: &[i32], rows: &[f64], e: usize) -> Vec3
 }
 
 // Is each number 0? That of a missing normal is.
+#[tactic(auto, unfolding(crate::specs::State::is_zero))]
 pub fn is_zero(v: Vec3) -> bool
     ensures { result ≡ is_zero v }
 {
@@ -64,6 +65,7 @@ pub fn is_zero(v: Vec3) -> bool
 }
 
 // A normal, or another where it is missing.
+#[tactic(auto, unfolding(crate::specs::State::normal_or))]
 pub fn normal_or(v: Vec3, other: Vec3) -> Vec3
     ensures { result ≡ normal_or v other }
 {
@@ -74,12 +76,14 @@ pub fn normal_or(v: Vec3, other: Vec3) -> Vec3
 }
 
 // Are the two the same bit for bit? Zeros of different sign are not.
+#[tactic(auto, unfolding(crate::specs::Carried::same_bits))]
 fn same_number(a: f64, b: f64) -> bool
     ensures { result ≡ same_bits a b }
 {
     float::bits(a) == float::bits(b)
 }
 
+#[tactic(auto, unfolding(crate::specs::Carried::same_normal))]
 fn same_normal(a: Vec3, b: Vec3) -> bool
     ensures { result ≡ same_normal a b }
 {
@@ -101,6 +105,7 @@ fn unit_after(normal: Vec3, before: Vec3, unit: Vec3) -> Vec3
 }
 
 // The unit vector of the normal of triangle t, in its place.
+#[tactic(auto, unfolding(crate::specs::Units::put_unit))]
 fn put_unit(face_normals: &[f64], units: &mut [f64], t: usize)
     requires { (t * 3 + 3 ≤ length face_normals.now) × (t * 3 + 3 ≤ length units.old) }
     ensures { units.new ≡ put_unit face_normals.now units.old t }
@@ -124,6 +129,7 @@ pub fn put_units(n: usize, face_normals: &[f64], units: &mut [f64])
 
 // The normal of halfedge e with what the loop asks of it, where the unit vector of the normal before it is known. `face_units`
 // are those of `put_units`.
+#[tactic(auto, unfolding(crate::specs::Carried::halfedge_normal))]
 pub fn normal_after(
     h: &[i32],
     face_units: &[f64],
@@ -215,6 +221,7 @@ fn next_start(here: bool, next: bool, start: StartHalfedge, e: usize) -> StartHa
     start
 }
 
+#[tactic(auto, unfolding(crate::specs::State::next_last))]
 fn next_last(here: bool, next: bool, normal: Vec3, last: Vec3) -> Vec3
     ensures { result ≡ next_last here next normal last }
 {

@@ -1,11 +1,8 @@
 -- On an accepted mesh the lent lists hold what `normals_steps` reads and writes, and a walk names only such halfedges as it comes by. Assumes nothing.
-use Prim.Native.Nat.{ℕ, ◌*◌, ◌+◌, ◌<◌, ◌≤◌}
-use native.Mathlib.Omega.{arith}
+use Prim.Native.Nat.{ℕ}
 use mathlib.Core.Path.{◌≡◌, sym, subst}
 use mathlib.Core.Bool.{Bool, true, false, cond, xor}
 use mathlib.Core.List.{List}
-use lib.ListN.{length}
-use lib.IntN.{ℤ}
 use lib.Ieee.{Float, lt}
 use Rattle.float.specs.Ops.{zero}
 use Rattle.linalg.specs.declared.Vec3.{Vec3}
@@ -19,16 +16,7 @@ use Rattle.normals_state.specs.declared.StartHalfedge.{StartHalfedge}
 use Rattle.normals_state.specs.declared.StartHalfedge.TheVariants.{NoneMissing, SomeMissing, StartAt}
 use Rattle.normals_state.specs.declared.CycleState.{CycleState}
 use Rattle.normals_state.specs.State.{is_missing, add_face_edge, next_face_edges, set_start, missing_start, next_start, start_state, next_state, spoil_face_edges}
-use Rattle.normals_steps.specs.Steps.{NormalsIn, FaceEdgesNames, StartNames, StateNames, flag_tangent, Walk, walk_of, tangent_step, normal_step}
-
-module _ {list : List ℤ} {P A G T : List Float} {n : ℕ} (w : NormalsIn list P A G T n) {e : ℕ} (h : e < n) where
-  -- in a list as long as T
-  pub tangent_in : {m : ℕ} → m ≡ length T → e * 4 + 4 ≤ m
-  tangent_in q = omega (arith, w.tangents)
-
--- another list of tangents, as long
-pub normals_still : {list : List ℤ} {P A G T T' : List Float} {n : ℕ} → length T' ≡ length T → NormalsIn list P A G T n → NormalsIn list P A G T' n
-normals_still q w = record { state = w.state; positions = w.positions; tangents = omega (arith, w.tangents) }
+use Rattle.normals_steps.specs.Steps.{FaceEdgesNames, StartNames, StateNames, flag_tangent, Walk, walk_of, tangent_step, normal_step}
 
 -- ---- the halfedges that a walk names are such as it comes by
 

@@ -1,5 +1,5 @@
 -- The bodies of the loops of `create_tangents_from_normals` over a vertex cycle, and its last step at a point; and what each adds to request 3's count. H are the halfedges, P the positions, A the face normals, `normal` gives the normal of a halfedge, `inside` which halfedges are inside a quad, T the tangents, X the fixed flags.
-use Rattle.std.specs.Prelude.{ℕ, ◌*◌, ◌<◌, ◌≡◌, List, Bool, cond, length, set, ℤ, Float}
+use Rattle.std.specs.Prelude.{ℕ, ◌<◌, List, Bool, cond, set, Float}
 use Rattle.std.specs.Float.Ieee.{lt, eq, neg}
 use Rattle.float.specs.Ops.{zero, one, three}
 use Rattle.linalg.specs.declared.Vec3.{Vec3}
@@ -16,23 +16,9 @@ use Rattle.normals_state.specs.declared.FaceEdges.TheVariants.{NoEdge, OneEdge, 
 use Rattle.normals_state.specs.declared.StartHalfedge.{StartHalfedge}
 use Rattle.normals_state.specs.declared.StartHalfedge.TheVariants.{NoneMissing, SomeMissing, StartAt}
 use Rattle.normals_state.specs.declared.CycleState.{CycleState}
-use Rattle.normals_state.specs.Units.{UnitsIn}
-use Rattle.normals_state.specs.State.{StateLists, normal_or, is_missing, next_state, spoil_face_edges}
+use Rattle.normals_state.specs.State.{normal_or, is_missing, next_state, spoil_face_edges}
 
--- ---- what the lists must be for a call
-
--- a sound mesh with all its normals, a position for each point, a tangent for each halfedge
-pub record NormalsIn (list : List ℤ) (P A G T : List Float) (n : ℕ) : Type 0 where
-  pub state : StateLists list A G n
-  pub positions : length P ≡ state.missing.points * 3
-  pub tangents : length T ≡ n * 4
-
--- and two flags for each halfedge, and the unit vector of each triangle's normal: B, X and U are the code's lists `inside`, `fixed` and `face_units`
-pub record StepIn (list : List ℤ) (P A U G : List Float) (B : List ℕ) (T : List Float) (X : List ℕ) (n : ℕ) : Type 0 where
-  pub lists : NormalsIn list P A G T n
-  pub face_units : UnitsIn A U n
-  pub inside : length B ≡ n
-  pub fixed : length X ≡ n
+-- ---- what the state must be for a call
 
 -- the halfedges that the state of a walk names all have Q
 abbrev pub FaceEdgesNames : (ℕ → Type 0) → FaceEdges → Type 0

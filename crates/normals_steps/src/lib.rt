@@ -1,5 +1,7 @@
 // One halfedge, or one point, in `create_tangents_from_normals`: the bodies of its loops, and the edges of a single flat face; and
 // how many circular tangents each computes on an edge without direction.
+// By the project's rule of range records a step is lent the lists that it reads, and asks for what it reads of them alone: the
+// value that the walks carry would ask its callers for a whole accepted mesh.
 #![tactic(auto)]
 
 ghost use Rattle.std.specs.Prelude.{◌≡◌, cond, ◌+◌, ◌*◌, ◌≤◌, ◌<◌, length};

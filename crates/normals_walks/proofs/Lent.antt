@@ -1,47 +1,41 @@
--- On an accepted mesh the lent lists hold what `normals_walks` reads and writes. Assumes nothing.
-use Prim.Native.Nat.{ℕ, ◌*◌, ◌+◌, ◌<◌, ◌≤◌}
+-- The lists of a call hold what `normals_walks` reads and writes. Assumes nothing.
+use Prim.Native.Nat.{ℕ, ◌*◌, ◌+◌, ◌/◌, ◌<◌, ◌≤◌}
 use native.Mathlib.Omega.{arith}
-use mathlib.Core.Path.{◌≡◌, refl, ap, subst, ◌∙◌}
+use mathlib.Core.Path.{◌≡◌, ap, subst, ◌∙◌}
 use mathlib.Core.List.{List}
 use lib.ListN.{length, get_or}
-use lib.IntN.{ℤ}
 use lib.Ieee.{Float}
-use Rattle.mesh.specs.Mesh.{start_vert, as_halfedges}
-use Rattle.create_shared.specs.Makings.{TangentsIn, MakingIn}
+use Rattle.mesh.specs.Mesh.{start_vert}
+use Rattle.create_shared.specs.Makings.{MakingIn}
 use Rattle.create_shared.proofs.Verts.{vert_halfedge_starts}
-use Rattle.normals_steps.specs.Steps.{NormalsIn, StepIn}
-use Rattle.normals_walks.specs.Walks.{FacesLists, VertsLists}
+use Rattle.cycles.specs.Cycles.{next_around}
+use Rattle.cycles.proofs.Around.{next_below}
+use Rattle.normals_state.specs.State.{RowIn}
+use Rattle.normals_walks.specs.declared.lists.NormalLists.{NormalLists}
+use Rattle.normals_walks.specs.declared.lists.WalkLists.{WalkLists}
+use Rattle.normals_walks.specs.Lists.{mesh_of}
 
--- what the calls after the first loop ask, of as many tangents
-module _ {list : List ℤ} {P A G T : List Float} {n : ℕ} (w : NormalsIn list P A G T n) where
-  abbrev tangents_in : {T' : List Float} → length T' ≡ length T → TangentsIn (as_halfedges list) T' n
-  tangents_in q = record { points = w.state.missing.points; sound = w.state.missing.sound; whole = w.state.missing.whole; tangents = q ∙ w.tangents }
+module _ (l : NormalLists) where
+  -- with as many tangents and fixed flags
+  pub making_in : {T : List Float} {X : List ℕ} → length T ≡ l.n * 4 → length X ≡ l.n → MakingIn (mesh_of l) l.pos.now T X l.n
+  making_in q x = record { tangents = record { points = l.p; sound = l.sound; whole = l.whole; tangents = q }; positions = l.positions; fixed = x }
 
-  pub faces_lists : FacesLists (as_halfedges list) P A T n
-  faces_lists = record { tangents = tangents_in refl; positions = w.positions; face_normals = w.state.face_normals }
+  pub point_in : {v : ℕ} → v < l.p → v * 3 + 3 ≤ length l.normals.now
+  point_in h = omega (arith, l.point_normals)
 
-  pub making_in : {T' : List Float} {X : List ℕ} → length T' ≡ length T → length X ≡ n → MakingIn (as_halfedges list) P T' X n
-  making_in q x = record { tangents = tangents_in q; positions = w.positions; fixed = x }
+  -- the row of x, the next halfedge round e's point, and the triangles of both
+  module _ {e : ℕ} (h : e < l.n) where
+    pub next_in : {x : ℕ} → x ≡ next_around (mesh_of l) e → RowIn l.h.now l.rows.now x
+    next_in {x} q = l.halfedge_normals x (omega (arith, next_below l.sound e h))
 
--- what a point asks
-module _ {list : List ℤ} {P N A U G : List Float} {Q F : List ℕ} {T : List Float} {X : List ℕ} {n : ℕ} (w : VertsLists list P N A U G Q F T X n) where
-  pub step_in : StepIn list P A U G Q T X n
-  step_in = record {
-    lists = record {
-      state = record { missing = record { points = length F; sound = w.sound; whole = w.whole; normals = w.normals }; face_normals = w.face_normals };
-      positions = w.positions;
-      tangents = w.tangents;
-    };
-    face_units = w.face_units;
-    inside = w.inside;
-    fixed = w.fixed;
-  }
+    pub here_face_in : e / 3 * 3 + 3 ≤ l.n
+    here_face_in = omega (arith, l.sound.triangles)
 
-  pub point_in : {v : ℕ} → v < length F → v * 3 + 3 ≤ length N
-  point_in l = omega (arith, w.point_normals)
+    pub next_face_in : {x : ℕ} → x ≡ next_around (mesh_of l) e → x / 3 * 3 + 3 ≤ l.n
+    next_face_in q = omega (arith, l.sound.triangles, next_below l.sound e h)
 
-  -- the halfedge in its place of `vert_halfedge` starts there
-  pub starts_there : {v : ℕ} → v < length F → get_or F v 0 < n → start_vert (as_halfedges list) (get_or F v 0) ≡ v
-  starts_there {v} l h =
-      let q = w.vert_halfedge v l in
-      ap (start_vert (as_halfedges list)) q ∙ vert_halfedge_starts (as_halfedges list) n v (subst (λ (x : ℕ). x < n) q h)
+-- the halfedge in its place of `first` starts there
+pub starts_there : (w : WalkLists) {v : ℕ} → v < w.lists.p → get_or w.first.now v 0 < w.lists.n → start_vert (mesh_of w.lists) (get_or w.first.now v 0) ≡ v
+starts_there w {v} l h =
+    let q = w.lowest v l in
+    ap (start_vert (mesh_of w.lists)) q ∙ vert_halfedge_starts (mesh_of w.lists) w.lists.n v (subst (λ (x : ℕ). x < w.lists.n) q h)

@@ -1,2 +1,3 @@
 -- The specs of `normals_walks`.
 pub mod Walks
+pub mod Lists

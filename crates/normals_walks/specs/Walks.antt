@@ -1,42 +1,18 @@
 -- The loops of `create_tangents_from_normals` round a vertex cycle, what it does at a point, and the loop over the points; and what each adds to request 3's count, by the same steps. H are the halfedges, P the positions, N the point normals, A the face normals, `normal` gives the normal of a halfedge, `inside` which halfedges are inside a quad, n how many halfedges there are, T the tangents.
-use Rattle.std.specs.Prelude.{ℕ, ◌*◌, ◌+◌, ◌<◌, ◌≡◌, Bool, cond, ◌&&◌, length, get_or, ℤ, ltb, Float}
+use Rattle.std.specs.Prelude.{ℕ, ◌+◌, Bool, cond, ◌&&◌, ltb, Float}
 use mathlib.Core.List.{List, foldl}
 use Rattle.linalg.specs.declared.Vec3.{Vec3}
 use Rattle.common.specs.Fold.{fold_to}
 use Rattle.common.specs.Counted.{counted, count_step}
-use Rattle.mesh.specs.Mesh.{halfedge_stride, Halfedges, as_halfedges}
-use Rattle.mesh.specs.Sound.{Sound}
+use Rattle.mesh.specs.Mesh.{Halfedges}
 use Rattle.smoothing.specs.Lists.{point_at}
-use Rattle.create_shared.specs.Makings.{TangentsIn, Tangents, tangents_of}
+use Rattle.create_shared.specs.Makings.{Tangents, tangents_of}
 use Rattle.cycles.specs.Cycles.{next_around, vertex_cycle, vertex_cycle_back}
 use Rattle.create_shared.specs.Faces.{vert_halfedge}
 use Rattle.normals_state.specs.declared.StartHalfedge.{StartHalfedge}
 use Rattle.normals_state.specs.declared.StartHalfedge.TheVariants.{NoneMissing, SomeMissing, StartAt}
-use Rattle.normals_state.specs.State.{RowIn, is_zero, some_missing, start_state}
-use Rattle.normals_state.specs.Units.{UnitsIn}
+use Rattle.normals_state.specs.State.{is_zero, some_missing, start_state}
 use Rattle.normals_steps.specs.Steps.{Walk, walk_of, normal_step, normal_step_directionless, vert_normal_step, vert_normal_directionless, Fill, fill_of, fill_step, fill_directionless, align_face_edges, face_edges_directionless}
-
--- ---- what the lists must be for a call
-
--- a sound mesh with its face normals, a position for each point, a tangent for each halfedge
-pub record FacesLists (H : Halfedges) (P A T : List Float) (n : ℕ) : Type 0 where
-  pub tangents : TangentsIn H T n
-  pub positions : length P ≡ tangents.points * 3
-  pub face_normals : length A ≡ n
-
--- All lists of the loop over the points. U, B and X are the code's lists `face_units`, `inside` and `fixed`; W has a place for each point, which holds its `vert_halfedge`.
-pub record VertsLists (list : List ℤ) (P N A U G : List Float) (B W : List ℕ) (T : List Float) (X : List ℕ) (n : ℕ) : Type 0 where
-  pub sound : Sound (as_halfedges list) n (length W)
-  pub whole : (as_halfedges list).numbers ≡ n * halfedge_stride
-  pub positions : length P ≡ length W * 3
-  pub point_normals : length N ≡ length W * 3
-  pub face_normals : length A ≡ n
-  pub face_units : UnitsIn A U n
-  pub normals : (e : ℕ) → e < n → RowIn list G e
-  pub inside : length B ≡ n
-  pub vert_halfedge : (v : ℕ) → v < length W → get_or W v 0 ≡ vert_halfedge (as_halfedges list) n v
-  pub tangents : length T ≡ n * 4
-  pub fixed : length X ≡ n
 
 -- ---- the loops round a vertex cycle
 

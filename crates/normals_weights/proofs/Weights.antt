@@ -2,7 +2,7 @@
 use Prim.Native.Nat.{ℕ, ◌+◌, ◌*◌, ◌<◌}
 use native.Mathlib.Nat.{le_refl}
 use native.Mathlib.Omega.{arith}
-use mathlib.Core.Path.{◌≡◌, refl, sym, ap, subst, ◌∙◌}
+use mathlib.Core.Path.{◌≡◌, refl, sym, ap, ◌∙◌}
 use mathlib.Core.Logic.{◌⊎◌, inl, inr}
 use mathlib.Core.Bool.{Bool, true, false, true≢false}
 use mathlib.Core.List.{List}
@@ -11,7 +11,7 @@ use lib.IntN.{ℤ}
 use lib.Ieee.{Float, nan, eq, neg, of_bits}
 use Rattle.float.specs.Ops.{zero}
 use Rattle.linalg.specs.declared.Vec3.{Vec3}
-use Rattle.mesh.specs.Mesh.{Halfedges, as_halfedges}
+use Rattle.mesh.specs.Mesh.{Halfedges}
 use Rattle.mesh.specs.Questions.{sign_clear}
 use Rattle.mesh.specs.Sound.{Sound}
 use Rattle.common.proofs.Fold.{fold_keeps}
@@ -94,4 +94,4 @@ module _ {H : Halfedges} {n p : ℕ} (S : Sound H n p) (R : List ℤ) (P N A : L
 pub weights_after : (list : List ℤ) (P N A : List Float) (R : List ℤ) (G O : List Float) (X Q : List ℕ) (C D : List Float) (F : List ℕ) (old : Bool) (n p : ℕ) → WeightsAfter list P N A R G O X Q C D F old n p
 weights_after list P N A R G O X Q C D F old n p e =
     let w = lists_of list P N A R G O X Q C D F n p e in
-    rw e (weights (subst (Sound (as_halfedges list) n) w.points w.lists.sound) R P N A (get_normal list G) O old)
+    rw e (weights w.sound R P N A (get_normal list G) O old)

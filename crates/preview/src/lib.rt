@@ -4,26 +4,28 @@
 
 ghost use Rattle.std.specs.Prelude.{◌≡◌, List, length, Float};
 ghost use Rattle.mesh.specs.Mesh.{as_halfedges};
+ghost use Rattle.distribute_spread.specs.Spread.{pass};
 ghost use Rattle.distribute_steps.specs.FloatSteps.{float_steps};
 ghost use Rattle.distribute.specs.Distribute.{spread_tangents, Values};
-ghost use Rattle.preview_walks.specs.Walks.{Lists, Shows};
+ghost use Rattle.preview_walks.specs.Walks.{steps_of, Shows};
 ghost use Rattle.preview.specs.Preview.{check_lists, preview_tangents, bytes_after, AsSpreading, AnyOrder};
 
 use distribute_walks::Counts;
 use mesh::Refusal;
+use preview_walks::PreviewLists;
 
 // The loop over the halfedges of an accepted mesh, after zeros in all bytes.
-fn preview_all(n: usize, p: usize, h: &[i32], fixed: &[u8], t: &[f64], bytes: &mut [u8]) -> Counts
-    requires { Lists (as_halfedges h.now) fixed.now t.now n p × (length bytes.old ≡ n) }
-    ensures { (P N : List Float) → Shows (float_steps (as_halfedges h.now) P N fixed.now n) (spread_tangents (as_halfedges h.now) P N fixed.now t.now n) bytes.new result }
+fn preview_all(lists: &PreviewLists, bytes: &mut [u8]) -> Counts
+    requires { length bytes.old ≡ lists.now.n }
+    ensures { (P N : List Float) → Shows (steps_of lists.now P N) (pass (steps_of lists.now P N) lists.now.t.now) bytes.new result }
 {
     bytes.fill(0);
     let mut counts = Counts {
         looked: 0,
         turned: 0,
     };
-    for start in 0..n {
-        counts = preview_walks::preview_at(n, p, h, fixed, t, bytes, start, counts);
+    for start in 0..lists.n {
+        counts = preview_walks::preview_at(lists, bytes, start, counts);
     }
     counts
 }
@@ -49,6 +51,7 @@ fn check_lists(
 
 // The preview, for lists of any length and content. `pos` and `normals` have three numbers for each point, `fixed` a flag
 // for each halfedge, and `bytes` a byte: 1 if the halfedge's tangent would be written, else 0.
+// The signature stays flat, as the C interface lends: counts, lists read, lists written, scratch.
 pub fn preview_tangents(
     n: usize,
     p: usize,
@@ -69,6 +72,7 @@ pub fn preview_tangents(
     let Ok(()) = checked else {
         return mesh::refused(checked);
     };
-    let counts = preview_all(n, p, h, fixed, t, bytes);
+    let lists = PreviewLists { n, p, h, fixed, t };
+    let counts = preview_all(&lists, bytes);
     Ok(counts)
 }

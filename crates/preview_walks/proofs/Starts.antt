@@ -4,30 +4,34 @@ use mathlib.Core.Bool.{Bool, true, false}
 use mathlib.Core.List.{List}
 use Prim.Native.Nat.{ℕ, suc}
 use lib.Ieee.{Float}
-use Rattle.mesh.specs.Mesh.{Halfedges}
+use Rattle.mesh.specs.Mesh.{as_halfedges}
 use Rattle.distribute_spread.specs.Steps.{Steps}
 use Rattle.distribute_spread.specs.Spread.{Found, second_walk, spread_at}
 use Rattle.distribute_spread.proofs.Branches.{at_none, at_first, at_both}
-use Rattle.distribute_steps.specs.FloatSteps.{Plan, is_start, turns_none, plan, float_steps}
+use Rattle.distribute_steps.specs.FloatSteps.{Plan, is_start, turns_none, plan}
 use Rattle.distribute_walks.specs.Walks.{state_of, more_turned, first_from}
 use Rattle.distribute_walks.specs.declared.Counts.{Counts}
-use Rattle.preview_walks.specs.Walks.{Sums, Previews}
+use Rattle.preview_walks.specs.Walks.{steps_of, Sums, Previews}
 use Rattle.preview_walks.specs.declared.Summed.{Summed}
 use Rattle.preview_walks.specs.declared.Seen.{Seen}
+use Rattle.preview_walks.specs.declared.lists.PreviewLists.{PreviewLists}
 
-module _ (H : Halfedges) (P N : List Float) (X : List ℕ) (T : List Float) (n start : ℕ) (k : Counts) where
+module _ (lists : PreviewLists) (P N : List Float) (start : ℕ) (k : Counts) where
   abbrev steps : Steps
-  steps = float_steps H P N X n
+  steps = steps_of lists P N
+
+  abbrev T : List Float
+  T = lists.t.now
 
   abbrev found : Found steps
-  found = first_from H P N X n T start k.looked
+  found = first_from (as_halfedges lists.h.now) P N lists.fixed.now lists.n T start k.looked
 
   -- not fixed, or marked: passed over
-  pub shows_none : {Y : List ℕ} → is_start X T start ≡ false → Previews steps (spread_at steps start) T Y k Y k
+  pub shows_none : {Y : List ℕ} → is_start lists.fixed.now T start ≡ false → Previews steps (spread_at steps start) T Y k Y k
   shows_none d places h = rw (at_none steps start (state_of steps T k places) d) record { bytes_are = h; looked_is = refl; turned_is = refl }
 
   -- a start, from which the first walk came to r
-  module _ (d : is_start X T start ≡ true) (r : Seen) (sums : Sums H X T n start k.looked r) where
+  module _ (d : is_start lists.fixed.now T start ≡ true) (r : Seen) (sums : Sums lists start k.looked r) where
     abbrev seen : Counts
     seen = record { looked = r.looked; turned = k.turned }
 
@@ -39,7 +43,7 @@ module _ (H : Halfedges) (P N : List Float) (X : List ℕ) (T : List Float) (n s
         rw (at_first steps start (state_of steps T k places) d found refl (none_is e t)) record { bytes_are = h; looked_is = (sums P N).0; turned_is = refl }
 
     pub shows_both : {Y Y' : List ℕ} {b : Bool} (i : ℕ) → b ≡ turns_none r.summed.count r.summed.normal → b ≡ false
-        → ((by : Plan) (j : Counts) → Previews steps (second_walk steps (suc n) start start by) T Y j Y' (more_turned j i))
+        → ((by : Plan) (j : Counts) → Previews steps (second_walk steps (suc lists.n) start start by) T Y j Y' (more_turned j i))
         → Previews steps (spread_at steps start) T Y k Y' (more_turned seen i)
     shows_both i e t more places h =
         rw (

@@ -1,17 +1,18 @@
 -- The two walks of a preview, as its code holds them: only contracts inside the call name these definitions. H are the halfedges, X the flags, T the tangents, which stay as lent, Y the bytes, n and p the counts of halfedges and points. What a start turns does not depend on the positions P and the point normals N.
 use Rattle.std.specs.Prelude.{ℕ, ◌+◌, ◌*◌, ◌^◌, ◌≤◌, ◌<◌, ◌≡◌, List, length, Float}
 use Rattle.linalg.specs.declared.Vec3.{Vec3}
-use Rattle.mesh.specs.Mesh.{halfedge_stride, Halfedges}
+use Rattle.mesh.specs.Mesh.{halfedge_stride, as_halfedges, Halfedges}
 use Rattle.mesh.specs.Sound.{Sound}
 use Rattle.smoothing.specs.Lists.{tangent_at}
 use Rattle.distribute_spread.specs.Steps.{Steps}
 use Rattle.distribute_spread.specs.Spread.{State}
-use Rattle.distribute_steps.specs.FloatSteps.{Gathered, tangent_direction, next_normal}
+use Rattle.distribute_steps.specs.FloatSteps.{Gathered, tangent_direction, next_normal, float_steps}
 use Rattle.distribute_walks.specs.Walks.{state_of, first_from}
 use Rattle.distribute_walks.specs.declared.Counts.{Counts}
 use Rattle.preview_walks.specs.Bytes.{turned_bytes}
 use Rattle.preview_walks.specs.declared.Summed.{Summed}
 use Rattle.preview_walks.specs.declared.Seen.{Seen}
+use Rattle.preview_walks.specs.declared.lists.PreviewLists.{PreviewLists}
 
 -- the lists of an accepted call that the walks read; the bytes have one place for each halfedge
 pub record Lists (H : Halfedges) (X : List ℕ) (T : List Float) (n p : ℕ) : Type 0 where
@@ -19,6 +20,10 @@ pub record Lists (H : Halfedges) (X : List ℕ) (T : List Float) (n p : ℕ) : T
   pub whole : H.numbers ≡ n * halfedge_stride
   pub flags : length X ≡ n
   pub tangents : length T ≡ n * 4
+
+-- the steps of spreading over the lists
+abbrev pub steps_of : PreviewLists → List Float → List Float → Steps
+steps_of lists P N = float_steps (as_halfedges lists.h.now) P N lists.fixed.now lists.n
 
 -- ---- the first walk
 
@@ -37,9 +42,9 @@ pub record CanAdd (T : List Float) (start e : ℕ) (first : Vec3) (s : Summed) :
   pub first_is : first ≡ tangent_direction (tangent_at T start)
 
 -- r is what spreading's first walk from the start finds, with so many steps looked at before
-abbrev pub Sums : Halfedges → List ℕ → List Float → ℕ → ℕ → ℕ → Seen → Type 0
-Sums H X T n start looked r =
-    (P N : List Float) → let found = first_from H P N X n T start looked in
+abbrev pub Sums : PreviewLists → ℕ → ℕ → Seen → Type 0
+Sums lists start looked r =
+    (P N : List Float) → let found = first_from (as_halfedges lists.h.now) P N lists.fixed.now lists.n lists.t.now start looked in
     (r.looked ≡ found.looked) × (r.summed ≡ summed_of found.gathered)
 
 -- ---- the bytes

@@ -9,10 +9,13 @@ ghost use Rattle.distribute_spread.specs.Spread.{second_walk, spread_at};
 ghost use Rattle.distribute_steps.specs.FloatSteps.{Plan, is_mark, is_start, tangent_direction, float_steps};
 ghost use Rattle.distribute_walks.specs.Walks.{Room, more_turned};
 ghost use Rattle.distribute_walks.specs.declared.Counts.{Counts};
-ghost use Rattle.preview_walks.specs.Walks.{Lists, add_tangent, CanAdd, Sums, Previews};
+ghost use Rattle.preview_walks.specs.Walks.{steps_of, add_tangent, CanAdd, Sums, Previews};
+
+mod lists;
 
 use distribute_walks::Counts;
 use linalg::Vec3;
+pub use lists::PreviewLists;
 
 // What of the first walk decides whether anything is turned: the number of angles and the sum `normal`, for which the last
 // tangent's direction is kept.
@@ -57,22 +60,13 @@ fn add_tangent(t: &[f64], start: usize, e: usize, first: Vec3, s: Summed) -> Sum
     }
 }
 
-// The first walk, which ends at the next halfedge that is fixed and unmarked.
-fn first_walk(
-    n: usize,
-    p: usize,
-    h: &[i32],
-    fixed: &[u8],
-    t: &[f64],
-    start: usize,
-    counts: Counts,
-) -> Seen
-    requires lists { Lists (as_halfedges h.now) fixed.now t.now n p }
-    requires start_lt_n { (start < n) × (is_start fixed.now t.now start ≡ true) × Room n counts }
-    ensures sums { Sums (as_halfedges h.now) fixed.now t.now n start counts.looked result }
-    ensures looked_bound { result.looked ≤ counts.looked + n }
+// The first walk, which ends at the next halfedge that is fixed and unmarked: a loop, the form that document 01 names.
+fn first_walk(lists: &PreviewLists, start: usize, counts: Counts) -> Seen
+    requires { (start < lists.now.n) × (is_start lists.now.fixed.now lists.now.t.now start ≡ true) × Room lists.now.n counts }
+    ensures sums { Sums lists.now start counts.looked result }
+    ensures looked_bound { result.looked ≤ counts.looked + lists.now.n }
 {
-    let first = distribute_steps::tangent_direction(smoothing::tangent_at(t, start));
+    let first = distribute_steps::tangent_direction(smoothing::tangent_at(lists.t, start));
     let normal = Vec3 {
         x: 0.0,
         y: 0.0,
@@ -86,10 +80,10 @@ fn first_walk(
     let mut looked = counts.looked;
     let mut here = start;
     loop {
-        here = cycles::next_around(h, here);
+        here = cycles::next_around(lists.h, here);
         looked += 1;
-        summed = add_tangent(t, start, here, first, summed);
-        if distribute_steps::is_start(fixed, t, here) {
+        summed = add_tangent(lists.t, start, here, first, summed);
+        if distribute_steps::is_start(lists.fixed, lists.t, here) {
             break;
         }
     }
@@ -110,27 +104,20 @@ fn show_unmarked(t: &[f64], bytes: &mut [u8], i: usize, e: usize) -> usize
 }
 
 // The second walk: leaves by its label at a fixed halfedge other than the start, before that one's mark is read.
-fn second_walk(
-    n: usize,
-    p: usize,
-    h: &[i32],
-    fixed: &[u8],
-    t: &[f64],
-    bytes: &mut [u8],
-    start: usize,
-) -> usize
-    requires lists { Lists (as_halfedges h.now) fixed.now t.now n p × (length bytes.old ≡ n) }
-    requires start_lt_n { (start < n) × (is_start fixed.now t.now start ≡ true) }
-    ensures { ((P N : List Float) (by : Plan) (k : Counts) → Previews (float_steps (as_halfedges h.now) P N fixed.now n) (second_walk (float_steps (as_halfedges h.now) P N fixed.now n) (suc n) start start by) t.now bytes.old k bytes.new (more_turned k result)) × (result ≤ n) }
+fn second_walk(lists: &PreviewLists, bytes: &mut [u8], start: usize) -> usize
+    requires bytes { length bytes.old ≡ lists.now.n }
+    requires start_lt_n { (start < lists.now.n) × (is_start lists.now.fixed.now lists.now.t.now start ≡ true) }
+    ensures previews { (P N : List Float) (by : Plan) (k : Counts) → Previews (steps_of lists.now P N) (second_walk (steps_of lists.now P N) (suc lists.now.n) start start by) lists.now.t.now bytes.old k bytes.new (more_turned k result) }
+    ensures few { result ≤ lists.now.n }
 {
     let mut here = start;
     let mut i: usize = 0;
     'walk: loop {
-        here = cycles::next_around(h, here);
-        if distribute_walks::leaves(fixed, start, here) {
+        here = cycles::next_around(lists.h, here);
+        if distribute_walks::leaves(lists.fixed, start, here) {
             break 'walk;
         }
-        i = show_unmarked(t, bytes, i, here);
+        i = show_unmarked(lists.t, bytes, i, here);
         if here == start {
             break 'walk;
         }
@@ -140,25 +127,16 @@ fn second_walk(
 
 // One turn of the loop over the halfedges: one that is not fixed is no start, and a marked start is passed over. From any
 // other start both walks go.
-pub fn preview_at(
-    n: usize,
-    p: usize,
-    h: &[i32],
-    fixed: &[u8],
-    t: &[f64],
-    bytes: &mut [u8],
-    start: usize,
-    counts: Counts,
-) -> Counts
-    requires lists { Lists (as_halfedges h.now) fixed.now t.now n p × (length bytes.old ≡ n) }
-    requires start_lt_n { (start < n) × Room n counts }
-    ensures previews { (P N : List Float) → Previews (float_steps (as_halfedges h.now) P N fixed.now n) (spread_at (float_steps (as_halfedges h.now) P N fixed.now n) start) t.now bytes.old counts bytes.new result }
-    ensures looked_bound { (result.looked ≤ counts.looked + n) × (result.turned ≤ counts.turned + n) }
+pub fn preview_at(lists: &PreviewLists, bytes: &mut [u8], start: usize, counts: Counts) -> Counts
+    requires bytes { length bytes.old ≡ lists.now.n }
+    requires start_lt_n { (start < lists.now.n) × Room lists.now.n counts }
+    ensures previews { (P N : List Float) → Previews (steps_of lists.now P N) (spread_at (steps_of lists.now P N) start) lists.now.t.now bytes.old counts bytes.new result }
+    ensures looked_bound { (result.looked ≤ counts.looked + lists.now.n) × (result.turned ≤ counts.turned + lists.now.n) }
 {
-    if !distribute_steps::is_start(fixed, t, start) {
+    if !distribute_steps::is_start(lists.fixed, lists.t, start) {
         return counts;
     }
-    let seen = first_walk(n, p, h, fixed, t, start, counts);
+    let seen = first_walk(lists, start, counts);
     let summed = seen.summed;
     if distribute_steps::turns_none(summed.count, summed.normal) {
         return Counts {
@@ -166,7 +144,7 @@ pub fn preview_at(
             turned: counts.turned,
         };
     }
-    let turned = second_walk(n, p, h, fixed, t, bytes, start);
+    let turned = second_walk(lists, bytes, start);
     Counts {
         looked: seen.looked,
         turned: counts.turned + turned,

@@ -60,8 +60,8 @@ module _ {H : Halfedges} {n j : ℕ} (S : Sound H n j) (P N A : List Float) (R :
 
 pub old_tangents : OldTangents
 old_tangents list P N A R G T X B C D W old n p O holds e =
-    let w = lists_of list P N A R G T X B C D W n p e in rw e (made_same w.lists.sound P N A R T old _ _ holds p)
+    let w = lists_of list P N A R G T X B C D W n p e in rw e (made_same w.sound P N A R T old _ _ holds p)
 
 pub old_count : OldCount
 old_count list P N A R G T X B C D W old n p O holds e =
-    let w = lists_of list P N A R G T X B C D W n p e in rw e (ap Ok (count_same w.lists.sound P N A R T old _ _ holds p))
+    let w = lists_of list P N A R G T X B C D W n p e in rw e (ap Ok (count_same w.sound P N A R T old _ _ holds p))

@@ -157,6 +157,7 @@ fn lengths_fit(
 // each with its forward halfedge first, both with the smoothness `smooth` (the Rust's `min_smoothness`, copied
 // unchecked). `normals` has three numbers for each triangle; `halfedges` and `smoothness` take the entries, and have a
 // place for each halfedge.
+// The signature stays flat, as the C interface lends: counts, lists read, lists written, scratch.
 pub fn sharpen_edges(
     n: usize,
     p: usize,

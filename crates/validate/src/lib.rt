@@ -63,12 +63,10 @@ fn all_valid(n: usize, p: usize, h: &[i32], t: &[f64]) -> bool
     requires { Lists (as_halfedges h.now) t.now n p }
     ensures { result ≡ fold_to (valid_so_far (as_halfedges h.now) t.now) true n }
 {
-    let mut e = 0;
-    while e < n {
+    for e in (0..n).step_by(3) {
         if !triangle_valid(h, t, e) {
             return false;
         }
-        e += 3;
     }
     true
 }
@@ -94,6 +92,7 @@ fn lengths_fit(n: usize, p: usize, h: &[i32], pos: &[f64]) -> bool
 }
 
 // The public call, for lists of any length and content. Of the positions only the length is asked about.
+// The signature stays flat, as the C interface lends: counts, then the lists that are read.
 pub fn valid_tangents(
     n: usize,
     p: usize,

@@ -14,7 +14,7 @@ use Rattle.create_smoothness.specs.Entries.{entries_of}
 use Rattle.create_smoothness.specs.EntrySmoothness.{EntriesIn}
 use Rattle.create_smoothness.proofs.Flat.{flat_entries_in}
 use Rattle.create.specs.Create.{lists_fit, scratch_fits, check_create, check_lists, tangents_after, create_answer}
-use Rattle.create.proofs.Accepted.{AcceptedLists, accepted_lists, made}
+use Rattle.create.proofs.Accepted.{AcceptedLists, accepted_lists, written, made}
 use Rattle.create.proofs.create_tangents.Goals as goal
 use Rattle.create.proofs.create_tangents.Goals.{After-check_create-checked, After-make_tangents-directionless}
 
@@ -61,11 +61,17 @@ pub entry_smoothness-requires : goal.entry_smoothness-requires
 entry_smoothness-requires c =
     let a = c.args in
     let w = lists (goal.at.entry_smoothness-requires c).After-check_create-checked c.in-Ok.is in
-    (w.values, subst (EntriesIn (entries_of a.entries.now a.values.now)) (sym w.smooth) (flat_entries_in a.entries.now a.values.now a.n w.values w.named w.clear))
+    (w.values, subst (EntriesIn (entries_of a.entries.now a.values.now)) (sym w.scratch.smooth) (flat_entries_in a.entries.now a.values.now a.n w.values w.named w.clear))
+
+pub invariant_of-mesh : goal.invariant_of-mesh
+invariant_of-mesh c =
+    let w = lists (goal.at.invariant_of-mesh c).After-check_create-checked c.in-Ok.is in
+    let m = w.mesh_lists in
+    record { sound = w.sound; whole = m.halfedges; positions = m.positions; point_normals = m.normals; triangle_normals = m.face_normals w.sound.triangles }
 
 pub make_tangents-directionless-requires : goal.make_tangents-directionless-requires
 make_tangents-directionless-requires c =
-    (lists (goal.at.make_tangents-directionless-requires c).After-check_create-checked c.in-Ok.is).lists c.entry_smoothness.auto.smooth
+    written (lists (goal.at.make_tangents-directionless-requires c).After-check_create-checked c.in-Ok.is) c.entry_smoothness.auto.smooth
 
 pub returns-clause-answer : goal.returns-clause-answer
 returns-clause-answer c =

@@ -7,9 +7,10 @@ use Rattle.create_core.proofs.make_tangents.Goals as goal
 pub returns-clause-tangents : goal.returns-clause-tangents
 returns-clause-tangents c =
     let a = c.args in
-    created (as_halfedges a.h.now) a.pos.now a.normals.now a.face_normals.now a.refs.now a.smooth.now a.t.now a.old a.n a.p _ _ _ _ c.shape_tangents-directionless.ensures.tangents c.requires.points c.finish_tangents.ensures.tangents
+    let m = a.mesh in
+    created (as_halfedges m.h.now) m.pos.now m.normals.now m.face_normals.now m.refs.now a.smooth.now a.t.now a.old m.n m.p c.shape_tangents-directionless.ensures.tangents c.finish_tangents.ensures.tangents
 
 pub returns-clause-directionless : goal.returns-clause-directionless
 unfolding filled_directionless
 returns-clause-directionless c =
-    rw c.requires.points at c.shape_tangents-directionless.ensures.directionless
+    c.shape_tangents-directionless.ensures.directionless

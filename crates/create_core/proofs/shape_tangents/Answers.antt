@@ -13,27 +13,30 @@ use Rattle.create_core.proofs.Shape.{shaped_is, counted_is, with_within}
 use Rattle.create_core.proofs.shape_tangents.Goals as goal
 use Rattle.create_core.proofs.shape_tangents.Goals.{After-shape_verts-creases}
 
-counted : (c : After-shape_verts-creases) → let a = c.args in c.first_tangents-first.result + c.shape_verts-creases.result ≡ directionless_with (as_halfedges a.h.now) a.pos.now a.refs.now (pairs_of (as_halfedges a.h.now) a.refs.now a.smooth.now a.n) a.t.now a.old a.n (length a.at.now)
+counted : (c : After-shape_verts-creases) → let a = c.args in let m = a.mesh in c.first_tangents-first.result + c.shape_verts-creases.result ≡ directionless_with (as_halfedges m.h.now) m.pos.now m.refs.now (pairs_of (as_halfedges m.h.now) m.refs.now a.smooth.now m.n) a.t.now a.old m.n m.p
 counted c =
     let a = c.args in
+    let m = a.mesh in
     let f = c.first_tangents-first in
     let g = c.find_creases in
-    counted_is (as_halfedges a.h.now) a.refs.now a.pos.now a.t.now a.old a.smooth.now a.n _ _ _ _ _ _
-    (ap is_flat f.ensures.flat ∙ flags_same (as_halfedges a.h.now) a.refs.now a.n) g.ensures.0 f.ensures.directionless c.shape_verts-creases.ensures.directionless (g.auto.at ∙ f.auto.at)
+    counted_is (as_halfedges m.h.now) m.refs.now m.pos.now a.t.now a.old a.smooth.now m.n _ _ _ _ _ _
+    (ap is_flat f.ensures.flat ∙ flags_same (as_halfedges m.h.now) m.refs.now m.n) g.ensures.0 f.ensures.directionless c.shape_verts-creases.ensures.directionless (g.auto.at ∙ f.auto.at ∙ c.requires.points)
 
 pub overflow_add-result : goal.overflow_add-result
 overflow_add-result c =
     let a = c.args in
-    omega (arith, c.requires.tangents, counted (goal.at.overflow_add-result c).After-shape_verts-creases, with_within c.requires.sound a.refs.now a.smooth.now a.pos.now a.t.now a.old)
+    let m = a.mesh in
+    omega (arith, c.requires.tangents, counted (goal.at.overflow_add-result c).After-shape_verts-creases, with_within m.sound m.refs.now a.smooth.now m.pos.now a.t.now a.old)
 
 pub returns-clause-tangents : goal.returns-clause-tangents
 returns-clause-tangents c =
     let a = c.args in
+    let m = a.mesh in
     let f = c.first_tangents-first in
     let g = c.find_creases in
     c.shape_verts-creases.ensures.tangents
-    ∙ shaped_is (as_halfedges a.h.now) a.refs.now a.pos.now a.normals.now a.face_normals.now (is_inside_quad (as_halfedges a.h.now) a.refs.now a.t.now a.old) a.smooth.now a.n _ _ _ _ _ _ _
-    (ap is_flat f.ensures.flat ∙ flags_same (as_halfedges a.h.now) a.refs.now a.n) g.ensures.0 f.ensures.tangents (c.fill.ensures.after (λ y e. e)) c.requires.fixed (g.auto.at ∙ f.auto.at)
+    ∙ shaped_is (as_halfedges m.h.now) m.refs.now m.pos.now m.normals.now m.face_normals.now (is_inside_quad (as_halfedges m.h.now) m.refs.now a.t.now a.old) a.smooth.now m.n _ _ _ _ _ _ _
+    (ap is_flat f.ensures.flat ∙ flags_same (as_halfedges m.h.now) m.refs.now m.n) g.ensures.0 f.ensures.tangents (c.fill.ensures.after (λ y e. e)) c.requires.fixed (g.auto.at ∙ f.auto.at ∙ c.requires.points)
 
 pub returns-clause-directionless : goal.returns-clause-directionless
 returns-clause-directionless c =

@@ -6,7 +6,7 @@ use Rattle.create_smoothness.specs.Entries.{halfedges_of, smoothness_of}
 use Rattle.create_smoothness.specs.EntrySmoothness.{EntriesIn}
 use Rattle.create_smoothness.proofs.Flat.{entries_in}
 use Rattle.create.specs.Create.{tangents_after}
-use Rattle.create.proofs.Accepted.{AcceptedLists, accepted_lists, made}
+use Rattle.create.proofs.Accepted.{AcceptedLists, accepted_lists, written, made}
 use Rattle.create_entries.specs.CreateEntries.{check_lists, create_answer}
 use Rattle.create_entries.proofs.Answer.{is_answer}
 use Rattle.create_entries.proofs.create_entries.Goals as goal
@@ -46,11 +46,17 @@ pub sharp_smoothness-requires : goal.sharp_smoothness-requires
 sharp_smoothness-requires c =
     let a = c.args in
     let w = lists (goal.at.sharp_smoothness-requires c).After-check_lists-checked c.in-Ok.is in
-    subst (EntriesIn a.sharp.now) (sym w.smooth) (entries_in a.sharp.now a.n w.named w.clear)
+    subst (EntriesIn a.sharp.now) (sym w.scratch.smooth) (entries_in a.sharp.now a.n w.named w.clear)
+
+pub invariant_of-mesh : goal.invariant_of-mesh
+invariant_of-mesh c =
+    let w = lists (goal.at.invariant_of-mesh c).After-check_lists-checked c.in-Ok.is in
+    let m = w.mesh_lists in
+    record { sound = w.sound; whole = m.halfedges; positions = m.positions; point_normals = m.normals; triangle_normals = m.face_normals w.sound.triangles }
 
 pub make_tangents-directionless-requires : goal.make_tangents-directionless-requires
 make_tangents-directionless-requires c =
-    (lists (goal.at.make_tangents-directionless-requires c).After-check_lists-checked c.in-Ok.is).lists c.sharp_smoothness.auto.smooth
+    written (lists (goal.at.make_tangents-directionless-requires c).After-check_lists-checked c.in-Ok.is) c.sharp_smoothness.auto.smooth
 
 pub returns-clause-answer : goal.returns-clause-answer
 returns-clause-answer c =

@@ -6,7 +6,8 @@ use Rattle.create_initial.proofs.first_tangent.Goals as goal
 pub is_inside_quad-requires : goal.is_inside_quad-requires
 is_inside_quad-requires c =
     let z = c.requires in
-    inside_quad_in _ _ _ _ z.1.lists.sound z.1.lists.whole z.1.lists.tangents _ z.0
+    let m = c.args.mesh in
+    inside_quad_in _ _ _ _ m.sound m.whole z.1.tangents _ z.0
 
 pub returns-then-is_inside_quad : goal.returns-then-is_inside_quad
 unfolding first_tangent first_directionless

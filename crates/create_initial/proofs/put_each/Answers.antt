@@ -1,9 +1,7 @@
 -- `create_initial::put_each` meets its contract. The invariant: the list is the fold over the halfedges passed, and holds the lent weights from there on; and it is counted which of those passed have no direction. Assumes nothing.
 use Rattle.create_initial.proofs.Counts.{firsts_within}
 use Rattle.create_initial.proofs.First.{first_turn, first_counts}
-use Rattle.create_initial.specs.First.{first_directionless}
-use Rattle.create_initial.specs.Lent.{face_at}
-use Rattle.smoothing.specs.Edges.{is_inside_quad}
+use Rattle.create_initial.specs.Lent.{inside_quad, counts_first}
 use Rattle.common.specs.Count.{sum, count_below}
 use Rattle.common.proofs.Fold.{fold_none}
 use Rattle.common.proofs.Count.{one_at_most}
@@ -22,13 +20,12 @@ pub overflow_add-directionless : goal.overflow_add-directionless
 overflow_add-directionless c =
     let a = c.args in
     let l = c.loop-e in
-    let H = as_halfedges a.h.now in
     omega (
       arith,
       l.invariant.directionless,
-      firsts_within H a.pos.now (is_inside_quad H a.refs.now a.t.now true) l.e,
+      firsts_within (as_halfedges a.mesh.h.now) a.mesh.pos.now (inside_quad a.mesh a.t.now true) l.e,
       c.put_first_tangent-directionless.ensures.directionless,
-      one_at_most (first_directionless H a.pos.now (is_inside_quad H a.refs.now l.t true) l.e),
+      one_at_most (counts_first a.mesh l.t true l.e),
     )
 
 pub loop-e-preserved : goal.loop-e-preserved
@@ -36,10 +33,9 @@ loop-e-preserved c =
     let a = c.args in
     let l = c.loop-e in
     let p = c.put_first_tangent-directionless in
-    let H = as_halfedges a.h.now in
-    let t = first_turn H a.refs.now a.pos.now a.normals.now a.face_normals.now true (face_at a.at.now) a.t.now l.t p.new.t l.e l.invariant.tangents l.invariant.weights p.ensures.tangents in
+    let t = first_turn a.mesh a.at.now true a.t.now l.t p.new.t l.e l.invariant.tangents l.invariant.weights p.ensures.tangents in
     record {
       tangents = t.0;
       weights = t.1;
-      directionless = first_counts H a.refs.now a.pos.now true a.t.now l.t l.e l.directionless p.result l.invariant.weights l.invariant.directionless p.ensures.directionless;
+      directionless = first_counts a.mesh true a.t.now l.t l.e l.directionless p.result l.invariant.weights l.invariant.directionless p.ensures.directionless;
     }

@@ -17,16 +17,16 @@ returns-then-not-is_forward-clause-directionless c =
 
 pub returns-then-tangents-clause-tangents : goal.returns-then-tangents-clause-tangents
 returns-then-tangents-clause-tangents c =
-    edge_put _ _ _ _ _ _ _ _ c.edge_tangents-tangents.ensures (sym c.is_forward.ensures ∙ c.if-not-is_forward.false) c.paired_halfedge-pair.ensures c.put_tangent.ensures c.put_tangent-2.ensures
+    edge_put _ _ _ _ c.edge_tangents-tangents.ensures (sym c.is_forward.ensures ∙ c.if-not-is_forward.false) c.paired_halfedge-pair.ensures c.put_tangent.ensures c.put_tangent-2.ensures
 
 pub returns-then-tangents-clause-directionless : goal.returns-then-tangents-clause-directionless
 returns-then-tangents-clause-directionless c =
-    edge_adds _ _ _ _ _ _ _ _ c.edge_tangents-tangents.ensures (sym c.is_forward.ensures ∙ c.if-not-is_forward.false) c.if-tangents.true
+    edge_adds _ _ _ _ c.edge_tangents-tangents.ensures (sym c.is_forward.ensures ∙ c.if-not-is_forward.false) c.if-tangents.true
 
 pub returns-else-tangents-clause-tangents : goal.returns-else-tangents-clause-tangents
 returns-else-tangents-clause-tangents c =
-    edge_put _ _ _ _ _ _ _ _ c.edge_tangents-tangents.ensures (sym c.is_forward.ensures ∙ c.if-not-is_forward.false) c.paired_halfedge-pair.ensures c.put_tangent.ensures c.put_tangent-2.ensures
+    edge_put _ _ _ _ c.edge_tangents-tangents.ensures (sym c.is_forward.ensures ∙ c.if-not-is_forward.false) c.paired_halfedge-pair.ensures c.put_tangent.ensures c.put_tangent-2.ensures
 
 pub returns-else-tangents-clause-directionless : goal.returns-else-tangents-clause-directionless
 returns-else-tangents-clause-directionless c =
-    edge_adds _ _ _ _ _ _ _ _ c.edge_tangents-tangents.ensures (sym c.is_forward.ensures ∙ c.if-not-is_forward.false) c.if-tangents.false
+    edge_adds _ _ _ _ c.edge_tangents-tangents.ensures (sym c.is_forward.ensures ∙ c.if-not-is_forward.false) c.if-tangents.false

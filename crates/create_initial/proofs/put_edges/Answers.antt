@@ -4,7 +4,6 @@ use native.Mathlib.Omega.{arith}
 use mathlib.Core.Path.{◌≡◌, refl, sym, ◌∙◌}
 use Rattle.common.specs.Count.{sum}
 use Rattle.common.proofs.Fold.{fold_none}
-use Rattle.mesh.specs.Mesh.{as_halfedges}
 use Rattle.create_initial.proofs.First.{edge_turn, edge_counts, edges_are, edges_count, edges_room}
 use Rattle.create_initial.proofs.put_edges.Goals as goal
 
@@ -20,8 +19,8 @@ overflow_add-directionless c =
     let p = c.put_edge-directionless in
     omega (
       arith,
-      edge_counts (as_halfedges a.h.now) a.refs.now a.pos.now a.t.now l.t l.e l.directionless p.result l.invariant.directionless p.ensures.directionless,
-      edges_room c.requires a.refs.now (l.e + 1) (omega arith),
+      edge_counts a.mesh a.t.now l.t l.e l.directionless p.result l.invariant.directionless p.ensures.directionless,
+      edges_room c.requires (l.e + 1) (omega arith),
     )
 
 pub loop-e-preserved : goal.loop-e-preserved
@@ -30,18 +29,18 @@ loop-e-preserved c =
     let l = c.loop-e in
     let p = c.put_edge-directionless in
     record {
-      tangents = edge_turn (as_halfedges a.h.now) a.refs.now a.pos.now a.normals.now a.face_normals.now a.at.now a.t.now l.t p.new.t l.e l.invariant.tangents p.ensures.tangents;
-      directionless = edge_counts (as_halfedges a.h.now) a.refs.now a.pos.now a.t.now l.t l.e l.directionless p.result l.invariant.directionless p.ensures.directionless;
+      tangents = edge_turn a.mesh a.at.now a.t.now l.t p.new.t l.e l.invariant.tangents p.ensures.tangents;
+      directionless = edge_counts a.mesh a.t.now l.t l.e l.directionless p.result l.invariant.directionless p.ensures.directionless;
     }
 
 pub returns-clause-tangents : goal.returns-clause-tangents
 returns-clause-tangents c =
     let l = c.loop-e in
-    let q : l.e ≡ c.args.n = omega arith in
-    (rw q at l.invariant.tangents) ∙ edges_are c.requires c.args.refs.now
+    let q : l.e ≡ c.args.mesh.n = omega arith in
+    (rw q at l.invariant.tangents) ∙ edges_are c.requires
 
 pub returns-clause-directionless : goal.returns-clause-directionless
 returns-clause-directionless c =
     let l = c.loop-e in
-    let q : l.e ≡ c.args.n = omega arith in
-    (rw q at l.invariant.directionless) ∙ edges_count c.requires c.args.refs.now
+    let q : l.e ≡ c.args.mesh.n = omega arith in
+    (rw q at l.invariant.directionless) ∙ edges_count c.requires

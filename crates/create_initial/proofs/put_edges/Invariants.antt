@@ -5,13 +5,12 @@ use Rattle.common.specs.Fold.{fold_to}
 use Rattle.common.specs.Count.{sum}
 use Rattle.mesh.specs.Mesh.{as_halfedges}
 use Rattle.smoothing.specs.Lists.{put_tangent}
-use Rattle.smoothing.specs.Edges.{is_inside_quad}
 use Rattle.smoothing.specs.Inner.{put_edge}
 use Rattle.create_initial.specs.Lent.{first_at, edge_directionless}
 use Rattle.create_initial.proofs.put_edges.Given as goal
 
 abbrev pub invariant-loop-e : goal.invariant-loop-e
 invariant-loop-e l = record {
-  tangents : l.t ≡ fold_to (put_edge put_tangent (as_halfedges l.h) (first_at (as_halfedges l.h) l.pos l.normals l.face_normals l.refs l.at l.initial.t false)) l.initial.t l.e;
-  directionless : l.directionless ≡ sum l.e (edge_directionless (as_halfedges l.h) l.pos (is_inside_quad (as_halfedges l.h) l.refs l.initial.t false));
+  tangents : l.t ≡ fold_to (put_edge put_tangent (as_halfedges l.mesh.h.now) (first_at l.mesh l.at l.initial.t false)) l.initial.t l.e;
+  directionless : l.directionless ≡ sum l.e (edge_directionless l.mesh l.initial.t);
 }

@@ -1,7 +1,7 @@
 -- `distribute::distribute_tangents` meets its contract. Demand 3 follows from the answer and the tangents.
-use Rattle.std.proofs.Common.{ℕ, ◌≡◌, sym, ap₂, ◌∙◌, Ok}
+use Rattle.std.proofs.Common.{ℕ, sym, ap₂, ◌∙◌, Ok}
 use Rattle.mesh.specs.Mesh.{as_halfedges}
-use Rattle.distribute.specs.Distribute.{counts_of, distribute_tangents}
+use Rattle.distribute.specs.Distribute.{counts_of}
 use Rattle.distribute.proofs.Accepted.{lists_of}
 use Rattle.distribute.proofs.Order.{any_order}
 use Rattle.distribute.proofs.Values.{values_of}

@@ -10,8 +10,8 @@ pub loop-start-preserved : goal.loop-start-preserved
 loop-start-preserved c =
     let inv = c.loop-start.invariant in
     let s = c.spread_at-counts in (
-      omega (arith, inv.0, s.ensures.looked_bound.0, c.requires.sound.few_halfedges),
-      omega (arith, inv.1, s.ensures.looked_bound.1, c.requires.sound.few_halfedges),
+      omega (arith, inv.0, s.ensures.looked_bound.0, c.args.lists.now.sound.few_halfedges),
+      omega (arith, inv.1, s.ensures.looked_bound.1, c.args.lists.now.sound.few_halfedges),
       pass_next _ c.loop-start-test.true inv.2 s.ensures.gives,
     )
 

@@ -3,13 +3,14 @@ use Rattle.mesh.specs.Mesh.{as_halfedges}
 use Rattle.smoothing.specs.Lists.{tangent_at}
 use Rattle.distribute_spread.proofs.Loops.{first_left}
 use Rattle.distribute_spread.proofs.Bodies.{FirstGoing}
-use Rattle.distribute_steps.specs.FloatSteps.{begin, float_steps}
+use Rattle.distribute_steps.specs.FloatSteps.{begin}
 use Rattle.distribute_steps.specs.Scratch.{gathered_of}
+use Rattle.distribute_walks.specs.Walks.{steps_of}
 use Rattle.distribute_walks.proofs.first_walk.Given as goal
 
 abbrev pub invariant-loop-approx : goal.invariant-loop-approx
 invariant-loop-approx l =
-    FirstGoing (float_steps (as_halfedges l.h) l.pos l.normals l.fixed l.n) l.t l.start l.initial.looked (begin (as_halfedges l.h) l.pos l.start (tangent_at l.t l.start)) l.here l.looked l.g.count (gathered_of l.current l.desired l.g)
+    FirstGoing (steps_of l.lists) l.t l.start l.initial.looked (begin (as_halfedges l.lists.h.now) l.lists.pos.now l.start (tangent_at l.t l.start)) l.here l.looked l.g.count (gathered_of l.current l.desired l.g)
 
 abbrev pub decreases-loop-approx : goal.decreases-loop-approx
-decreases-loop-approx l = first_left (float_steps (as_halfedges l.h) l.pos l.normals l.fixed l.n) l.t l.here
+decreases-loop-approx l = first_left (steps_of l.lists) l.t l.here

@@ -5,7 +5,7 @@ use native.Mathlib.Omega.{arith}
 use Rattle.mesh.proofs.Accepted.{inside}
 use Rattle.distribute_spread.proofs.Loops.{second_below, index_below}
 use Rattle.distribute_walks.specs.declared.Counts.{Counts}
-use Rattle.distribute_walks.proofs.Lawful.{lawful, angles_are}
+use Rattle.distribute_walks.proofs.Lawful.{laws, angles_are}
 use Rattle.distribute_walks.proofs.Bodies.{second_going, second_leaves, second_less, second_next, second_over, second_few}
 use Rattle.distribute_walks.proofs.second_walk.Goals as goal
 
@@ -15,58 +15,57 @@ none = record { looked = 0; turned = 0 }
 pub walk-init : goal.walk-init
 walk-init c =
     let p = c.requires in
-    let a = c.args in
-    let count = p.angles ∙ angles_are p.sound p.positions p.normals a.fixed.now a.t.now a.start p.looked p.start_below p.start_is in
-    (p.sound, λ P N k places. second_going (lawful p.sound P N a.fixed.now) p.start_below p.start_is p.tangents count k places)
+    let lists = c.args.lists.now in
+    let count = p.angles ∙ angles_are lists.sound lists.pos.now lists.normals.now lists.fixed.now c.args.t.now c.args.start p.looked p.start_below p.start_is in
+    λ k places. second_going (laws lists) p.start_below p.start_is p.tangents count k places
 
 pub next_around-here-requires : goal.next_around-here-requires
 next_around-here-requires c =
-    let p = c.requires in
-    inside p.sound p.whole _ (c.walk.invariant.1 [] [] none []).going.at.to_fixed.below
+    let lists = c.args.lists.now in
+    inside lists.sound lists.whole _ (c.walk.invariant none []).going.at.to_fixed.below
 
 pub leaves-requires : goal.leaves-requires
 leaves-requires c =
-    omega (arith, c.requires.flags, second_below (lawful c.walk.invariant.0 [] [] c.args.fixed.now) (c.walk.invariant.1 [] [] none []).going.at c.next_around-here.ensures)
+    omega (arith, c.args.lists.now.flags, second_below (laws c.args.lists.now) (c.walk.invariant none []).going.at c.next_around-here.ensures)
 
 pub turn_unmarked-i-requires : goal.turn_unmarked-i-requires
 turn_unmarked-i-requires c =
     let p = c.requires in
-    let laws = (lawful c.walk.invariant.0 [] [] c.args.fixed.now) in
-    let w = (c.walk.invariant.1 [] [] none []).going.at in
+    let w = (c.walk.invariant none []).going.at in
     record {
-      tangent_in = omega (arith, w.whole, second_below laws w c.next_around-here.ensures);
+      tangent_in = omega (arith, w.whole, second_below (laws c.args.lists.now) w c.next_around-here.ensures);
       current_in = p.current_in;
       desired_in = omega (arith, p.desired_in, c.walk.auto.desired);
       angle_in = omega (arith, w.index);
-      angle_below = index_below laws w c.next_around-here.ensures;
+      angle_below = index_below (laws c.args.lists.now) w c.next_around-here.ensures;
     }
 
 pub walk-smaller : goal.walk-smaller
 walk-smaller c =
-    second_less (lawful c.walk.invariant.0 [] [] c.args.fixed.now) (c.walk.invariant.1 [] [] none []) c.next_around-here.ensures
+    second_less (laws c.args.lists.now) (c.walk.invariant none []) c.next_around-here.ensures
     (sym c.leaves.ensures ∙ c.if-leaves.false) c.if-here-start.false
 
 pub walk-preserved : goal.walk-preserved
-walk-preserved c =
-    let inv = c.walk.invariant in
-    let u = c.turn_unmarked-i in (
-      inv.0,
-      λ P N k places. second_next (lawful inv.0 P N c.args.fixed.now) (inv.1 P N k places) c.next_around-here.ensures
-          (record { tangents_are = u.ensures.t_after; plan_is = u.ensures.result_after; index_is = u.ensures.value }) (sym c.leaves.ensures ∙ c.if-leaves.false) c.if-here-start.false,
-    )
+walk-preserved c k places =
+    let u = c.turn_unmarked-i in
+    second_next (laws c.args.lists.now) (c.walk.invariant k places) c.next_around-here.ensures
+    (record { tangents_are = u.ensures.t_after; plan_is = u.ensures.result_after; index_is = u.ensures.value }) (sym c.leaves.ensures ∙ c.if-leaves.false) c.if-here-start.false
 
-pub returns-then-leaves : goal.returns-then-leaves
-returns-then-leaves c =
-    let inv = c.walk.invariant in (
-      λ P N k places. second_leaves (lawful inv.0 P N c.args.fixed.now) (inv.1 P N k places) c.next_around-here.ensures (sym c.leaves.ensures ∙ c.if-leaves.true),
-      omega (arith, (inv.1 [] [] none []).going.at.index),
-    )
+pub returns-then-leaves-clause-gives : goal.returns-then-leaves-clause-gives
+returns-then-leaves-clause-gives c k places =
+    second_leaves (laws c.args.lists.now) (c.walk.invariant k places) c.next_around-here.ensures (sym c.leaves.ensures ∙ c.if-leaves.true)
 
-pub returns-then-here-start : goal.returns-then-here-start
-returns-then-here-start c =
-    let inv = c.walk.invariant in
-    let u = c.turn_unmarked-i in (
-      λ P N k places. second_over (lawful inv.0 P N c.args.fixed.now) (inv.1 P N k places) c.next_around-here.ensures
-          (record { tangents_are = u.ensures.t_after; plan_is = u.ensures.result_after; index_is = u.ensures.value }) c.if-here-start.true,
-      second_few (lawful inv.0 [] [] c.args.fixed.now) (inv.1 [] [] none []) c.next_around-here.ensures (record { tangents_are = u.ensures.t_after; plan_is = u.ensures.result_after; index_is = u.ensures.value }),
-    )
+pub returns-then-leaves-clause-few : goal.returns-then-leaves-clause-few
+returns-then-leaves-clause-few c = omega (arith, (c.walk.invariant none []).going.at.index)
+
+pub returns-then-here-start-clause-gives : goal.returns-then-here-start-clause-gives
+returns-then-here-start-clause-gives c k places =
+    let u = c.turn_unmarked-i in
+    second_over (laws c.args.lists.now) (c.walk.invariant k places) c.next_around-here.ensures
+    (record { tangents_are = u.ensures.t_after; plan_is = u.ensures.result_after; index_is = u.ensures.value }) c.if-here-start.true
+
+pub returns-then-here-start-clause-few : goal.returns-then-here-start-clause-few
+returns-then-here-start-clause-few c =
+    let u = c.turn_unmarked-i in
+    second_few (laws c.args.lists.now) (c.walk.invariant none []) c.next_around-here.ensures
+    (record { tangents_are = u.ensures.t_after; plan_is = u.ensures.result_after; index_is = u.ensures.value })

@@ -14,25 +14,20 @@ pub returns-then-turns_none-clause-gives : goal.returns-then-turns_none-clause-g
 returns-then-turns_none-clause-gives c =
     let f = c.first_walk-ended in
     at_first _ _ _ _ (sym c.is_start.ensures ∙ c.if-not-is_start.false) _ f.ensures.result_after
-    (turns_none_of _ _ _ (omega (arith, f.ensures.looked_bound.1, f.auto.current, c.requires.lists.current)) c.turns_none.ensures c.if-turns_none.true)
+    (turns_none_of _ _ _ (omega (arith, f.ensures.looked_bound.1, f.auto.current, c.requires.written.current)) c.turns_none.ensures c.if-turns_none.true)
 
 pub second_walk-turned-requires : goal.second_walk-turned-requires
 second_walk-turned-requires c =
-    let p = c.requires.lists in
+    let p = c.requires.written in
     let a = c.args in
     let f = c.first_walk-ended in
     let q = c.plan-by.ensures.count_value in
     record {
-      sound = p.sound;
-      whole = p.whole;
-      flags = p.flags;
       tangents = p.tangents;
       current_in = omega (arith, q, f.ensures.looked_bound.1, f.auto.current, p.current);
       desired_in = omega (arith, q, f.ensures.looked_bound.1, f.auto.desired, p.desired);
       start_below = c.requires.start_lt_n.0;
       start_is = sym c.is_start.ensures ∙ c.if-not-is_start.false;
-      positions = a.pos.now;
-      normals = a.normals.now;
       looked = a.counts.looked;
       angles = q ∙ sym (length-take-le _ _ (omega (arith, f.ensures.looked_bound.1, f.auto.desired, p.desired))) ∙ ap (λ x. angle_count x.gathered) f.ensures.result_after;
     }
@@ -41,5 +36,5 @@ pub returns-clause-gives : goal.returns-clause-gives
 returns-clause-gives c =
     let f = c.first_walk-ended in
     at_both _ _ _ _ (sym c.is_start.ensures ∙ c.if-not-is_start.false) _ f.ensures.result_after
-    (turns_none_of _ _ _ (omega (arith, f.ensures.looked_bound.1, f.auto.current, c.requires.lists.current)) c.turns_none.ensures c.if-turns_none.false) c.plan-by.ensures.result_value
-    (c.second_walk-turned.ensures.0 c.args.pos.now c.args.normals.now (record { looked = f.result.looked; turned = c.args.counts.turned }))
+    (turns_none_of _ _ _ (omega (arith, f.ensures.looked_bound.1, f.auto.current, c.requires.written.current)) c.turns_none.ensures c.if-turns_none.false) c.plan-by.ensures.result_value
+    (c.second_walk-turned.ensures.gives (record { looked = f.result.looked; turned = c.args.counts.turned }))

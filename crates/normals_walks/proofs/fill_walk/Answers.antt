@@ -3,10 +3,9 @@ use Rattle.normals_walks.specs.Walks.{fill_walk, fill_walk_directionless}
 use Rattle.normals_walks.proofs.Counting.{Counting, counting_start, counting_step, counting_less, counting_within, counting_state, counting_count}
 use Rattle.normals_steps.specs.Steps.{Fill, fill_of, fill_step, fill_directionless}
 use Rattle.normals_steps.proofs.Counts.{fill_one}
-use Rattle.normals_state.specs.State.{get_normal}
-use Rattle.normals_state.proofs.Lent.{next_in}
+use Rattle.normals_walks.proofs.Lent.{next_in}
 use Rattle.linalg.specs.declared.Vec3.{Vec3}
-use Rattle.mesh.specs.Mesh.{as_halfedges}
+use Rattle.normals_walks.specs.Lists.{mesh_of, normal_of}
 use Rattle.mesh.proofs.Accepted.{inside}
 use Rattle.mesh.proofs.Halfedges.{prev_below}
 use Rattle.cycles.proofs.Around.{prev_permutes, prev_fits}
@@ -17,43 +16,44 @@ use Rattle.normals_walks.proofs.fill_walk.Goals as goal
 
 pub get_normal-prev-requires : goal.get_normal-prev-requires
 get_normal-prev-requires c =
-    let pre = c.requires in next_in pre.1.state.missing pre.0 c.next_around-next.ensures
+    next_in c.args.lists.now c.requires.0 c.next_around-next.ensures
 
 pub loop-current-init : goal.loop-current-init
 loop-current-init c =
     let a = c.args in
-    let q = c.get_normal-prev.ensures ∙ ap (get_normal a.h.now a.rows.now) c.next_around-next.ensures in
-    let N = get_normal a.h.now a.rows.now in
-    let H = as_halfedges a.h.now in (
-      subst (λ (v : Vec3). Counting (fill_step H a.pos.now a.face_normals.now N a.last) (λ (m : Fill). fill_directionless H a.pos.now m.tangents) (prev_around H) a.n a.start (fill_of a.t.now (N (next_around H a.start))) (fill_of a.t.now v) 0 a.start) (sym q) (counting_start (prev_permutes c.requires.1.state.missing.sound) c.requires.0),
+    let k = a.lists.now in
+    let q = c.get_normal-prev.ensures ∙ ap (normal_of k) c.next_around-next.ensures in
+    let N = normal_of k in
+    let H = mesh_of k in (
+      subst (λ (v : Vec3). Counting (fill_step H k.pos.now k.face_normals.now N a.last) (λ (m : Fill). fill_directionless H k.pos.now m.tangents) (prev_around H) k.n a.start (fill_of a.t.now (N (next_around H a.start))) (fill_of a.t.now v) 0 a.start) (sym q) (counting_start (prev_permutes k.sound) c.requires.0),
       refl,
     )
 
 pub prev_around-current-requires : goal.prev_around-current-requires
 prev_around-current-requires c =
-    let l = c.loop-current in let w = c.requires.1.state.missing in let b = l.invariant.0.walking.below in (prev_fits w.sound l.current b, inside w.sound w.whole _ (prev_below _ l.current w.sound.triangles b))
+    let l = c.loop-current in let w = c.args.lists.now in let b = l.invariant.0.walking.below in (prev_fits w.sound l.current b, inside w.sound w.whole _ (prev_below _ l.current w.sound.triangles b))
 
 pub overflow_add-directionless : goal.overflow_add-directionless
 overflow_add-directionless c =
-    let pre = c.requires in
-    let one = fill_one (as_halfedges c.args.h.now) c.args.pos.now in
-    omega (arith, counting_within (prev_permutes pre.1.state.missing.sound) c.loop-current.invariant.0 (λ m. one m.tangents) pre.0, c.fill_step-step.ensures.directionless, one c.loop-current.t c.loop-current.current, pre.1.tangents)
+    let k = c.args.lists.now in
+    let one = fill_one (mesh_of k) k.pos.now in
+    omega (arith, counting_within (prev_permutes k.sound) c.loop-current.invariant.0 (λ m. one m.tangents) c.requires.0, c.fill_step-step.ensures.directionless, one c.loop-current.t c.loop-current.current, c.requires.1)
 
 pub loop-current-smaller : goal.loop-current-smaller
 loop-current-smaller c =
-    counting_less (prev_permutes c.requires.1.state.missing.sound) c.loop-current.invariant.0 c.prev_around-current.ensures c.if-current-start.false
+    counting_less (prev_permutes c.args.lists.now.sound) c.loop-current.invariant.0 c.prev_around-current.ensures c.if-current-start.false
 
 pub loop-current-preserved : goal.loop-current-preserved
 loop-current-preserved c =
     let m = c.fill_step-step in
     let l = c.loop-current in
-    (counting_step (prev_permutes c.requires.1.state.missing.sound) l.invariant.0 c.prev_around-current.ensures m.ensures.fill m.ensures.directionless c.if-current-start.false, m.auto.t ∙ l.invariant.1)
+    (counting_step (prev_permutes c.args.lists.now.sound) l.invariant.0 c.prev_around-current.ensures m.ensures.fill m.ensures.directionless c.if-current-start.false, m.auto.t ∙ l.invariant.1)
 
 pub returns : goal.returns
 unfolding fill_walk fill_walk_directionless
 returns c =
     let m = c.fill_step-step in
-    let Q = prev_permutes c.requires.1.state.missing.sound in
+    let Q = prev_permutes c.args.lists.now.sound in
     let w = c.loop-current.invariant.0 in record {
       tangents = ap (λ (k : Fill). k.tangents) (counting_state Q w c.prev_around-current.ensures m.ensures.fill m.ensures.directionless c.if-current-start.true);
       directionless = counting_count Q w c.prev_around-current.ensures m.ensures.fill m.ensures.directionless c.if-current-start.true;

@@ -1,16 +1,16 @@
 -- `normals_walks::finish_vert` meets its contract: each way is what the test picks. Assumes nothing.
 use native.Mathlib.Omega.{arith}
-use Rattle.mesh.specs.Mesh.{as_halfedges}
-use Rattle.normals_state.specs.State.{get_normal}
+use mathlib.Core.Path.{◌∙◌}
 use Rattle.normals_steps.proofs.Counts.{face_edges_two}
 use Rattle.normals_walks.specs.Walks.{finish_vert, finish_vert_directionless}
-use Rattle.normals_walks.proofs.Lent.{faces_lists, making_in}
+use Rattle.normals_walks.specs.Lists.{mesh_of, normal_of}
+use Rattle.normals_walks.proofs.Lent.{making_in, point_in}
 use Rattle.normals_walks.proofs.Bound.{fill_missing_few}
 use Rattle.normals_walks.proofs.finish_vert.Goals as goal
 
-pub vert_normal_walk-requires : goal.vert_normal_walk-requires
-vert_normal_walk-requires c =
-    let p = c.requires in (p.0, faces_lists p.3)
+pub point_at-normal-requires : goal.point_at-normal-requires
+point_at-normal-requires c =
+    point_in c.args.lists.now c.requires.1
 
 pub returns-then-both-clause-tangents : goal.returns-then-both-clause-tangents
 unfolding finish_vert
@@ -24,20 +24,20 @@ returns-then-both-clause-directionless c =
 
 pub align_face_edges-aligned-requires : goal.align_face_edges-aligned-requires
 align_face_edges-aligned-requires c =
-    let p = c.requires in (p.2.face_edges, making_in p.3 c.fill_missing-filled.auto.t p.4)
+    let p = c.requires in (p.2.face_edges, making_in c.args.lists.now (c.fill_missing-filled.auto.t ∙ p.3) p.4)
 
 pub overflow_add-result : goal.overflow_add-result
 overflow_add-result c =
     let a = c.args in
     let p = c.requires in
-    let H = as_halfedges a.h.now in
+    let k = a.lists.now in
     omega (
       arith,
       c.fill_missing-filled.ensures.directionless,
-      fill_missing_few p.3.state.missing.sound a.pos.now a.normals.now a.face_normals.now (get_normal a.h.now a.rows.now) a.state.last_normal a.t.now a.state.start_halfedge p.2.start_halfedge,
+      fill_missing_few k.sound k.pos.now k.normals.now k.face_normals.now (normal_of k) a.state.last_normal a.t.now a.state.start_halfedge p.2.start_halfedge,
       c.align_face_edges-aligned.ensures.directionless,
-      face_edges_two H a.pos.now a.state.face_edges,
-      p.3.tangents,
+      face_edges_two (mesh_of k) k.pos.now a.state.face_edges,
+      p.3,
     )
 
 pub returns-clause-tangents : goal.returns-clause-tangents

@@ -1,10 +1,10 @@
 -- `normals_walks::normal_walk` meets its contract: a walk once round a vertex cycle. The invariant: what is left of the counted fold gives the whole, and the normal that is carried is the current halfedge's. Assumes nothing.
+use Rattle.normals_walks.specs.Lists.{mesh_of, normal_of}
 use Rattle.normals_walks.proofs.Counting.{Counting}
 use Rattle.normals_steps.specs.Steps.{StateIn, walk_of, normal_step, normal_step_directionless}
 use Rattle.normals_steps.specs.Carried.{is_inside}
-use Rattle.normals_state.specs.State.{get_normal, start_state}
+use Rattle.normals_state.specs.State.{start_state}
 use Rattle.normals_state.specs.Carried.{halfedge_normal}
-use Rattle.mesh.specs.Mesh.{as_halfedges}
 use Rattle.cycles.proofs.Paths.{is_at, steps_left}
 use Rattle.cycles.specs.Cycles.{next_around}
 use lib.ListN.{length}
@@ -13,9 +13,10 @@ use Rattle.normals_walks.proofs.normal_walk.Given as goal
 
 abbrev pub invariant-loop-current : goal.invariant-loop-current
 invariant-loop-current l =
-    Counting (normal_step (as_halfedges l.h) l.pos l.face_normals (get_normal l.h l.rows) (is_inside l.inside)) (normal_step_directionless (as_halfedges l.h) l.pos l.face_normals (get_normal l.h l.rows) (is_inside l.inside)) (next_around (as_halfedges l.h)) l.n l.e (walk_of l.initial.t l.initial.fixed start_state) (walk_of l.t l.fixed l.state) l.directionless l.current
+    let k = l.walks.lists in
+    Counting (normal_step (mesh_of k) l.pos l.face_normals (normal_of k) (is_inside l.inside)) (normal_step_directionless (mesh_of k) l.pos l.face_normals (normal_of k) (is_inside l.inside)) (next_around (mesh_of k)) l.n l.e (walk_of l.initial.t l.initial.fixed start_state) (walk_of l.t l.fixed l.state) l.directionless l.current
     × (length l.t ≡ length l.initial.t) × (length l.fixed ≡ length l.initial.fixed) × StateIn l.n l.state
-    × (l.here ≡ halfedge_normal l.face_units (get_normal l.h l.rows) l.current)
+    × (l.here ≡ halfedge_normal l.face_units (normal_of k) l.current)
 
 abbrev pub decreases-loop-current : goal.decreases-loop-current
-decreases-loop-current l = steps_left (next_around (as_halfedges l.h)) (is_at l.e) l.n l.current
+decreases-loop-current l = steps_left (next_around (mesh_of l.walks.lists)) (is_at l.e) l.n l.current

@@ -2,7 +2,7 @@
 use Rattle.normals_walks.specs.Walks.{vert_normal_walk, vert_normal_walk_directionless}
 use Rattle.normals_walks.proofs.Counting.{counting_start, counting_step, counting_less, counting_within, counting_state, counting_count}
 use Rattle.normals_steps.proofs.Counts.{vert_normal_one}
-use Rattle.mesh.specs.Mesh.{as_halfedges}
+use Rattle.normals_walks.specs.Lists.{mesh_of}
 use Rattle.cycles.proofs.Around.{next_permutes}
 use native.Mathlib.Omega.{arith}
 use mathlib.Core.Path.{refl, ◌∙◌}
@@ -10,29 +10,29 @@ use Rattle.normals_walks.proofs.vert_normal_walk.Goals as goal
 
 pub loop-current-init : goal.loop-current-init
 loop-current-init c =
-    let pre = c.requires in (counting_start (next_permutes pre.1.tangents.sound) pre.0, refl)
+    (counting_start (next_permutes c.args.lists.now.sound) c.requires.0, refl)
 
 pub overflow_add-directionless : goal.overflow_add-directionless
 overflow_add-directionless c =
-    let pre = c.requires in
-    let one = vert_normal_one (as_halfedges c.args.h.now) c.args.pos.now in
-    omega (arith, counting_within (next_permutes pre.1.tangents.sound) c.loop-current.invariant.0 one pre.0, c.vert_normal_step-directionless.ensures.directionless, one c.loop-current.t c.loop-current.current, pre.1.tangents.tangents)
+    let k = c.args.lists.now in
+    let one = vert_normal_one (mesh_of k) k.pos.now in
+    omega (arith, counting_within (next_permutes k.sound) c.loop-current.invariant.0 one c.requires.0, c.vert_normal_step-directionless.ensures.directionless, one c.loop-current.t c.loop-current.current, c.requires.1)
 
 pub loop-current-smaller : goal.loop-current-smaller
 loop-current-smaller c =
-    counting_less (next_permutes c.requires.1.tangents.sound) c.loop-current.invariant.0 c.next_around-current.ensures c.if-current-e.false
+    counting_less (next_permutes c.args.lists.now.sound) c.loop-current.invariant.0 c.next_around-current.ensures c.if-current-e.false
 
 pub loop-current-preserved : goal.loop-current-preserved
 loop-current-preserved c =
     let m = c.vert_normal_step-directionless in
     let l = c.loop-current in
-    (counting_step (next_permutes c.requires.1.tangents.sound) l.invariant.0 c.next_around-current.ensures m.ensures.tangents m.ensures.directionless c.if-current-e.false, m.auto.t ∙ l.invariant.1)
+    (counting_step (next_permutes c.args.lists.now.sound) l.invariant.0 c.next_around-current.ensures m.ensures.tangents m.ensures.directionless c.if-current-e.false, m.auto.t ∙ l.invariant.1)
 
 pub returns : goal.returns
 unfolding vert_normal_walk vert_normal_walk_directionless
 returns c =
     let m = c.vert_normal_step-directionless in
-    let Q = next_permutes c.requires.1.tangents.sound in
+    let Q = next_permutes c.args.lists.now.sound in
     let w = c.loop-current.invariant.0 in record {
       tangents = counting_state Q w c.next_around-current.ensures m.ensures.tangents m.ensures.directionless c.if-current-e.true;
       directionless = counting_count Q w c.next_around-current.ensures m.ensures.tangents m.ensures.directionless c.if-current-e.true;

@@ -1,7 +1,7 @@
 -- `normals_walks::vert_normal_walk` meets its contract: a walk once round a vertex cycle. The invariant: what is left of the counted fold gives the whole. Assumes nothing.
+use Rattle.normals_walks.specs.Lists.{mesh_of}
 use Rattle.normals_walks.proofs.Counting.{Counting}
 use Rattle.normals_steps.specs.Steps.{vert_normal_step, vert_normal_directionless}
-use Rattle.mesh.specs.Mesh.{as_halfedges}
 use Rattle.cycles.proofs.Paths.{is_at, steps_left}
 use Rattle.cycles.specs.Cycles.{next_around}
 use lib.ListN.{length}
@@ -10,8 +10,8 @@ use Rattle.normals_walks.proofs.vert_normal_walk.Given as goal
 
 abbrev pub invariant-loop-current : goal.invariant-loop-current
 invariant-loop-current l =
-    Counting (vert_normal_step (as_halfedges l.h) l.pos l.face_normals l.normal) (vert_normal_directionless (as_halfedges l.h) l.pos) (next_around (as_halfedges l.h)) l.n l.e l.initial.t l.t l.directionless l.current
+    Counting (vert_normal_step (mesh_of l.lists) l.pos l.face_normals l.normal) (vert_normal_directionless (mesh_of l.lists) l.pos) (next_around (mesh_of l.lists)) l.lists.n l.e l.initial.t l.t l.directionless l.current
     × (length l.t ≡ length l.initial.t)
 
 abbrev pub decreases-loop-current : goal.decreases-loop-current
-decreases-loop-current l = steps_left (next_around (as_halfedges l.h)) (is_at l.e) l.n l.current
+decreases-loop-current l = steps_left (next_around (mesh_of l.lists)) (is_at l.e) l.lists.n l.current

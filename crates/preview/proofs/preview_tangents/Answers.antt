@@ -1,5 +1,5 @@
 -- `preview::preview_tangents` meets its contract. The order rule and the answer of spreading follow from the answer and the bytes.
-use Rattle.std.proofs.Common.{ℕ, ◌≡◌, sym, ap₂, ◌∙◌, Ok}
+use Rattle.std.proofs.Common.{ℕ, sym, ap₂, ◌∙◌, Ok}
 use Rattle.mesh.specs.Mesh.{as_halfedges}
 use Rattle.distribute.specs.Distribute.{counts_of}
 use Rattle.distribute.proofs.Values.{values_of}
@@ -15,10 +15,16 @@ pub returns-in_default-clause-values : goal.returns-in_default-clause-values
 returns-in_default-clause-values c =
     values_of _ _ _ (rw c.check_lists-checked.ensures at c.refused.ensures.answer _)
 
+pub invariant_of-lists : goal.invariant_of-lists
+invariant_of-lists c =
+    let a = c.args in
+    let l = (lists_of (as_halfedges a.h.now) a.pos.now a.normals.now a.fixed.now a.t.now a.bytes.now a.n a.p (sym c.check_lists-checked.ensures ∙ c.in-Ok.is)).0 in
+    record { sound = l.sound; whole = l.whole; flags = l.flags; tangents = l.tangents }
+
 pub preview_all-counts-requires : goal.preview_all-counts-requires
 preview_all-counts-requires c =
     let a = c.args in
-    lists_of (as_halfedges a.h.now) a.pos.now a.normals.now a.fixed.now a.t.now a.bytes.now a.n a.p (sym c.check_lists-checked.ensures ∙ c.in-Ok.is)
+    (lists_of (as_halfedges a.h.now) a.pos.now a.normals.now a.fixed.now a.t.now a.bytes.now a.n a.p (sym c.check_lists-checked.ensures ∙ c.in-Ok.is)).1
 
 pub returns-clause-spreading : goal.returns-clause-spreading
 returns-clause-spreading c =

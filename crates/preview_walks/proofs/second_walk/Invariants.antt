@@ -3,19 +3,17 @@ use mathlib.Core.List.{List}
 use Prim.Native.Nat.{ℕ, suc}
 use lib.Ieee.{Float}
 use Rattle.mesh.specs.Mesh.{as_halfedges}
-use Rattle.mesh.specs.Sound.{Sound}
 use Rattle.cycles.specs.Cycles.{next_around}
 use Rattle.cycles.proofs.Paths.{steps_left}
 use Rattle.distribute_steps.specs.FloatSteps.{Plan, is_fixed}
 use Rattle.distribute_walks.specs.declared.Counts.{Counts}
-use Rattle.distribute_walks.proofs.Lawful.{lawful}
+use Rattle.preview_walks.proofs.Lawful.{laws}
 use Rattle.preview_walks.proofs.Second.{Showing}
 use Rattle.preview_walks.proofs.second_walk.Given as goal
 
 abbrev pub invariant-walk : goal.invariant-walk
 invariant-walk l =
-    (s : Sound (as_halfedges l.h) l.n l.p)
-    × ((P N : List Float) (by : Plan) (k : Counts) (places : List ℕ) → Showing (lawful s P N l.fixed) l.t l.start l.initial.bytes by k places l.here l.i l.bytes)
+    (P N : List Float) (by : Plan) (k : Counts) (places : List ℕ) → Showing (laws l.lists P N) l.lists.t.now l.start l.initial.bytes by k places l.here l.i l.bytes
 
 abbrev pub decreases-walk : goal.decreases-walk
-decreases-walk l = steps_left (next_around (as_halfedges l.h)) (is_fixed l.fixed) (suc l.n) l.here
+decreases-walk l = steps_left (next_around (as_halfedges l.lists.h.now)) (is_fixed l.lists.fixed.now) (suc l.lists.n) l.here

@@ -29,6 +29,13 @@ loop-e-preserved c =
       three_passed H _ l.e l.invariant.2 (triangle_passed H _ l.e l.invariant.1 (sym c.triangle_valid.ensures ∙ c.if-not-triangle_valid.false)),
     )
 
+pub returns-else-not-triangle_valid : goal.returns-else-not-triangle_valid
+returns-else-not-triangle_valid c =
+    let l = c.loop-e in
+    let H = as_halfedges c.args.h.now in
+    let done : l.e + 3 ≡ c.args.n = omega (arith, c.requires.sound.triangles, l.invariant.1, c.loop-e-test.true) in
+    sym (all_passed H _ c.requires.sound (rw done at (three_passed H _ l.e l.invariant.2 (triangle_passed H _ l.e l.invariant.1 (sym c.triangle_valid.ensures ∙ c.if-not-triangle_valid.false)))))
+
 pub returns : goal.returns
 returns c =
     let done : c.loop-e.e ≡ c.args.n = omega arith in
