@@ -10,7 +10,7 @@ use Rattle.math.specs.Acos.{acos_of}
 use Rattle.linalg.specs.declared.Vec3.{Vec3}
 use Rattle.linalg.specs.declared.Vec4.{Vec4}
 use Rattle.mesh.specs.Mesh.{as_halfedges, next_halfedge, prev_halfedge}
-use Rattle.mesh.specs.Check.{Checked, refused}
+use Rattle.mesh.specs.Check.{Checked, number_of, place_of, refused}
 use Rattle.mesh.specs.declared.Question.TheVariants.{Mutual}
 use Rattle.smoothing.specs.Directions.{circular_tangent}
 use Rattle.linearize.specs.Linearize.{linearize_answer, tangents_after}
@@ -101,7 +101,9 @@ pillow_marks =
 
 -- Pillow with the pair of 0 set to 0: refused 5 (`Mutual`), place 5.
 abbrev pub pillow_refused : List Line
-pillow_refused = (checked (linearize_answer (as_halfedges (pillow_with 0)) positions no_tangents halfedges points) is checked (refused Mutual 5)) ∷ []
+pillow_refused =
+    let answer = linearize_answer (as_halfedges (pillow_with 0)) positions no_tangents halfedges points in
+    (checked answer is checked (refused Mutual 5)) ∷ (number (number_of answer) is number 5) ∷ (number (place_of answer) is number 5) ∷ []
 
 -- the answer to spreading the straightened pillow, point normals all 0, with these flags
 abbrev pub spreading : List ℕ → Value
