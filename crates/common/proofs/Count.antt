@@ -8,7 +8,6 @@ use borrow.Author.Tests.{eq-eqb, ne_eqb}
 use lib.Dec.{eqb}
 use Rattle.common.specs.Count.{sum, count_below}
 use Rattle.common.proofs.Sums.{sum_ext, sum_zero, sum_one, sum_le_n, sum_mono}
-use Rattle.common.proofs.Tests.{and_last}
 
 -- a test as a number
 pub one_at_most : (b : Bool) → cond b 1 0 ≤ 1
@@ -62,6 +61,10 @@ count_value e n = go (dec_lt e n)
 
 abbrev without : (ℕ → Bool) → ℕ → ℕ → Bool
 without d j k = d k && not (eqb k j)
+
+and_last : (a : Bool) → (a && true ≡ a) × (a && false ≡ false)
+and_last true = (refl, refl)
+and_last false = (refl, refl)
 
 without_other : (d : ℕ → Bool) (j k : ℕ) → (k ≡ j → ⊥) → without d j k ≡ d k
 without_other d j k q = rw (ne_eqb k j q) (and_last (d k)).0

@@ -4,4 +4,3 @@ pub mod Sums
 pub mod Count
 pub mod Counted
 pub mod Filled
-pub mod Tests

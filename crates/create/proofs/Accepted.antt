@@ -11,7 +11,7 @@ use Rattle.mesh.specs.Sound.{Sound}
 use Rattle.mesh.specs.Questions.{has_length, sign_clear}
 use Rattle.std.specs.Prelude.{Ok}
 use Rattle.mesh.specs.Check.{Checked, check_mesh, check_refs, answer_of}
-use Rattle.common.proofs.Tests.{and_true}
+use Rattle.std.proofs.lemmas.Bool.{and_parts}
 use Rattle.mesh.proofs.Tests.{has_length_lem, has_one}
 use Rattle.mesh.proofs.Accepted.{accepted, refs_accepted, entries_accepted}
 use Rattle.create_smoothness.specs.EntrySmoothness.{EntriesIn, entry_smoothness}
@@ -19,7 +19,6 @@ use Rattle.create_smoothness.specs.declared.Smoothness.{Smoothness}
 use Rattle.create_core.specs.Core.{create_directionless}
 use Rattle.create_core.specs.Filled.{Lists, create_filled, filled_directionless}
 use Rattle.create_core.proofs.Filled.{filled_same, create_within}
-use Rattle.create_shared.specs.Answer.{Making, directionless_of, checked_of}
 use Rattle.create_shared.proofs.Lengths.{MeshListsFit, mesh_lists_fit_lem}
 use Rattle.create.specs.Create.{lists_fit, scratch_fits, check_create, check_lists, tangents_after}
 
@@ -31,8 +30,8 @@ pub record ListsFit (h l m a r i q t n p : ℕ) : Type 0 where
 
 lists_fit_lem : (h l m a r i q t n p : ℕ) → lists_fit h l m a r i q t n p ≡ true → ListsFit h l m a r i q t n p
 lists_fit_lem h l m a r i q t n p e =
-    let e₇ = and_true _ (has_length t n 4) e in
-    let e₆ = and_true _ (has_length q i 1) e₇.0 in
+    let e₇ = and_parts _ (has_length t n 4) e in
+    let e₆ = and_parts _ (has_length q i 1) e₇.0 in
     record {
       mesh_lists = mesh_lists_fit_lem h l m a r n p e₆.0;
       values = has_one q i e₆.1;
@@ -50,11 +49,11 @@ pub record ScratchFits (x f s d c l n p : ℕ) : Type 0 where
 
 scratch_fits_lem : (x f s d c l n p : ℕ) → scratch_fits x f s d c l n p ≡ true → ScratchFits x f s d c l n p
 scratch_fits_lem x f s d c l n p e =
-    let e₆ = and_true _ (has_length l n 1) e in
-    let e₅ = and_true _ (has_length c p 1) e₆.0 in
-    let e₄ = and_true _ (has_length d n 1) e₅.0 in
-    let e₃ = and_true _ (has_length s n 1) e₄.0 in
-    let e₂ = and_true (has_length x n 1) (has_length f n 1) e₃.0 in
+    let e₆ = and_parts _ (has_length l n 1) e in
+    let e₅ = and_parts _ (has_length c p 1) e₆.0 in
+    let e₄ = and_parts _ (has_length d n 1) e₅.0 in
+    let e₃ = and_parts _ (has_length s n 1) e₄.0 in
+    let e₂ = and_parts (has_length x n 1) (has_length f n 1) e₃.0 in
     record {
       fixed = has_one x n e₂.0;
       flat = has_one f n e₂.1;
@@ -91,7 +90,7 @@ accepted_lists H P N A R I Q T X F S D C L n p e =
     let lengths = lists_fit H.numbers (length P) (length N) (length A) (length R) (length I) (length Q) (length T) n p && scratch_fits (length X) (length F) (length S) (length D) (length C) (length L) n p in
     let a = entries_accepted (check_refs (check_mesh H n p lengths) R n) n I Q e in
     let b = accepted H n p lengths (refs_accepted (check_mesh H n p lengths) n R a.0).0 in
-    let q = and_true _ _ b.0 in
+    let q = and_parts _ _ b.0 in
     let l = lists_fit_lem _ _ _ _ _ _ _ _ n p q.0 in
     record {
       sound = b.1;

@@ -14,7 +14,8 @@ ghost use Rattle.create.specs.Create.{lists_fit, scratch_fits, check_create, che
 use create_shared::MeshLists;
 use mesh::Refusal;
 
-// Question 2 of the lists that the call reads, and of the tangents, from the length of each.
+// Question 2 of the lists that the call reads, and of the tangents, from the length of each. No struct, here or below: its fields
+// would be these lengths by the same names, and the caller would write each twice.
 pub fn lists_fit(
     n: usize,
     p: usize,
@@ -38,10 +39,7 @@ pub fn lists_fit(
         face_normals,
         refs,
     );
-    common::both(
-        common::both(lists, mesh::has_length(values, entries, 1)),
-        mesh::has_length(tangents, n, 4),
-    )
+    lists & mesh::has_length(values, entries, 1) & mesh::has_length(tangents, n, 4)
 }
 
 // Question 2 of the scratch lists, from the length of each.
@@ -57,43 +55,13 @@ pub fn scratch_fits(
 ) -> bool
     ensures { result ≡ scratch_fits fixed flat smooth desired at link n p }
 {
-    let flags = common::both(mesh::has_length(fixed, n, 1), mesh::has_length(flat, n, 1));
-    let angles = common::both(
-        common::both(flags, mesh::has_length(smooth, n, 1)),
-        mesh::has_length(desired, n, 1),
-    );
-    common::both(
-        common::both(angles, mesh::has_length(at, p, 1)),
-        mesh::has_length(link, n, 1),
-    )
-}
-
-// Question 2 of the scratch lists.
-fn scratch_lists_fit(
-    n: usize,
-    p: usize,
-    fixed: &[u8],
-    flat: &[u8],
-    smooth: &[f64],
-    desired: &[f64],
-    at: &[usize],
-    link: &[usize],
-) -> bool
-    ensures { result ≡ scratch_fits (length fixed.now) (length flat.now) (length smooth.now) (length desired.now) (length at.now) (length link.now) n p }
-{
-    scratch_fits(
-        n,
-        p,
-        fixed.len(),
-        flat.len(),
-        smooth.len(),
-        desired.len(),
-        at.len(),
-        link.len(),
-    )
+    let flags = mesh::has_length(fixed, n, 1) & mesh::has_length(flat, n, 1);
+    let angles = flags & mesh::has_length(smooth, n, 1) & mesh::has_length(desired, n, 1);
+    angles & mesh::has_length(at, p, 1) & mesh::has_length(link, n, 1)
 }
 
 // The questions 1 to 10; `lengths` is the answer to question 2.
+#[tactic(auto, unfolding(crate::specs::Create::check_create))]
 fn check_create(
     n: usize,
     p: usize,
@@ -114,6 +82,9 @@ fn check_create(
 // sharp entries. With `old` the tangents t hold the old ones. Of the scratch lists `at` has a place for each point, each
 // other one for each halfedge. The answer counts the circular tangents on an edge without direction.
 // The lists are parameters of their own and no struct, as the C interface has them: counts, lists read, lists written, scratch.
+// `create_entries` is the same call of a list of structs, by document 01's form by place for the sharp entries: a lent slice of
+// structs, read by one thin entry point, after a core over two flat lists, which is this.
+#[tactic(auto, unfolding(mesh::specs::Mesh::as_halfedges))]
 pub fn create_tangents(
     n: usize,
     p: usize,
@@ -156,9 +127,19 @@ pub fn create_tangents(
         values.len(),
         t.len(),
     );
-    let scratch = scratch_lists_fit(n, p, fixed, flat, smooth, desired, at, link);
-    let lengths = common::both(lists, scratch);
+    let scratch = scratch_fits(
+        n,
+        p,
+        fixed.len(),
+        flat.len(),
+        smooth.len(),
+        desired.len(),
+        at.len(),
+        link.len(),
+    );
+    let lengths = lists & scratch;
     let checked = check_create(n, p, h, refs, entries, values, lengths);
+    // Document 01's form by place: the check's answer is opened by `let .. else`.
     let Ok(()) = checked else {
         return mesh::refused(checked);
     };

@@ -14,12 +14,15 @@ ghost use Rattle.create_core.specs.Lent.{CreateLists, pairs_of};
 ghost use Rattle.create_core.specs.Core.{directionless_with};
 ghost use Rattle.create_core.specs.Filled.{Lists, create_filled, filled_directionless};
 
+use create_creases::LinkedCreases;
 use create_shared::MeshLists;
+use create_sharpen::ShapeLists;
+use distribute_walks::SpreadLists;
 
 // The tangents and the fixed flags, and the count, where `smooth` holds the smoothness of the caller's entries, and whatever the
 // flags and the other scratch lists held: `flat`, `smooth` and `link` with a place for each halfedge, `at` with one for each point.
-// The lists that are written stay parameters: of a struct that lends them a clause would say `lists.entry.t.now` and
-// `lists.exit.t.now` where it says `t.old` and `t.new`.
+// The lists that are written stay parameters, here and below: of a struct that lends them a clause would say `lists.entry.t.now`
+// and `lists.exit.t.now` where it says `t.old` and `t.new`.
 fn shape_tangents(
     mesh: MeshLists<'_>,
     old: bool,
@@ -35,12 +38,22 @@ fn shape_tangents(
     ensures directionless { let m = mesh.entry in let H = as_halfedges m.h.now in result ≡ directionless_with H m.pos.now m.refs.now (pairs_of H m.refs.now smooth.old m.n) t.old old m.n m.p }
 {
     let first = create_initial::first_tangents(mesh, old, t, flat, at);
-    create_creases::find_creases(mesh.n, mesh.h, mesh.refs, flat, smooth, at, link);
+    create_creases::find_creases(mesh.h, mesh.refs, flat, smooth, at, link);
     fixed.fill(0);
-    let creases = create_sharpen::shape_verts(
-        mesh.n, mesh.h, mesh.pos, flat, smooth, at, link, t, fixed,
-    );
-    first + creases
+    let creases = LinkedCreases {
+        n: mesh.n,
+        h: mesh.h,
+        smooth,
+        at,
+        link,
+    };
+    let lists = ShapeLists {
+        creases,
+        pos: mesh.pos,
+        flat,
+    };
+    let shaped = create_sharpen::shape_verts(&lists, t, fixed);
+    first + shaped
 }
 
 // Straightening, then spreading by the point normals and the halfedges that are fixed, with `smooth` and `desired` as its
@@ -60,21 +73,21 @@ fn finish_tangents(
     ensures desired { desired.new ≡ replicate mesh.entry.n zero }
 {
     linearize::linearize_all(mesh.n, mesh.p, mesh.h, mesh.pos, t);
-    distribute::spread_tangents(
-        mesh.n,
-        mesh.p,
-        mesh.h,
-        mesh.pos,
-        mesh.normals,
+    let lists = SpreadLists {
+        n: mesh.n,
+        p: mesh.p,
+        h: mesh.h,
+        pos: mesh.pos,
+        normals: mesh.normals,
         fixed,
-        t,
-        smooth,
-        desired,
-    );
+    };
+    distribute::spread_tangents(&lists, t, smooth, desired);
 }
 
 // The tangents of an accepted call, where `smooth` holds the smoothness of the entries, and zeros in all scratch lists; and the
-// count.
+// count. The lists that are written are parameters, as in `shape_tangents`: a struct that lends them would make each clause say
+// `lists.exit.t.now` for `t.new`.
+#[tactic(auto, unfolding(crate::specs::Filled::filled_directionless))]
 pub fn make_tangents(
     mesh: MeshLists<'_>,
     old: bool,

@@ -12,7 +12,7 @@ use lib.Ieee.{Float}
 use borrow.Author.Tests.{eqb-true}
 use Rattle.mesh.specs.Mesh.{start_vert, paired_halfedge, is_forward, Halfedges}
 use Rattle.mesh.specs.Sound.{Sound}
-use Rattle.common.proofs.Tests.{and_true, not_both}
+use Rattle.std.proofs.lemmas.Bool.{and_parts, both_ways}
 use Rattle.mesh.proofs.Pairs.{one_forward, paired_injective, paired_other}
 use Rattle.create_edges.specs.Smoothness.{is_crease}
 use Rattle.create_creases.specs.Linked.{add_halfedge, add_crease, creases_from, creases_at}
@@ -33,7 +33,7 @@ all_tail P (e ∷ l) a = a.1
 
 pub crease_forward : (H : Halfedges) (S : List Float) (f : ℕ) → is_crease H S f ≡ true → is_forward H f ≡ true
 unfolding is_crease
-crease_forward H S f e = (and_true (is_forward H f) _ e).0
+crease_forward H S f e = (and_parts (is_forward H f) _ e).0
 
 -- ---- of each crease at the point v
 
@@ -130,7 +130,7 @@ module _ {H : Halfedges} {n p : ℕ} (s : Sound H n p) (S : List Float) (f : ℕ
     pub paired_apart : All (λ g. g ≢ paired_halfedge H f) (creases_from H S v k (f + 1))
     paired_apart =
         all_creases H S v (λ g. g ≢ paired_halfedge H f) k (f + 1)
-        (λ g a b d q z. not_both (ap (λ (e : ℕ). is_forward H e) (sym z) ∙ crease_forward H S g d) (backward f h c))
+        (λ g a b d q z. both_ways _ (backward f h c) (ap (λ (e : ℕ). is_forward H e) (sym z) ∙ crease_forward H S g d))
         (λ g a b d q z. let e : g ≡ f = paired_injective s g f (omega arith) h z in omega arith)
 
     pub forward_apart : All (λ g. g ≢ f) (add_halfedge H v (paired_halfedge H f) (creases_from H S v k (f + 1)))
@@ -138,4 +138,4 @@ module _ {H : Halfedges} {n p : ℕ} (s : Sound H n p) (S : List Float) (f : ℕ
         all_halfedge H S v (λ g. g ≢ f) (paired_halfedge H f) (creases_from H S v k (f + 1)) (λ q. paired_other s f h)
         (all_creases H S v (λ g. g ≢ f) k (f + 1)
         (λ g a b d q z. omega arith)
-        (λ g a b d q z. not_both forward (ap (λ (e : ℕ). is_forward H e) (sym z) ∙ backward g (omega arith) d)))
+        (λ g a b d q z. both_ways _ (ap (λ (e : ℕ). is_forward H e) (sym z) ∙ backward g (omega arith) d) forward))

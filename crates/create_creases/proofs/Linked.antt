@@ -13,7 +13,7 @@ use lib.Ieee.{Float}
 use borrow.Author.Tests.{eq-eqb, ne_eqb, le-leb, lt-leb}
 use Rattle.mesh.specs.Mesh.{start_vert, paired_halfedge, Halfedges}
 use Rattle.mesh.specs.Sound.{Sound}
-use Rattle.create_creases.specs.declared.Crease.TheVariants.{NoCrease, OneEnd, Meeting}
+use Rattle.create_creases.specs.declared.Crease.TheVariants.{NoCrease, OneEnd, Through, Meeting}
 use Rattle.create_edges.specs.Smoothness.{is_crease, pair_at}
 use Rattle.create_creases.specs.Creases.{through_of, sums_of, mean_of, crease_of}
 use Rattle.create_creases.specs.Linked.{add_halfedge, add_crease, creases_from, Linked, halfedge_of}
@@ -95,13 +95,13 @@ module _ (L : List ℕ) {n end : ℕ} (low : end ≤ n) where
   linked_none c [] d h = refl
   linked_none c (e ∷ l) d h = absurd (omega (arith, d.0))
 
-  pub linked_some : (c : ℕ) (l : List ℕ) → Linked n L end c l → n < c → (l ≡ (c - (n + 1)) ∷ drop 1 l) × Linked n L end (get_or L (c - (n + 1)) 0) (drop 1 l)
-  linked_some c [] d h = absurd (omega arith)
-  linked_some c (e ∷ l) d h = let q : c - (n + 1) ≡ e = omega (arith, d.0) in rw q (refl, d.1)
+  pub linked_some : (c e : ℕ) (l : List ℕ) → Linked n L end c l → c ≡ suc n + e → (l ≡ e ∷ drop 1 l) × Linked n L end (get_or L e 0) (drop 1 l)
+  linked_some c e [] d h = absurd (omega arith)
+  linked_some c e (g ∷ l) d h = let q : e ≡ g = omega (arith, d.0) in rw q (refl, d.1)
 
-  pub linked_in : (P : ℕ → Type 0) (c : ℕ) (l : List ℕ) → Linked n L end c l → All P l → n < c → P (c - (n + 1))
-  linked_in P c [] d a h = absurd (omega arith)
-  linked_in P c (e ∷ l) d a h = let q : c - (n + 1) ≡ e = omega (arith, d.0) in rw q a.0
+  pub linked_in : (P : ℕ → Type 0) (c e : ℕ) (l : List ℕ) → Linked n L end c l → All P l → c ≡ suc n + e → P e
+  linked_in P c e [] d a h = absurd (omega arith)
+  linked_in P c e (g ∷ l) d a h = let q : e ≡ g = omega (arith, d.0) in rw q a.0
 
   pub linked_first : (c : ℕ) (l : List ℕ) → Linked n L end c l → halfedge_of n c ≡ get_or l 0 end
   unfolding halfedge_of
@@ -113,31 +113,25 @@ module _ (L : List ℕ) {n end : ℕ} (low : end ≤ n) where
   unfolding crease_of
   crease_none H S c l d h = rw (linked_none c l d h)
 
-  module _ (H : Halfedges) (S : List Float) (c : ℕ) (l : List ℕ) (d : Linked n L end c l) (h : n < c) where
-    abbrev first : ℕ
-    first = c - (n + 1)
-
+  module _ (H : Halfedges) (S : List Float) (c first : ℕ) (l : List ℕ) (d : Linked n L end c l) (h : c ≡ suc n + first) where
     abbrev next : ℕ
     next = get_or L first 0
 
     pub crease_end : next ≤ n → OneEnd ≡ crease_of (map (pair_at H S) l)
     unfolding crease_of
     crease_end k =
-        let s = linked_some c l d h in
+        let s = linked_some c first l d h in
         let e : drop 1 l ≡ [] = linked_none next (drop 1 l) s.1 k in
         rw (s.0 ∙ ap (λ (t : List ℕ). first ∷ t) e)
 
-    module _ (j : n < next) where
-      abbrev second : ℕ
-      second = next - (n + 1)
-
+    module _ (second : ℕ) (j : next ≡ suc n + second) where
       two_creases : (l ≡ first ∷ second ∷ drop 1 (drop 1 l)) × Linked n L end (get_or L second 0) (drop 1 (drop 1 l))
       two_creases =
-          let s = linked_some c l d h in
-          let t = linked_some next (drop 1 l) s.1 j in
+          let s = linked_some c first l d h in
+          let t = linked_some next second (drop 1 l) s.1 j in
           (s.0 ∙ ap (λ (t : List ℕ). first ∷ t) t.0, t.1)
 
-      pub crease_through : get_or L second 0 ≤ n → through_of (pair_at H S first) (pair_at H S second) ≡ crease_of (map (pair_at H S) l)
+      pub crease_through : get_or L second 0 ≤ n → Through (through_of (pair_at H S first) (pair_at H S second)) ≡ crease_of (map (pair_at H S) l)
       unfolding crease_of
       crease_through k =
           let e : drop 1 (drop 1 l) ≡ [] = linked_none (get_or L second 0) (drop 1 (drop 1 l)) two_creases.1 k in
@@ -146,7 +140,7 @@ module _ (L : List ℕ) {n end : ℕ} (low : end ≤ n) where
       pub crease_meeting : n < get_or L second 0 → Meeting (mean_of (sums_of (map (pair_at H S) l))) ≡ crease_of (map (pair_at H S) l)
       unfolding crease_of
       crease_meeting k =
-          let s = linked_some (get_or L second 0) (drop 1 (drop 1 l)) two_creases.1 k in
+          let s = linked_some (get_or L second 0) (get_or L second 0 - suc n) (drop 1 (drop 1 l)) two_creases.1 (omega arith) in
           rw (two_creases.0 ∙ ap (λ (t : List ℕ). first ∷ second ∷ t) s.0)
 
 -- ---- a loop over a linked list: it is done when the number is at most n
@@ -181,22 +175,22 @@ module _ (L : List ℕ) {n end : ℕ} (low : end ≤ n) where
     pub walk_end : (c : ℕ) (s : B) → Walking n L end step all c s → c ≤ n → s ≡ all
     walk_end c s w h = ap (foldl step s) (sym (linked_none L low c (left_of n L n c) w.linked h)) ∙ w.left
 
-    module _ (c : ℕ) (s : B) (w : Walking n L end step all c s) (h : n < c) where
-      pub walk_below : c - (n + 1) < n
-      walk_below = linked_in L low (λ e. e < n) c (left_of n L n c) w.linked w.below h
+    module _ (c e : ℕ) (s : B) (w : Walking n L end step all c s) (h : c ≡ suc n + e) where
+      pub walk_below : e < n
+      walk_below = linked_in L low (λ g. g < n) c e (left_of n L n c) w.linked w.below h
 
-      after : (left_of n L n c ≡ (c - (n + 1)) ∷ drop 1 (left_of n L n c)) × Linked n L end (get_or L (c - (n + 1)) 0) (drop 1 (left_of n L n c))
-      after = linked_some L low c (left_of n L n c) w.linked h
+      after : (left_of n L n c ≡ e ∷ drop 1 (left_of n L n c)) × Linked n L end (get_or L e 0) (drop 1 (left_of n L n c))
+      after = linked_some L low c e (left_of n L n c) w.linked h
 
       shorter : length (left_of n L n c) ≡ suc (length (drop 1 (left_of n L n c)))
       shorter = ap length after.0
 
-      pub walk_step : (t : B) → t ≡ step s (c - (n + 1)) → Walking n L end step all (get_or L (c - (n + 1)) 0) t
-      walk_step t e =
-          walk_start (get_or L (c - (n + 1)) 0) t (drop 1 (left_of n L n c)) after.1 (omega (arith, shorter, w.few)) (all_tail (λ g. g < n) (left_of n L n c) w.below)
-          (ap (λ (x : B). foldl step x (drop 1 (left_of n L n c))) e ∙ ap (foldl step s) (sym after.0) ∙ w.left)
+      pub walk_step : (t : B) → t ≡ step s e → Walking n L end step all (get_or L e 0) t
+      walk_step t q =
+          walk_start (get_or L e 0) t (drop 1 (left_of n L n c)) after.1 (omega (arith, shorter, w.few)) (all_tail (λ g. g < n) (left_of n L n c) w.below)
+          (ap (λ (x : B). foldl step x (drop 1 (left_of n L n c))) q ∙ ap (foldl step s) (sym after.0) ∙ w.left)
 
-      pub walk_less : length (left_of n L n (get_or L (c - (n + 1)) 0)) < length (left_of n L n c)
+      pub walk_less : length (left_of n L n (get_or L e 0)) < length (left_of n L n c)
       walk_less =
-          let q = left_is n (get_or L (c - (n + 1)) 0) (drop 1 (left_of n L n c)) after.1 (omega (arith, shorter, w.few)) in
+          let q = left_is n (get_or L e 0) (drop 1 (left_of n L n c)) after.1 (omega (arith, shorter, w.few)) in
           omega (arith, ap length q, shorter)

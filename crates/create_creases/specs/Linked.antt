@@ -1,5 +1,5 @@
 -- How three scratch lists hold the Rust's map `vert_tangents`: M the smoothness of each of the n halfedges, W with a place per point, L with a place per halfedge. Only contracts inside a call name these; `vert_tangents_lem` of `proofs/Verts.antt` says that the two agree.
-use Rattle.std.specs.Prelude.{ℕ, zero, suc, ◌+◌, ◌*◌, ◌-◌, ◌<◌, ◌≡◌, List, [], ◌∷◌, map, cond, length, get_or, eqb, leb, Float}
+use Rattle.std.specs.Prelude.{ℕ, zero, suc, ◌+◌, ◌*◌, ◌-◌, ◌<◌, ◌≡◌, List, [], ◌∷◌, map, Bool, cond, ◌&&◌, length, get_or, eqb, leb, Float}
 use Rattle.mesh.specs.Mesh.{halfedge_stride, start_vert, paired_halfedge, Halfedges}
 use Rattle.mesh.specs.Sound.{Sound}
 use Rattle.create_shared.specs.Faces.{vert_halfedge}
@@ -35,6 +35,11 @@ abbrev pub Linked : ℕ → List ℕ → ℕ → ℕ → List ℕ → Type 0
 Linked n L end c [] = c ≡ end
 Linked n L end c (e ∷ l) = (c ≡ suc n + e) × Linked n L end (get_or L e 0) l
 
+-- the same as a test, whose answer a struct can keep: `linked_tests` and `linked_all` of `proofs/Lent.antt` say that it is `LinkedAll`
+abbrev pub is_linked : ℕ → List ℕ → ℕ → ℕ → List ℕ → Bool
+is_linked n L end c [] = eqb c end
+is_linked n L end c (e ∷ l) = eqb c (suc n + e) && is_linked n L end (get_or L e 0) l
+
 -- the halfedge that stands at a point: that of its first crease, and with no crease its lowest
 abbrev pub first_crease : Halfedges → List Float → ℕ → ℕ → ℕ
 first_crease H M n v = get_or (creases_at H M n v) 0 (vert_halfedge H n v)
@@ -56,8 +61,3 @@ pub record Lists (H : Halfedges) (M : List Float) (W L : List ℕ) (n : ℕ) : T
   pub whole : H.numbers ≡ n * halfedge_stride
   pub smooth : length M ≡ n
   pub links : length L ≡ n
-
--- and once the creases are linked
-pub record CreaseLists (H : Halfedges) (M : List Float) (W L : List ℕ) (n : ℕ) : Type 0 where
-  pub lists : Lists H M W L n
-  pub linked : LinkedAll H M W L n

@@ -15,7 +15,7 @@ use borrow.Author.Tests.{eq-eqb, ne_eqb, eqb-true, eqb-false, lt-ltb, ltb-false}
 use Rattle.float.specs.Ops.{one}
 use Rattle.float.specs.F64.{min_of}
 use Rattle.mesh.specs.Mesh.{paired_halfedge, is_forward, Halfedges}
-use Rattle.common.proofs.Tests.{not_both}
+use Rattle.std.proofs.lemmas.Bool.{both_ways}
 use Rattle.mesh.specs.Questions.{sign_clear}
 use Rattle.mesh.specs.Sound.{Sound}
 use Rattle.mesh.proofs.Pairs.{one_forward}
@@ -31,16 +31,16 @@ below : (a b : ℕ) → (ltb a b || (eqb a b && (beq false false || eqb a 0))) �
 below a b e = go (ltb a b) (eqb a b) refl refl e
   where
     go : (t u : Bool) → ltb a b ≡ t → eqb a b ≡ u → (t || (u && (beq false false || eqb a 0))) ≡ false → ltb b a ≡ true
-    go true u q r z = absurd (not_both refl z)
-    go false true q r z = absurd (not_both refl z)
+    go true u q r z = absurd (both_ways _ z refl)
+    go false true q r z = absurd (both_ways _ z refl)
     go false false q r z = lt-ltb b a (let l = ltb-false a b q in let d = eqb-false a b r in omega arith)
 
 below_one : (s : Float) → sign_clear s ≡ true → le one s ≡ false → lt s one ≡ true
 unfolding sign_clear le lt eq of_bits
-below_one nan c e = absurd (not_both c refl)
+below_one nan c e = absurd (both_ways _ refl c)
 below_one (inf true) c e = refl
-below_one (inf false) c e = absurd (not_both refl e)
-below_one (fin true m k) c e = absurd (not_both c refl)
+below_one (inf false) c e = absurd (both_ways _ e refl)
+below_one (fin true m k) c e = absurd (both_ways _ refl c)
 below_one (fin false m k) c e = below (1 * up (pos 0) * down k) (m * up k * down (pos 0)) e
 
 -- ---- one entry for either side
@@ -136,24 +136,24 @@ module _ {H : Halfedges} {n p : ℕ} (sound : Sound H n p) where
       -- e is forward
       own : is_forward H e ≡ true → Dec (f ≡ e) → Says f g (cond (eqb f e) (after true (M f)) (M f)) (smoothness_at S' f) (smoothness_at S' g)
       own w (yes q) =
-          let far : g ≢ e = λ z. not_both (ap (λ (k : ℕ). is_forward H k) z ∙ w) (backward f l v) in
+          let far : g ≢ e = λ z. both_ways _ (backward f l v) (ap (λ (k : ℕ). is_forward H k) z ∙ w) in
           let here : smoothness_at S' f ≡ min_of (smoothness_at S f) s = subst (λ (k : ℕ). smoothness_at S' k ≡ min_of (smoothness_at S k) s) (sym q) at in
           let same : Says f g (modify true (side_of f s) g (M f)) (smoothness_at S' f) (smoothness_at S' g) = move f g (modify true (side_of f s) g (M f)) _ _ _ _ here (apart g far) (says_own f g (M f) _ _ s below (a.says f l v)) in
           rw (eq-eqb f e q) (subst (λ (k : ℕ). Says f g (modify true (side_of k s) (paired_halfedge H k) (M f)) (smoothness_at S' f) (smoothness_at S' g)) q same)
       own w (no q) =
-          let far : g ≢ e = λ z. not_both (ap (λ (k : ℕ). is_forward H k) z ∙ w) (backward f l v) in
+          let far : g ≢ e = λ z. both_ways _ (backward f l v) (ap (λ (k : ℕ). is_forward H k) z ∙ w) in
           rw (ne_eqb f e q) (move f g (M f) _ _ _ _ (apart f q) (apart g far) (a.says f l v))
 
       -- its pair is
       other : is_forward H e ≡ false → Dec (f ≡ paired_halfedge H e) → Says f g (cond (eqb f (paired_halfedge H e)) (after false (M f)) (M f)) (smoothness_at S' f) (smoothness_at S' g)
       other w (yes q) =
-          let near : f ≢ e = λ z. not_both v (ap (λ (k : ℕ). is_forward H k) z ∙ w) in
+          let near : f ≢ e = λ z. both_ways _ (ap (λ (k : ℕ). is_forward H k) z ∙ w) v in
           let is : g ≡ e = ap (λ (k : ℕ). paired_halfedge H k) q ∙ sound.paired_back e e_in in
           let there : smoothness_at S' g ≡ min_of (smoothness_at S g) s = subst (λ (k : ℕ). smoothness_at S' k ≡ min_of (smoothness_at S k) s) (sym is) at in
           let same : Says f g (modify false (side_of g s) f (M f)) (smoothness_at S' f) (smoothness_at S' g) = move f g (modify false (side_of g s) f (M f)) _ _ _ _ (apart f near) there (says_other f g (M f) _ _ s below (a.says f l v)) in
           rw (eq-eqb f (paired_halfedge H e) q) (subst (λ (k : ℕ). Says f g (modify false (side_of e s) k (M f)) (smoothness_at S' f) (smoothness_at S' g)) q (subst (λ (k : ℕ). Says f g (modify false (side_of k s) f (M f)) (smoothness_at S' f) (smoothness_at S' g)) is same))
       other w (no q) =
-          let near : f ≢ e = λ z. not_both v (ap (λ (k : ℕ). is_forward H k) z ∙ w) in
+          let near : f ≢ e = λ z. both_ways _ (ap (λ (k : ℕ). is_forward H k) z ∙ w) v in
           let far : g ≢ e = λ z. q (sym (sound.paired_back f l) ∙ ap (λ (k : ℕ). paired_halfedge H k) z) in
           rw (ne_eqb f (paired_halfedge H e) q) (move f g (M f) _ _ _ _ (apart f near) (apart g far) (a.says f l v))
 
@@ -229,4 +229,4 @@ same_map {H} {n} sound R flat E fits f l = go (is_forward H f) refl
 
     go : (b : Bool) → is_forward H f ≡ b → M f ≡ cond (b && (lt (smoothness_at S f) one || lt (pair_smoothness H S f) one)) (present (pair_at H S f)) absent
     go true w = same_entry f (paired_halfedge H f) (M f) _ _ (a.says f l w)
-    go false w = a.keys f (λ k v. not_both v w)
+    go false w = a.keys f (λ k v. both_ways _ w v)

@@ -16,7 +16,9 @@ use create_shared::MeshLists;
 use create_smoothness::Smoothness;
 use mesh::Refusal;
 
-// The questions 1 to 10. Of the lists that are written only the lengths are asked.
+// The questions 1 to 10. Of the lists that are written only the lengths are asked. No struct of the lengths: its fields would be
+// these by the same names, and the caller would write each twice.
+#[tactic(auto, unfolding(mesh::specs::Mesh::as_halfedges))]
 fn check_lists(
     n: usize,
     p: usize,
@@ -50,12 +52,14 @@ fn check_lists(
         t,
     );
     let scratch = create::scratch_fits(n, p, fixed, flat, smooth, desired, at, link);
-    let checked = mesh::check_mesh(h, n, p, common::both(lists, scratch));
+    let checked = mesh::check_mesh(h, n, p, lists & scratch);
     create_smoothness::check_sharp(mesh::check_refs(checked, refs, n), sharp, n)
 }
 
 // Making from sharp edges, for lists of any length and content: `create::create_tangents` with the sharp entries as structs.
 // The parameters are in the order of that call: the C interface's counts, lists read, lists written, scratch.
+// It stands beside that call by document 01's form by place for the sharp entries: a lent slice of structs, read by one thin entry
+// point, after a core over two flat lists.
 pub fn create_entries(
     n: usize,
     p: usize,
@@ -102,6 +106,7 @@ pub fn create_entries(
         at.len(),
         link.len(),
     );
+    // Document 01's form by place: the check's answer is opened by `let .. else`.
     let Ok(()) = checked else {
         return mesh::refused(checked);
     };

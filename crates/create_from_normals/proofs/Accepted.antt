@@ -14,7 +14,7 @@ use Rattle.mesh.specs.Questions.{has_length}
 use Rattle.mesh.specs.Check.{check_mesh, check_rows}
 use Rattle.mesh.specs.Sound.{Sound}
 use Rattle.std.specs.Prelude.{Ok}
-use Rattle.common.proofs.Tests.{and_true}
+use Rattle.std.proofs.lemmas.Bool.{and_parts}
 use Rattle.mesh.proofs.Tests.{has_length_lem, has_one}
 use Rattle.mesh.proofs.Accepted.{accepted, rows_accepted, refs_accepted, list_numbers}
 use Rattle.normals_state.specs.State.{RowIn}
@@ -30,8 +30,8 @@ record ListsFit (h l m a g t n p : ℕ) : Type 0 where
 
 lists_fit_lem : (h l m a r g t n p : ℕ) → lists_fit h l m a r g t n p ≡ true → ListsFit h l m a g t n p
 lists_fit_lem h l m a r g t n p e =
-    let e₇ = and_true _ (has_length t n 4) e in
-    let e₆ = and_true _ (eqb (g % 3) 0) e₇.0 in
+    let e₇ = and_parts _ (has_length t n 4) e in
+    let e₆ = and_parts _ (eqb (g % 3) 0) e₇.0 in
     record {
       mesh_lists = mesh_lists_fit_lem h l m a r n p e₆.0;
       row_numbers = eqb-true _ _ e₆.1;
@@ -48,10 +48,10 @@ record ScratchFits (x q c d f n p : ℕ) : Type 0 where
 
 scratch_fits_lem : (x q c d f n p : ℕ) → scratch_fits x q c d f n p ≡ true → ScratchFits x q c d f n p
 scratch_fits_lem x q c d f n p e =
-    let e₅ = and_true _ (has_length f p 1) e in
-    let e₄ = and_true _ (has_length d n 1) e₅.0 in
-    let e₃ = and_true _ (has_length c n 1) e₄.0 in
-    let e₂ = and_true (has_length x n 1) (has_length q n 1) e₃.0 in
+    let e₅ = and_parts _ (has_length f p 1) e in
+    let e₄ = and_parts _ (has_length d n 1) e₅.0 in
+    let e₃ = and_parts _ (has_length c n 1) e₄.0 in
+    let e₂ = and_parts (has_length x n 1) (has_length q n 1) e₃.0 in
     record {
       fixed = has_one x n e₂.0;
       inside = has_one q n e₂.1;
@@ -90,7 +90,7 @@ lists_of list P N A R G T X Q C D F n p e =
     let mesh = check_mesh H n p lengths in
     let r = rows_accepted mesh n list rows (refs_accepted (check_rows mesh list rows n) n R e).0 in
     let b = accepted H n p lengths r.0 in
-    let q = and_true _ _ b.0 in
+    let q = and_parts _ _ b.0 in
     let l = lists_fit_lem _ _ _ _ _ _ _ n p q.0 in
     let s = scratch_fits_lem _ _ _ _ _ n p q.1 in
     record {

@@ -11,10 +11,12 @@ ghost use Rattle.normals_state.specs.State.{get_normal};
 ghost use Rattle.normals_core.specs.Core.{from_normals_directionless};
 ghost use Rattle.create_from_normals.specs.FromNormals.{lists_fit, scratch_fits, check_normals, check_lists, tangents_after, create_answer};
 
+use create_shared::MeshLists;
 use mesh::Refusal;
 use normals_walks::NormalLists;
 
-// Question 2 of the lists that the call reads, and of the tangents, from the length of each.
+// Question 2 of the lists that the call reads, and of the tangents, from the length of each. No struct, here or for scratch: what its
+// ghost fields would say is what is asked.
 fn lists_fit(
     n: usize,
     p: usize,
@@ -37,10 +39,7 @@ fn lists_fit(
         face_normals,
         refs,
     );
-    common::both(
-        common::both(lists, row_numbers % 3 == 0),
-        mesh::has_length(tangents, n, 4),
-    )
+    lists & (row_numbers % 3 == 0) & mesh::has_length(tangents, n, 4)
 }
 
 // Question 2 of the scratch lists.
@@ -55,18 +54,15 @@ fn scratch_fits(
 ) -> bool
     ensures { result ≡ scratch_fits (length fixed.now) (length inside.now) (length current.now) (length desired.now) (length first.now) n p }
 {
-    let flags = common::both(
-        mesh::has_length(fixed.len(), n, 1),
-        mesh::has_length(inside.len(), n, 1),
-    );
-    let angles = common::both(
-        common::both(flags, mesh::has_length(current.len(), n, 1)),
-        mesh::has_length(desired.len(), n, 1),
-    );
-    common::both(angles, mesh::has_length(first.len(), p, 1))
+    let flags = mesh::has_length(fixed.len(), n, 1) & mesh::has_length(inside.len(), n, 1);
+    let angles = flags
+        & mesh::has_length(current.len(), n, 1)
+        & mesh::has_length(desired.len(), n, 1);
+    angles & mesh::has_length(first.len(), p, 1)
 }
 
 // The questions 1 to 7, 12 and 8; `lengths` is the answer to question 2, `rows` how many rows there are.
+#[tactic(auto, unfolding(crate::specs::FromNormals::check_normals))]
 fn check_normals(
     n: usize,
     p: usize,
@@ -87,15 +83,16 @@ fn check_normals(
 // this row, 0 where it is missing. With `old` the tangents t hold the old ones. Of the scratch lists `first` has a place for
 // each point, each other one for each halfedge. The answer counts the circular tangents on an edge without direction.
 // The lists are lent flat, counts first, then those read, written and scratch: the form of the C interface and of all makings.
-pub fn create_tangents_from_normals(
+// Those read have one lifetime, as a struct that stands in another needs it; a call may lend them for different ones.
+pub fn create_tangents_from_normals<'a>(
     n: usize,
     p: usize,
-    h: &[i32],
-    pos: &[f64],
-    normals: &[f64],
-    face_normals: &[f64],
-    refs: &[i32],
-    rows: &[f64],
+    h: &'a [i32],
+    pos: &'a [f64],
+    normals: &'a [f64],
+    face_normals: &'a [f64],
+    refs: &'a [i32],
+    rows: &'a [f64],
     old: bool,
     t: &mut [f64],
     fixed: &mut [u8],
@@ -126,21 +123,22 @@ pub fn create_tangents_from_normals(
         t.len(),
     );
     let scratch = scratch_fits(n, p, fixed, inside, current, desired, first);
-    let lengths = common::both(lists, scratch);
+    let lengths = lists & scratch;
     let checked = check_normals(n, p, h, refs, rows.len() / 3, lengths);
+    // Document 01's form by place: the check's answer is opened by `let .. else`.
     let Ok(()) = checked else {
         return mesh::refused(checked);
     };
-    let read = NormalLists {
+    let mesh = MeshLists {
         n,
         p,
         h,
+        refs,
         pos,
         normals,
         face_normals,
-        refs,
-        rows,
     };
+    let read = NormalLists { mesh, rows };
     let directionless = normals_core::make_tangents(
         &read, old, t, fixed, inside, current, desired, first,
     );

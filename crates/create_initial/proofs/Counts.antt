@@ -9,7 +9,7 @@ use Rattle.mesh.specs.Mesh.{paired_halfedge, is_forward, Halfedges}
 use Rattle.mesh.specs.Sound.{Sound}
 use Rattle.mesh.proofs.Pairs.{one_forward, paired_injective}
 use Rattle.common.specs.Count.{sum, count_below}
-use Rattle.common.proofs.Tests.{and_true}
+use Rattle.std.proofs.lemmas.Bool.{and_parts}
 use Rattle.common.proofs.Sums.{sum_ext, sum_add, sum_times}
 use Rattle.common.proofs.Count.{count_within, count_inject}
 use Rattle.create_initial.specs.First.{first_directionless, firsts_directionless}
@@ -27,12 +27,12 @@ module _ {H : Halfedges} {n p : ℕ} (s : Sound H n p) (t : ℕ → Bool) (share
 
   to_behind : (e : ℕ) → e < n → ahead e ≡ true → (paired_halfedge H e < n) × (behind (paired_halfedge H e) ≡ true)
   to_behind e h q =
-      let z = and_true (is_forward H e) (t e) q in
+      let z = and_parts (is_forward H e) (t e) q in
       (s.paired_below e h, rw (one_forward s e h, shared e h, z.0, z.1))
 
   to_ahead : (e : ℕ) → e < n → behind e ≡ true → (paired_halfedge H e < n) × (ahead (paired_halfedge H e) ≡ true)
   to_ahead e h q =
-      let z = and_true (not (is_forward H e)) (t e) q in
+      let z = and_parts (not (is_forward H e)) (t e) q in
       (s.paired_below e h, rw (one_forward s e h, shared e h, z.0, z.1))
 
   -- the pair takes the ones to the others, both ways

@@ -1,5 +1,9 @@
 // The first tangent of each halfedge in `create_tangents`, and how many of them are circular tangents on an edge without direction.
+// Each function asks for its own place (`e < n`, `v * 3 + 3 ≤ length normals`): the place differs from call to call, so no struct
+// of the lists can hold it.
 #![tactic(auto)]
+
+mod face_lists;
 
 ghost use Rattle.std.specs.Prelude.{◌≡◌, true, false, cond, ◌+◌, ◌*◌, ◌≤◌, ◌<◌, length};
 ghost use Rattle.common.specs.Fold.{fold_to};
@@ -8,13 +12,16 @@ ghost use Rattle.create_shared.specs.Lent.{flat_flags};
 ghost use Rattle.smoothing.specs.Lists.{put_tangent};
 ghost use Rattle.smoothing.specs.Inner.{put_edge};
 ghost use Rattle.create_initial.specs.First.{vert_normal, inside_quad_tangent, first_tangents};
-ghost use Rattle.create_initial.specs.Lent.{FaceIn, FacesAt, FirstIn, normal_at, inside_quad, first_at, counts_first, first_made, put_first, count_firsts, edge_tangents, edge_directionless};
+ghost use Rattle.create_initial.specs.Faces.{FaceIn};
+ghost use Rattle.create_initial.specs.Lent.{normal_at, inside_quad, first_at, counts_first, first_made, put_first, count_firsts, edge_tangents, edge_directionless};
 
 use create_shared::{FlatFace, MeshLists};
+use face_lists::FaceLists;
 use linalg::{Vec3, Vec4};
 use smoothing::{CircularTangent, TwoTangents};
 
 // The normal of point v, or that of the one flat face at it.
+#[tactic(auto, unfolding(crate::specs::First::vert_normal))]
 fn vert_normal(normals: &[f64], face_normals: &[f64], v: usize, face: FlatFace) -> Vec3
     requires { (v * 3 + 3 ≤ length normals.now) × FaceIn (length face_normals.now) face }
     ensures { result ≡ vert_normal normals.now face_normals.now v face }
@@ -26,17 +33,18 @@ fn vert_normal(normals: &[f64], face_normals: &[f64], v: usize, face: FlatFace) 
     }
 }
 
-// The normal of the start point of halfedge e, where `at` is the result of `vert_flat_face`.
-fn normal_at(mesh: MeshLists<'_>, at: &[usize], e: usize) -> Vec3
-    requires { (e < mesh.n) × FacesAt mesh at.now }
-    ensures { result ≡ normal_at mesh.entry at.now e }
+// The normal of the start point of halfedge e.
+fn normal_at(lists: &FaceLists<'_>, e: usize) -> Vec3
+    requires { e < lists.now.mesh.n }
+    ensures { result ≡ normal_at lists.now e }
 {
+    let mesh = &lists.mesh;
     let v = mesh::start_vert(mesh.h, e);
     vert_normal(
         mesh.normals,
         mesh.face_normals,
         v,
-        create_shared::flat_face(at, v),
+        create_shared::flat_face(lists.at, v),
     )
 }
 
@@ -56,40 +64,48 @@ fn inside_quad_tangent() -> Vec4
 
 // The first tangent of halfedge e, and whether it is a circular tangent on an edge without direction. `t` still holds its old
 // weight.
-fn first_tangent(mesh: MeshLists<'_>, at: &[usize], t: &[f64], e: usize) -> CircularTangent
-    requires { (e < mesh.n) × FirstIn mesh at.now t.now }
-    ensures { result ≡ first_made mesh.entry at.now t.now true e }
+// That `t` has a tangent for each halfedge stays a clause, here and below, and is no struct's: the list is written between the
+// calls.
+#[tactic(auto, unfolding(crate::specs::First::first_tangent, crate::specs::First::first_directionless), using(crate::proofs::First::quad_in))]
+fn first_tangent(lists: &FaceLists<'_>, t: &[f64], e: usize) -> CircularTangent
+    requires { (e < lists.now.mesh.n) × (length t.now ≡ lists.now.mesh.n * 4) }
+    ensures { result ≡ first_made lists.now t.now true e }
 {
+    let mesh = &lists.mesh;
     if smoothing::is_inside_quad(mesh.h, mesh.refs, t, true, e) {
         return CircularTangent {
             tangent: inside_quad_tangent(),
             directionless: false,
         };
     }
-    let normal = normal_at(mesh, at, e);
+    let normal = normal_at(lists, e);
     smoothing::tangent_from_normal(mesh.h, mesh.pos, mesh.face_normals, normal, e)
 }
 
 // Writes it, in the list that the old weights are read from, and says what it counts. That is safe: of the old weights only e's own
 // is read, before it is written here, and no other turn of the loop writes it.
-fn put_first_tangent(mesh: MeshLists<'_>, at: &[usize], t: &mut [f64], e: usize) -> usize
-    requires { (e < mesh.n) × FirstIn mesh at.now t.old }
-    ensures tangents { t.new ≡ put_first mesh.entry at.now t.old true t.old e }
-    ensures directionless { result ≡ cond (counts_first mesh.entry t.old true e) 1 0 }
+#[tactic(auto, unfolding(crate::specs::First::put_first_tangent), using(smoothing::proofs::Directions::tangent_of))]
+fn put_first_tangent(lists: &FaceLists<'_>, t: &mut [f64], e: usize) -> usize
+    requires { (e < lists.now.mesh.n) × (length t.old ≡ lists.now.mesh.n * 4) }
+    ensures tangents { t.new ≡ put_first lists.now t.old true t.old e }
+    ensures directionless { result ≡ cond (counts_first lists.now.mesh t.old true e) 1 0 }
 {
-    let first = first_tangent(mesh, at, t, e);
+    let first = first_tangent(lists, t, e);
     smoothing::put_tangent(t, e, first.tangent);
-    common::one_if(first.directionless)
+    usize::from(first.directionless)
 }
 
-fn put_each(mesh: MeshLists<'_>, at: &[usize], t: &mut [f64]) -> usize
-    requires { FirstIn mesh at.now t.old }
-    ensures tangents { t.new ≡ fold_to (put_first mesh.entry at.now t.old true) t.old mesh.entry.n }
-    ensures directionless { result ≡ count_firsts mesh.entry t.old true }
+// Each by itself. A loop of its own, and not one that is lent `put_first_tangent` or `put_edge`: the two keep other invariants,
+// this one that of the halfedges below e.
+#[tactic(auto, unfolding(common::specs::Count::count_below, common::specs::Count::sum), using(common::proofs::Fold::fold_none))]
+fn put_each(lists: &FaceLists<'_>, t: &mut [f64]) -> usize
+    requires { length t.old ≡ lists.now.mesh.n * 4 }
+    ensures tangents { t.new ≡ fold_to (put_first lists.now t.old true) t.old lists.now.mesh.n }
+    ensures directionless { result ≡ count_firsts lists.now.mesh t.old true }
 {
     let mut directionless = 0;
-    for e in 0..mesh.n {
-        directionless += put_first_tangent(mesh, at, t, e);
+    for e in 0..lists.mesh.n {
+        directionless += put_first_tangent(lists, t, e);
     }
     directionless
 }
@@ -97,10 +113,12 @@ fn put_each(mesh: MeshLists<'_>, at: &[usize], t: &mut [f64]) -> usize
 // ---- without: edge by edge
 
 // The first tangents of halfedge e and of its pair: both are inside a quad or neither is, and they share the length of the edge.
-fn edge_tangents(mesh: MeshLists<'_>, at: &[usize], t: &[f64], e: usize) -> TwoTangents
-    requires { (e < mesh.n) × FirstIn mesh at.now t.now }
-    ensures { result ≡ edge_tangents mesh.entry at.now t.now e }
+#[tactic(auto, using(crate::proofs::First::edge_inside, crate::proofs::First::edge_outside, crate::proofs::First::quad_in))]
+fn edge_tangents(lists: &FaceLists<'_>, t: &[f64], e: usize) -> TwoTangents
+    requires { (e < lists.now.mesh.n) × (length t.now ≡ lists.now.mesh.n * 4) }
+    ensures { result ≡ edge_tangents lists.now t.now e }
 {
+    let mesh = &lists.mesh;
     if smoothing::is_inside_quad(mesh.h, mesh.refs, t, false, e) {
         let mark = inside_quad_tangent();
         return TwoTangents {
@@ -109,22 +127,24 @@ fn edge_tangents(mesh: MeshLists<'_>, at: &[usize], t: &[f64], e: usize) -> TwoT
             directionless: false,
         };
     }
-    let a = normal_at(mesh, at, e);
-    let b = normal_at(mesh, at, mesh::paired_halfedge(mesh.h, e));
+    let a = normal_at(lists, e);
+    let b = normal_at(lists, mesh::paired_halfedge(mesh.h, e));
     smoothing::tangents_from_normals(mesh.h, mesh.pos, mesh.face_normals, a, b, e)
 }
 
 // Writes both, at the forward one of the two, and says what they count.
-fn put_edge(mesh: MeshLists<'_>, at: &[usize], t: &mut [f64], e: usize) -> usize
-    requires { (e < mesh.n) × FirstIn mesh at.now t.old }
-    ensures tangents { t.new ≡ put_edge put_tangent (as_halfedges mesh.entry.h.now) (first_at mesh.entry at.now t.old false) t.old e }
-    ensures directionless { result ≡ edge_directionless mesh.entry t.old e }
+#[tactic(auto, unfolding(smoothing::specs::Inner::put_edge, crate::specs::Lent::edge_directionless), using(crate::proofs::First::edge_put, crate::proofs::First::edge_adds))]
+fn put_edge(lists: &FaceLists<'_>, t: &mut [f64], e: usize) -> usize
+    requires { (e < lists.now.mesh.n) × (length t.old ≡ lists.now.mesh.n * 4) }
+    ensures tangents { t.new ≡ put_edge put_tangent (as_halfedges lists.now.mesh.h.now) (first_at lists.now t.old false) t.old e }
+    ensures directionless { result ≡ edge_directionless lists.now.mesh t.old e }
 {
-    if !mesh::is_forward(mesh.h, e) {
+    let h = lists.mesh.h;
+    if !mesh::is_forward(h, e) {
         return 0;
     }
-    let tangents = edge_tangents(mesh, at, t, e);
-    let pair = mesh::paired_halfedge(mesh.h, e);
+    let tangents = edge_tangents(lists, t, e);
+    let pair = mesh::paired_halfedge(h, e);
     smoothing::put_tangent(t, e, tangents.here);
     smoothing::put_tangent(t, pair, tangents.there);
     if tangents.directionless { 2 } else { 0 }
@@ -132,30 +152,32 @@ fn put_edge(mesh: MeshLists<'_>, at: &[usize], t: &mut [f64], e: usize) -> usize
 
 // A loop of its own, and not a test of `old` in that of `put_each`: each keeps another invariant, this one that of both halfedges
 // of an edge.
-fn put_edges(mesh: MeshLists<'_>, at: &[usize], t: &mut [f64]) -> usize
-    requires { FirstIn mesh at.now t.old }
-    ensures tangents { t.new ≡ fold_to (put_first mesh.entry at.now t.old false) t.old mesh.entry.n }
-    ensures directionless { result ≡ count_firsts mesh.entry t.old false }
+#[tactic(auto, unfolding(common::specs::Count::sum), using(crate::proofs::First::edge_turn, crate::proofs::First::edge_counts, crate::proofs::First::edges_are, common::proofs::Fold::fold_none))]
+fn put_edges(lists: &FaceLists<'_>, t: &mut [f64]) -> usize
+    requires { length t.old ≡ lists.now.mesh.n * 4 }
+    ensures tangents { t.new ≡ fold_to (put_first lists.now t.old false) t.old lists.now.mesh.n }
+    ensures directionless { result ≡ count_firsts lists.now.mesh t.old false }
 {
     let mut directionless = 0;
-    for e in 0..mesh.n {
-        directionless += put_edge(mesh, at, t, e);
+    for e in 0..lists.mesh.n {
+        directionless += put_edge(lists, t, e);
     }
     directionless
 }
 
 // ---- all of them
 
-// The first tangents, where `at` is the result of `vert_flat_face`, and what they count.
-fn put_first_tangents(mesh: MeshLists<'_>, at: &[usize], old: bool, t: &mut [f64]) -> usize
-    requires { FirstIn mesh at.now t.old }
-    ensures tangents { t.new ≡ fold_to (put_first mesh.entry at.now t.old old) t.old mesh.entry.n }
-    ensures directionless { result ≡ count_firsts mesh.entry t.old old }
+// The first tangents, and what they count. `old` chooses the loop here, and no closure of its step does: `put_each` and `put_edges`
+// keep other invariants.
+fn put_first_tangents(lists: &FaceLists<'_>, old: bool, t: &mut [f64]) -> usize
+    requires { length t.old ≡ lists.now.mesh.n * 4 }
+    ensures tangents { t.new ≡ fold_to (put_first lists.now t.old old) t.old lists.now.mesh.n }
+    ensures directionless { result ≡ count_firsts lists.now.mesh t.old old }
 {
     if old {
-        return put_each(mesh, at, t);
+        return put_each(lists, t);
     }
-    put_edges(mesh, at, t)
+    put_edges(lists, t)
 }
 
 // Which triangles lie in flat faces, and the first tangents, whatever `flat` and `at` held; and how many of these are circular
@@ -174,5 +196,6 @@ pub fn first_tangents(
 {
     create_shared::flat_faces(mesh.h, mesh.refs, flat);
     create_shared::vert_flat_face(mesh.h, mesh.refs, flat, at);
-    put_first_tangents(mesh, at, old, t)
+    let lists = FaceLists { mesh, at };
+    put_first_tangents(&lists, old, t)
 }

@@ -5,7 +5,7 @@ use mathlib.Core.Path.{◌≡◌}
 use mathlib.Core.Bool.{true}
 use Rattle.mesh.specs.Mesh.{halfedge_stride, ref_stride}
 use Rattle.mesh.specs.Questions.{has_length}
-use Rattle.common.proofs.Tests.{and_true}
+use Rattle.std.proofs.lemmas.Bool.{and_parts}
 use Rattle.mesh.proofs.Tests.{has_length_lem}
 use Rattle.create_shared.specs.Lengths.{mesh_lists_fit}
 
@@ -21,10 +21,10 @@ three_each a n e d = omega arith
 
 pub mesh_lists_fit_lem : (h l m a r n p : ℕ) → mesh_lists_fit h l m a r n p ≡ true → MeshListsFit h l m a n p
 mesh_lists_fit_lem h l m a r n p e =
-    let e₅ = and_true _ (has_length r (n / 3) ref_stride) e in
-    let e₄ = and_true _ (has_length a (n / 3) 3) e₅.0 in
-    let e₃ = and_true _ (has_length m p 3) e₄.0 in
-    let e₂ = and_true (has_length h n halfedge_stride) (has_length l p 3) e₃.0 in
+    let e₅ = and_parts _ (has_length r (n / 3) ref_stride) e in
+    let e₄ = and_parts _ (has_length a (n / 3) 3) e₅.0 in
+    let e₃ = and_parts _ (has_length m p 3) e₄.0 in
+    let e₂ = and_parts (has_length h n halfedge_stride) (has_length l p 3) e₃.0 in
     record {
       halfedges = has_length_lem h n halfedge_stride e₂.0;
       positions = has_length_lem l p 3 e₂.1;

@@ -1,6 +1,7 @@
 // What both makings share: which triangles lie in flat faces (`flat_faces`), the flat faces at each point (`vert_flat_face`), the
 // lowest halfedge of each point (`vert_halfedge`), question 2 of the lists that both read, two halfedges of a point along one
-// line, and the answer.
+// line, and the answer. Each function asks for its own place (`Inside e`, `e * 4 + 4 ≤ length t`): it differs from call to call, so no
+// struct of the lists can hold it.
 #![tactic(auto)]
 
 ghost use Rattle.std.specs.Prelude.{◌≡◌, ℕ, ◌+◌, ◌*◌, ◌≤◌, ◌<◌, ◌^◌, length, get_or, replicate};
@@ -28,7 +29,18 @@ pub enum FlatFace {
     MoreFaces(usize),
 }
 
+// What a part of a making gives, and how many circular tangents it computed on an edge without direction.
+#[derive(Clone, Copy)]
+pub struct Counted<T> {
+    pub value: T,
+    pub directionless: usize,
+}
+
 // ---- flat faces
+
+// The lists h and refs stay two parameters: of a struct of the two a clause would say `faces.now.h.now` for `h.now`.
+// `FlatIn` and `VertsIn` stay clauses: they speak of the length of the list that is written, which no struct of lists that are read
+// can hold.
 
 // The triangle across edge j of triangle t.
 fn neighbor_tri(h: &[i32], t: usize, j: usize) -> usize
@@ -51,9 +63,9 @@ fn face_neighbors(h: &[i32], refs: &[i32], t: usize) -> usize
     requires { (j : ℕ) → j < 3 → Inside (as_halfedges h.now) (t * 3 + j) }
     ensures { result ≡ face_neighbors (as_halfedges h.now) refs.now t }
 {
-    let a = common::one_if(is_face_neighbor(h, refs, t, 0));
-    let b = common::one_if(is_face_neighbor(h, refs, t, 1));
-    let c = common::one_if(is_face_neighbor(h, refs, t, 2));
+    let a = usize::from(is_face_neighbor(h, refs, t, 0));
+    let b = usize::from(is_face_neighbor(h, refs, t, 1));
+    let c = usize::from(is_face_neighbor(h, refs, t, 2));
     a + b + c
 }
 
@@ -123,6 +135,7 @@ fn vert_face_at(h: &[i32], refs: &[i32], flat: &[u8], at: &mut [usize], e: usize
 }
 
 // The flat faces at each point, from the result of `flat_faces`.
+#[tactic(auto, unfolding(crate::specs::Faces::vert_flat_face))]
 pub fn vert_flat_face(h: &[i32], refs: &[i32], flat: &[u8], at: &mut [usize])
     requires { VertsIn (as_halfedges h.now) (length flat.now) (length at.old) }
     ensures { (v : ℕ) → v < length at.old → face_of (get_or at.new v 0) ≡ vert_flat_face (as_halfedges h.now) refs.now (is_flat flat.now) (length flat.now) v }
@@ -149,7 +162,7 @@ pub fn flat_face(at: &[usize], v: usize) -> FlatFace
     FlatFace::MoreFaces(t)
 }
 
-// The lowest halfedge that starts at each point, n where there is none.
+// The lowest halfedge that starts at each point, n where there is none: the list is lent, for C too, and has no room for an Option.
 pub fn vert_halfedge(h: &[i32], at: &mut [usize], n: usize)
     requires { VertsIn (as_halfedges h.now) n (length at.old) }
     ensures { (v : ℕ) → v < length at.old → get_or at.new v 0 ≡ vert_halfedge (as_halfedges h.now) n v }
@@ -173,17 +186,12 @@ pub fn mesh_lists_fit(
 ) -> bool
     ensures { result ≡ mesh_lists_fit halfedges positions normals face_normals refs n p }
 {
-    let points = common::both(
-        common::both(
-            mesh::has_length(halfedges, n, mesh::HALFEDGE_STRIDE),
-            mesh::has_length(positions, p, 3),
-        ),
-        mesh::has_length(normals, p, 3),
-    );
-    common::both(
-        common::both(points, mesh::has_length(face_normals, n / 3, 3)),
-        mesh::has_length(refs, n / 3, mesh::REF_STRIDE),
-    )
+    let points = mesh::has_length(halfedges, n, mesh::HALFEDGE_STRIDE)
+        & mesh::has_length(positions, p, 3)
+        & mesh::has_length(normals, p, 3);
+    points
+        & mesh::has_length(face_normals, n / 3, 3)
+        & mesh::has_length(refs, n / 3, mesh::REF_STRIDE)
 }
 
 // ---- two halfedges of a point along one line
@@ -197,13 +205,13 @@ fn put_circular_tangent(h: &[i32], pos: &[f64], t: &mut [f64], e: usize, dir: Ve
 {
     let made = smoothing::circular_tangent(dir, smoothing::edge_vec(h, pos, e));
     smoothing::put_tangent(t, e, made.tangent);
-    common::one_if(made.directionless)
+    usize::from(made.directionless)
 }
 
 // Two halfedges of a point along one line, the first in the direction `dir`, and fixed: how many of the two have an edge without
 // direction.
+#[tactic(auto, unfolding(crate::specs::Makings::align_tangents, crate::specs::Makings::aligned_directionless))]
 pub fn align_tangents(
-    n: usize,
     h: &[i32],
     pos: &[f64],
     t: &mut [f64],
@@ -212,12 +220,12 @@ pub fn align_tangents(
     second: usize,
     dir: Vec3,
 ) -> usize
-    requires { (first < n) × (second < n) × MakingIn (as_halfedges h.now) pos.now t.old fixed.old n }
+    requires { (first < length fixed.old) × (second < length fixed.old) × MakingIn (as_halfedges h.now) pos.now t.old fixed.old (length fixed.old) }
     ensures tangents { tangents_of t.new fixed.new ≡ align_tangents (as_halfedges h.now) pos.now (tangents_of t.old fixed.old) first second dir }
     ensures directionless { result ≡ aligned_directionless (as_halfedges h.now) pos.now first second }
 {
     let one = put_circular_tangent(h, pos, t, first, dir);
-    let other = put_circular_tangent(h, pos, t, second, linalg::neg(dir));
+    let other = put_circular_tangent(h, pos, t, second, -dir);
     fixed[first] = 1;
     fixed[second] = 1;
     one + other

@@ -5,7 +5,7 @@ ghost use Rattle.mesh.specs.Mesh.{halfedge_stride, as_halfedges};
 ghost use Rattle.mesh.specs.Sound.{Sound};
 
 // A sound mesh of n halfedges and p points, with a position and a normal for each point, and three numbers of face normals for each
-// triangle.
+// triangle. The counts stand beside the lists, as they are handed in and checked against them: p is the length of no list.
 #[derive(Clone, Copy)]
 pub struct MeshLists<'a> {
     pub n: usize,

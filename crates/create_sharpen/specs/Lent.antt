@@ -1,27 +1,40 @@
--- What the lists must be for a call inside `create_tangents`; `proofs/Lent.antt` gives it on an accepted mesh. Only contracts inside a call name these.
-use Rattle.std.specs.Prelude.{ℕ, ◌*◌, ◌<◌, ◌≡◌, List, length, Float}
-use Rattle.mesh.specs.Mesh.{Halfedges}
+-- What a case asks, and what the definitions say at the lists of a call, `ShapeLists`. Only contracts of functions inside the making cite these.
+use Rattle.std.specs.Prelude.{ℕ, ◌<◌, length}
+use Rattle.mesh.specs.Mesh.{Halfedges, as_halfedges}
+use Rattle.create_shared.specs.Faces.{is_flat}
+use Rattle.create_shared.specs.Makings.{Tangents}
 use Rattle.create_creases.specs.declared.Crease.{Crease}
 use Rattle.create_creases.specs.declared.Crease.TheVariants.{NoCrease, OneEnd, Through, Meeting}
-use Rattle.create_creases.specs.Linked.{CreaseLists}
-use Rattle.create_shared.specs.Makings.{TangentsIn}
-
--- a sound mesh, a tangent for each of its n halfedges, and the flags of the triangles, in a list with a place for each halfedge
-pub record MeetingIn (H : Halfedges) (F : List ℕ) (T : List Float) (n : ℕ) : Type 0 where
-  pub tangents : TangentsIn H T n
-  pub flat : length F ≡ n
+use Rattle.create_creases.specs.Lists.{pairs_by}
+use Rattle.create_sharpen.specs.declared.shape_lists.ShapeLists.{ShapeLists}
+use Rattle.create_sharpen.specs.Shapes.{shape_crease, shape_vert, shape_verts, vert_directionless, creases_directionless}
 
 -- the halfedges that a case names are halfedges
 abbrev pub CreaseIn : ℕ → ℕ → Crease → Type 0
 CreaseIn n first NoCrease = Unit {0}
 CreaseIn n first OneEnd = Unit {0}
-CreaseIn n first (Through a b between beyond) = (a < n) × (b < n)
+CreaseIn n first (Through c) = (c.first < n) × (c.second < n)
 CreaseIn n first (Meeting mean) = first < n
 
--- and the creases of each point are linked
-pub record VertIn (H : Halfedges) (P : List Float) (F : List ℕ) (M : List Float) (W L : List ℕ) (T : List Float) (X : List ℕ) (n : ℕ) : Type 0 where
-  pub creases : CreaseLists H M W L n
-  pub positions : length P ≡ length W * 3
-  pub flat : length F ≡ n
-  pub tangents : length T ≡ n * 4
-  pub fixed : length X ≡ n
+abbrev pub mesh_of : ShapeLists → Halfedges
+mesh_of l = as_halfedges l.creases.h.now
+
+-- ---- a point, and all points
+
+-- where `first` is both the point's lowest halfedge and that of its first pair: a case that reads one of them has it
+abbrev pub shape_crease_by : ShapeLists → ℕ → Tangents → Crease → Tangents
+shape_crease_by l first m k = shape_crease (mesh_of l) l.pos.now (is_flat l.flat.now) l.creases.n first first m k
+
+abbrev pub shape_vert_by : ShapeLists → Tangents → ℕ → Tangents
+shape_vert_by l m v = shape_vert (mesh_of l) l.pos.now (is_flat l.flat.now) l.creases.n (pairs_by l.creases) m v
+
+abbrev pub shape_verts_by : ShapeLists → Tangents → Tangents
+shape_verts_by l m = shape_verts (mesh_of l) l.pos.now (is_flat l.flat.now) l.creases.n (pairs_by l.creases) (length l.creases.at.now) m
+
+-- ---- what they count
+
+abbrev pub vert_count : ShapeLists → ℕ → ℕ
+vert_count l v = vert_directionless (mesh_of l) l.pos.now (pairs_by l.creases) v
+
+abbrev pub verts_count : ShapeLists → ℕ
+verts_count l = creases_directionless (mesh_of l) l.pos.now (pairs_by l.creases) (length l.creases.at.now)

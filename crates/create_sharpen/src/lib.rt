@@ -1,19 +1,21 @@
 // The creases in `create_tangents`: what those of each point do to the tangents and the fixed flags, and how many circular tangents
 // they have on an edge without direction.
+// Each function asks for its own place (`current < n`, `e * 4 + 4 ≤ length t`, `v < length at`): the place differs from call to
+// call, so no struct of the lists can hold it.
 #![tactic(auto)]
 
-ghost use Rattle.std.specs.Prelude.{◌≡◌, ◌+◌, ◌*◌, ◌≤◌, ◌<◌, length};
-ghost use Rattle.mesh.specs.Mesh.{as_halfedges};
-ghost use Rattle.create_shared.specs.Faces.{is_flat};
-ghost use Rattle.create_shared.specs.Lent.{FlatIn};
-ghost use Rattle.create_creases.specs.Linked.{pairs_at};
-ghost use Rattle.create_shared.specs.Makings.{TangentsIn, MakingIn, tangents_of, aligned_directionless};
-ghost use Rattle.create_sharpen.specs.Sharpen.{sharpened, sharpen_tangent, new_tangent, sides_of, sharpen_side, sharpen_sides, meeting_smoothness, sharpen_meeting_at, sharpen_meeting};
-ghost use Rattle.create_sharpen.specs.Shapes.{fix_halfedge, shape_through, shape_crease, shape_vert, shape_verts, crease_directionless, vert_directionless, creases_directionless};
-ghost use Rattle.create_sharpen.specs.Lent.{MeetingIn, CreaseIn, VertIn};
+mod shape_lists;
 
-use create_creases::Crease;
+ghost use Rattle.std.specs.Prelude.{◌≡◌, ◌+◌, ◌*◌, ◌≤◌, ◌<◌, length};
+ghost use Rattle.create_shared.specs.Faces.{is_flat};
+ghost use Rattle.create_shared.specs.Makings.{tangents_of, aligned_directionless};
+ghost use Rattle.create_sharpen.specs.Sharpen.{sharpened, sharpen_tangent, new_tangent, sides_of, sharpen_side, sharpen_sides, meeting_smoothness, sharpen_meeting_at, sharpen_meeting};
+ghost use Rattle.create_sharpen.specs.Shapes.{fix_halfedge, shape_through, crease_directionless};
+ghost use Rattle.create_sharpen.specs.Lent.{CreaseIn, mesh_of, shape_crease_by, shape_vert_by, shape_verts_by, vert_count, verts_count};
+
+use create_creases::{Crease, CreaseThrough};
 use linalg::{Vec3, Vec4};
+pub use shape_lists::ShapeLists;
 
 // ---- a vertex cycle
 
@@ -48,27 +50,20 @@ fn new_tangent(t: &[f64], first: usize, second: usize) -> Vec3
 {
     let a = smoothing::vec3_from_vec4(smoothing::tangent_at(t, first));
     let b = smoothing::vec3_from_vec4(smoothing::tangent_at(t, second));
-    linalg::normalize(linalg::sub(a, b))
+    linalg::normalize(a - b)
 }
 
 // One halfedge beside a crease through a point: the smoothness of the side that the walk is on, after it.
 #[tactic(auto, unfolding(crate::specs::Sharpen::sharpen_side))]
-fn sharpen_side(
-    t: &mut [f64],
-    first: usize,
-    second: usize,
-    beyond: f64,
-    s: f64,
-    current: usize,
-) -> f64
+fn sharpen_side(t: &mut [f64], through: &CreaseThrough, s: f64, current: usize) -> f64
     requires { current * 4 + 4 ≤ length t.old }
-    ensures { sides_of t.new result ≡ sharpen_side first second beyond (sides_of t.old s) current }
+    ensures { let c = through.now in sides_of t.new result ≡ sharpen_side c.first c.second c.beyond (sides_of t.old s) current }
 {
-    if current == second {
-        return beyond;
+    if current == through.second {
+        return through.beyond;
     }
     let marked = smoothing::is_marked_inside_quad(t, current);
-    if common::either(current == first, marked) {
+    if (current == through.first) | marked {
         return s;
     }
     sharpen_tangent(t, current, s);
@@ -77,63 +72,59 @@ fn sharpen_side(
 
 // The smoothness of a halfedge at a meeting: 0 beside a flat face, else the mean.
 #[tactic(auto, unfolding(crate::specs::Sharpen::meeting_smoothness))]
-fn meeting_smoothness(h: &[i32], flat: &[u8], mean: f64, current: usize) -> f64
-    requires { (current < length flat.now) × FlatIn (as_halfedges h.now) (length flat.now) }
-    ensures { result ≡ meeting_smoothness (as_halfedges h.now) (is_flat flat.now) mean current }
+fn meeting_smoothness(lists: &ShapeLists<'_>, mean: f64, current: usize) -> f64
+    requires { current < lists.now.creases.n }
+    ensures { result ≡ meeting_smoothness (mesh_of lists.now) (is_flat lists.now.flat.now) mean current }
 {
     let a = current / 3;
-    let b = mesh::paired_halfedge(h, current) / 3;
-    if common::either(flat[a] == 1, flat[b] == 1) {
+    let b = mesh::paired_halfedge(lists.creases.h, current) / 3;
+    if (lists.flat[a] == 1) | (lists.flat[b] == 1) {
         return 0.0;
     }
     mean
 }
 
-// One halfedge of a meeting.
+// One halfedge of a meeting. The length of `t`, and of `fixed` below, stays a clause and is no struct's: it speaks of a list that
+// is written.
 #[tactic(auto, unfolding(crate::specs::Sharpen::sharpen_meeting_at))]
-fn sharpen_meeting_at(h: &[i32], flat: &[u8], t: &mut [f64], mean: f64, current: usize)
-    requires { (current * 4 + 4 ≤ length t.old) × (current < length flat.now) × FlatIn (as_halfedges h.now) (length flat.now) }
-    ensures { t.new ≡ sharpen_meeting_at (as_halfedges h.now) (is_flat flat.now) mean t.old current }
+fn sharpen_meeting_at(lists: &ShapeLists<'_>, t: &mut [f64], mean: f64, current: usize)
+    requires { (current < lists.now.creases.n) × (length t.old ≡ lists.now.creases.n * 4) }
+    ensures { t.new ≡ sharpen_meeting_at (mesh_of lists.now) (is_flat lists.now.flat.now) mean t.old current }
 {
     if smoothing::is_marked_inside_quad(t, current) {
         return;
     }
-    let s = meeting_smoothness(h, flat, mean, current);
+    let s = meeting_smoothness(lists, mean, current);
     sharpen_tangent(t, current, s);
 }
 
-// The vertex cycle of a crease through a point, from `first` on.
-fn sharpen_sides(
-    n: usize,
-    h: &[i32],
-    t: &mut [f64],
-    first: usize,
-    second: usize,
-    between: f64,
-    beyond: f64,
-)
-    requires { (first < n) × TangentsIn (as_halfedges h.now) t.old n }
-    ensures { t.new ≡ sharpen_sides (as_halfedges h.now) n t.old first second between beyond }
+// The vertex cycle of a crease through a point, from its first halfedge on. A loop and no iterator, here and below: document 01
+// names this form.
+fn sharpen_sides(lists: &ShapeLists<'_>, t: &mut [f64], through: &CreaseThrough)
+    requires { (through.now.first < lists.now.creases.n) × (length t.old ≡ lists.now.creases.n * 4) }
+    ensures { let c = through.now in t.new ≡ sharpen_sides (mesh_of lists.now) lists.now.creases.n t.old c.first c.second c.between c.beyond }
 {
-    let mut s = between;
-    let mut current = first;
+    let h = lists.creases.h;
+    let mut s = through.between;
+    let mut current = through.first;
     loop {
-        s = sharpen_side(t, first, second, beyond, s, current);
+        s = sharpen_side(t, through, s, current);
         current = cycles::next_around(h, current);
-        if current == first {
+        if current == through.first {
             break;
         }
     }
 }
 
 // The vertex cycle of a meeting, from the halfedge of its first crease on.
-fn sharpen_meeting(n: usize, h: &[i32], flat: &[u8], t: &mut [f64], first: usize, mean: f64)
-    requires { (first < n) × MeetingIn (as_halfedges h.now) flat.now t.old n }
-    ensures { t.new ≡ sharpen_meeting (as_halfedges h.now) (is_flat flat.now) n t.old first mean }
+fn sharpen_meeting(lists: &ShapeLists<'_>, t: &mut [f64], first: usize, mean: f64)
+    requires { (first < lists.now.creases.n) × (length t.old ≡ lists.now.creases.n * 4) }
+    ensures { t.new ≡ sharpen_meeting (mesh_of lists.now) (is_flat lists.now.flat.now) lists.now.creases.n t.old first mean }
 {
+    let h = lists.creases.h;
     let mut current = first;
     loop {
-        sharpen_meeting_at(h, flat, t, mean, current);
+        sharpen_meeting_at(lists, t, mean, current);
         current = cycles::next_around(h, current);
         if current == first {
             break;
@@ -143,117 +134,89 @@ fn sharpen_meeting(n: usize, h: &[i32], flat: &[u8], t: &mut [f64], first: usize
 
 // ---- a point
 
-// A crease through a point: how many of its two edges have no direction.
+// A crease through a point: how many of its two edges have no direction. The two lists that are written stay parameters, here and
+// below: of a struct that lends them a clause would say `making.new.t.now` for `t.new`, and that `t.ghost_name` stays besides.
 #[tactic(auto, unfolding(crate::specs::Shapes::shape_through))]
 fn shape_through(
-    n: usize,
-    h: &[i32],
-    pos: &[f64],
+    lists: &ShapeLists<'_>,
     t: &mut [f64],
     fixed: &mut [u8],
-    first: usize,
-    second: usize,
-    between: f64,
-    beyond: f64,
+    through: &CreaseThrough,
 ) -> usize
-    requires { (first < n) × (second < n) × MakingIn (as_halfedges h.now) pos.now t.old fixed.old n }
-    ensures tangents { tangents_of t.new fixed.new ≡ shape_through (as_halfedges h.now) pos.now n (tangents_of t.old fixed.old) first second between beyond }
-    ensures directionless { result ≡ aligned_directionless (as_halfedges h.now) pos.now first second }
+    requires { (through.now.first < lists.now.creases.n) × (through.now.second < lists.now.creases.n) × (length t.old ≡ lists.now.creases.n * 4) × (length fixed.old ≡ lists.now.creases.n) }
+    ensures tangents { let c = through.now in tangents_of t.new fixed.new ≡ shape_through (mesh_of lists.now) lists.now.pos.now lists.now.creases.n (tangents_of t.old fixed.old) c.first c.second c.between c.beyond }
+    ensures directionless { result ≡ aligned_directionless (mesh_of lists.now) lists.now.pos.now through.now.first through.now.second }
 {
+    let first = through.first;
+    let second = through.second;
     let dir = new_tangent(t, first, second);
-    let directionless = create_shared::align_tangents(n, h, pos, t, fixed, first, second, dir);
-    sharpen_sides(n, h, t, first, second, between, beyond);
+    let h = lists.creases.h;
+    let directionless = create_shared::align_tangents(h, lists.pos, t, fixed, first, second, dir);
+    sharpen_sides(lists, t, through);
     directionless
 }
 
-// Fixes halfedge e, if it is one.
+// Fixes halfedge e, if it is one: the number of halfedges stands for none, and no Option, since the list that holds it is lent by
+// the caller, for C too. By its index: `get_mut` was tried, and the proof did not close, since it does not say what the slice ends
+// as.
 #[tactic(auto, unfolding(crate::specs::Shapes::fix_halfedge))]
-fn fix_halfedge(n: usize, fixed: &mut [u8], e: usize)
-    requires { length fixed.old ≡ n }
-    ensures { fixed.new ≡ fix_halfedge n fixed.old e }
+fn fix_halfedge(fixed: &mut [u8], e: usize)
+    ensures { fixed.new ≡ fix_halfedge (length fixed.old) fixed.old e }
 {
-    if e >= n {
-        return;
+    if e < fixed.len() {
+        fixed[e] = 1;
     }
-    fixed[e] = 1;
 }
 
 // What the creases of a point do, and count. `first` is the halfedge of the first one, and with no crease the point's lowest.
 #[tactic(auto, unfolding(crate::specs::Shapes::shape_crease, crate::specs::Shapes::crease_directionless, crate::specs::Shapes::shape_meeting))]
 fn shape_crease(
-    n: usize,
-    h: &[i32],
-    pos: &[f64],
-    flat: &[u8],
+    lists: &ShapeLists<'_>,
     t: &mut [f64],
     fixed: &mut [u8],
     first: usize,
     crease: Crease,
 ) -> usize
-    requires { CreaseIn n first crease × (length flat.now ≡ n) × MakingIn (as_halfedges h.now) pos.now t.old fixed.old n }
-    ensures tangents { tangents_of t.new fixed.new ≡ shape_crease (as_halfedges h.now) pos.now (is_flat flat.now) n first first (tangents_of t.old fixed.old) crease }
-    ensures directionless { result ≡ crease_directionless (as_halfedges h.now) pos.now crease }
+    requires { CreaseIn lists.now.creases.n first crease × (length t.old ≡ lists.now.creases.n * 4) × (length fixed.old ≡ lists.now.creases.n) }
+    ensures tangents { tangents_of t.new fixed.new ≡ shape_crease_by lists.now first (tangents_of t.old fixed.old) crease }
+    ensures directionless { result ≡ crease_directionless (mesh_of lists.now) lists.now.pos.now crease }
 {
     match crease {
         Crease::NoCrease => {
-            fix_halfedge(n, fixed, first);
+            fix_halfedge(fixed, first);
             0
         }
         Crease::OneEnd => 0,
-        Crease::Through {
-            first: a,
-            second: b,
-            between: x,
-            beyond: y,
-        } => shape_through(n, h, pos, t, fixed, a, b, x, y),
+        Crease::Through(through) => shape_through(lists, t, fixed, &through),
         Crease::Meeting { mean: m } => {
-            sharpen_meeting(n, h, flat, t, first, m);
+            sharpen_meeting(lists, t, first, m);
             0
         }
     }
 }
 
 // The same, at point v.
-fn shape_vert(
-    n: usize,
-    h: &[i32],
-    pos: &[f64],
-    flat: &[u8],
-    smooth: &[f64],
-    at: &[usize],
-    link: &[usize],
-    t: &mut [f64],
-    fixed: &mut [u8],
-    v: usize,
-) -> usize
-    requires { (v < length at.now) × VertIn (as_halfedges h.now) pos.now flat.now smooth.now at.now link.now t.old fixed.old n }
-    ensures tangents { tangents_of t.new fixed.new ≡ shape_vert (as_halfedges h.now) pos.now (is_flat flat.now) n (pairs_at (as_halfedges h.now) smooth.now n) (tangents_of t.old fixed.old) v }
-    ensures directionless { result ≡ vert_directionless (as_halfedges h.now) pos.now (pairs_at (as_halfedges h.now) smooth.now n) v }
+fn shape_vert(lists: &ShapeLists<'_>, t: &mut [f64], fixed: &mut [u8], v: usize) -> usize
+    requires { (v < length lists.now.creases.at.now) × (length t.old ≡ lists.now.creases.n * 4) × (length fixed.old ≡ lists.now.creases.n) }
+    ensures tangents { tangents_of t.new fixed.new ≡ shape_vert_by lists.now (tangents_of t.old fixed.old) v }
+    ensures directionless { result ≡ vert_count lists.now v }
 {
-    let first = create_creases::first_crease(n, at, v);
-    let crease = create_creases::crease_at(n, h, smooth, at, link, v);
-    shape_crease(n, h, pos, flat, t, fixed, first, crease)
+    let creases = &lists.creases;
+    let first = create_creases::first_crease(creases.n, creases.at, v);
+    let crease = create_creases::crease_at(creases, v);
+    shape_crease(lists, t, fixed, first, crease)
 }
 
 // The same, at each point.
-pub fn shape_verts(
-    n: usize,
-    h: &[i32],
-    pos: &[f64],
-    flat: &[u8],
-    smooth: &[f64],
-    at: &[usize],
-    link: &[usize],
-    t: &mut [f64],
-    fixed: &mut [u8],
-) -> usize
-    requires { VertIn (as_halfedges h.now) pos.now flat.now smooth.now at.now link.now t.old fixed.old n }
-    ensures tangents { tangents_of t.new fixed.new ≡ shape_verts (as_halfedges h.now) pos.now (is_flat flat.now) n (pairs_at (as_halfedges h.now) smooth.now n) (length at.now) (tangents_of t.old fixed.old) }
-    ensures directionless { result ≡ creases_directionless (as_halfedges h.now) pos.now (pairs_at (as_halfedges h.now) smooth.now n) (length at.now) }
+#[tactic(auto, unfolding(crate::specs::Shapes::shape_verts, common::specs::Count::sum), using(common::proofs::Fold::fold_none, common::proofs::Fold::fold_turn, common::proofs::Sums::sum_turn))]
+pub fn shape_verts(lists: &ShapeLists<'_>, t: &mut [f64], fixed: &mut [u8]) -> usize
+    requires { (length t.old ≡ lists.now.creases.n * 4) × (length fixed.old ≡ lists.now.creases.n) }
+    ensures tangents { tangents_of t.new fixed.new ≡ shape_verts_by lists.now (tangents_of t.old fixed.old) }
+    ensures directionless { result ≡ verts_count lists.now }
 {
     let mut directionless = 0;
-    for v in 0..at.len() {
-        directionless += shape_vert(n, h, pos, flat, smooth, at, link, t, fixed, v);
+    for v in 0..lists.creases.at.len() {
+        directionless += shape_vert(lists, t, fixed, v);
     }
     directionless
 }

@@ -18,7 +18,11 @@ pub struct Smoothness {
     pub smoothness: f64,
 }
 
-// The questions 9 and 10, after earlier answers: `mesh::check_entries` of a list of structs.
+// The questions 9 and 10, after earlier answers: `mesh::check_entries` of a list of structs. It stands beside that one, and
+// `sharp_smoothness` beside `entry_smoothness`, by document 01's form by place for the sharp entries: a lent slice of structs, read
+// by one thin entry point, after a core over two flat lists. The earlier answer is a parameter, since it is one of the definition,
+// too: without it the clause would say `check_entries (Ok tt)`, and each caller would have a line for the `?`.
+#[tactic(auto, unfolding(mesh::specs::Check::check_entries))]
 pub fn check_sharp(
     sofar: Result<(), Refusal>,
     sharp: &[Smoothness],
@@ -39,6 +43,7 @@ pub fn check_sharp(
 const NO_ENTRY: f64 = 1.0;
 
 // An entry of smoothness s for halfedge e.
+#[tactic(auto, unfolding(crate::specs::EntrySmoothness::add_entry))]
 pub fn add_entry(smooth: &mut [f64], e: usize, s: f64)
     requires { e < length smooth.old }
     ensures { smooth.new ≡ add_entry smooth.old e s }
@@ -61,7 +66,9 @@ pub fn entry_smoothness(entries: &[usize], values: &[f64], smooth: &mut [f64])
     }
 }
 
-// The same of a list of entries. A loop of its own: one for both would take an iterator, and a contract of what it yields.
+// The same of a list of entries, by document 01's form by place, as `check_sharp` says. A loop of its own: one for both would take
+// an iterator, and a contract of what it yields.
+#[tactic(auto, using(crate::proofs::Adding::add_more, crate::proofs::Adding::named_at))]
 pub fn sharp_smoothness(sharp: &[Smoothness], smooth: &mut [f64])
     requires { EntriesIn sharp.now (length smooth.old) }
     ensures { smooth.new ≡ entry_smoothness sharp.now (length smooth.old) }

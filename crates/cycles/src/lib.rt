@@ -1,5 +1,5 @@
 // The two steps around a point of the mesh, by which `collect_vertex_cycle` and the walks of `distribute_tangents` go. The
-// walks are loops of the crates above, which prove them by proofs/Loops.antt.
+// walks are loops of the crates above, which prove them by proofs/Loops.antt. A step asks for its own place alone.
 #![tactic(auto)]
 
 ghost use Rattle.std.specs.Prelude.{◌≡◌, ◌+◌, ◌<◌, ◌^◌};

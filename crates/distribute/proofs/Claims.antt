@@ -28,7 +28,7 @@ use Rattle.distribute.proofs.Accepted.{lists_of}
 
 pub guards_never_fire : GuardsNeverFire
 guards_never_fire H P N F T C D n p U start w =
-    let s = (lists_of H P N F T C D n p w.accepted).sound in
+    let s = (lists_of H P N F T C D n p w.accepted).0 in
     record {
       comes_back = (
         length (cycle_of (float_steps H P N F n).step n start),
@@ -76,7 +76,7 @@ pub angles_in_lists : AnglesInLists
 unfolding plan
 angles_in_lists H P N F T C D n p U start w looked st e =
     let S = float_steps H P N F n in
-    let L = lawful (lists_of H P N F T C D n p w.accepted).sound P N F in
+    let L = lawful (lists_of H P N F T C D n p w.accepted).0 P N F in
     let by = plan_from H P N F n U start looked in
     let cs = turn_places S U start (suc n) start in
     let current : length by.current_angle ≡ length (gather_places S U (suc n) start) =
@@ -97,7 +97,7 @@ angles_in_lists H P N F T C D n p U start w looked st e =
 pub angles_never_run_out : (H : Halfedges) (P N : List Float) (F : List ℕ) (T C D : List Float) (n p : ℕ) (U : List Float) (start : ℕ)
     → WalksGo H P N F T C D n p U start → AnglesSuffice (float_steps H P N F n) U start
 angles_never_run_out H P N F T C D n p U start w =
-    angles_suffice (lawful (lists_of H P N F T C D n p w.accepted).sound P N F) U start w.below w.whole w.is_start
+    angles_suffice (lawful (lists_of H P N F T C D n p w.accepted).0 P N F) U start w.below w.whole w.is_start
 
 pub next_in_list : NextInList
 unfolding clamped_angle clamp_angle

@@ -1,17 +1,18 @@
 -- Demand 3 of the call, from what it answers and leaves.
-use mathlib.Core.Path.{◌≡◌}
 use mathlib.Core.List.{List}
 use Prim.Native.Nat.{ℕ}
 use lib.Ieee.{Float}
+use Rattle.std.specs.Prelude.{Ok}
 use Rattle.mesh.specs.Mesh.{Halfedges}
 use Rattle.distribute_spread.proofs.Order.{order_free}
-use Rattle.distribute.specs.Distribute.{Spreading, distribute_tangents, tangents_after, AnyOrder}
+use Rattle.distribute_steps.specs.FloatSteps.{float_steps}
+use Rattle.distribute_walks.specs.declared.Counts.{Counts}
+use Rattle.distribute.specs.Distribute.{spread_tangents, Reports, AnyOrder}
 use Rattle.distribute_walks.proofs.Lawful.{lawful}
 use Rattle.distribute.proofs.Accepted.{lists_of}
 
 module _ (H : Halfedges) (P N : List Float) (F : List ℕ) (T C D : List Float) (n p : ℕ) where
-  pub any_order : {after : List Float} {r : Spreading} → r ≡ distribute_tangents H P N F T C D n p → after ≡ tangents_after H P N F T C D n p
-      → AnyOrder H P N F T C D n p after r
-  any_order er et acc starts names =
+  pub any_order : {after : List Float} {k : Counts} → Reports (float_steps H P N F n) (spread_tangents H P N F T n) after k → AnyOrder H P N F T C D n p after (Ok k)
+  any_order w acc starts names =
       let l = lists_of H P N F T C D n p acc in
-      rw (er, et, acc) (order_free (lawful l.sound P N F) T l.tangents starts names)
+      rw (w.tangents_are, w.looked_is, w.turned_is) (order_free (lawful l.0 P N F) T l.1.tangents starts names)

@@ -5,44 +5,41 @@
 ghost use Rattle.std.specs.Prelude.{◌≡◌, length, replicate};
 ghost use Rattle.float.specs.Ops.{zero};
 ghost use Rattle.mesh.specs.Mesh.{as_halfedges};
-ghost use Rattle.distribute_spread.specs.Spread.{pass};
 ghost use Rattle.distribute_steps.specs.FloatSteps.{float_steps};
-ghost use Rattle.distribute_walks.specs.Walks.{Lists, Written, steps_of};
+ghost use Rattle.distribute_walks.specs.Walks.{Written, steps_of};
 ghost use Rattle.distribute.specs.Distribute.{looked_of, turned_of, lists_fit, lengths_fit, check_lists, spread_tangents, Reports, distribute_tangents, tangents_after, scratch_after, AnyOrder, Values};
 
-pub use distribute_walks::Counts;
-use distribute_walks::SpreadLists;
+pub use distribute_walks::{Counts, SpreadLists};
 use mesh::Refusal;
 
-// How many steps were looked at; 0 where the call is refused.
+// How many steps were looked at; 0 where the call is refused. Here and below there is one function for each value of an answer, as
+// document 01 names each.
 pub fn looked_of(spreading: Result<Counts, Refusal>) -> usize
     ensures { result ≡ looked_of spreading }
 {
-    match spreading {
-        Ok(spread) => spread.looked,
-        Err(_) => 0,
-    }
+    spreading.map_or(0, |counts| counts.looked)
 }
 
 // How many tangents were turned; 0 where the call is refused.
 pub fn turned_of(spreading: Result<Counts, Refusal>) -> usize
     ensures { result ≡ turned_of spreading }
 {
-    match spreading {
-        Ok(spread) => spread.turned,
-        Err(_) => 0,
-    }
+    spreading.map_or(0, |counts| counts.turned)
 }
 
-// The loop over the halfedges of an accepted mesh.
-fn spread_all(
+// Spreading of an accepted mesh: the loop over its halfedges, and then zeros in both scratch lists. The lists written are
+// parameters: with a struct that lends them each clause would read `lists.new.t.now` and state what they are lent as, too.
+#[tactic(auto, using(crate::proofs::Pass::pass_begin, crate::proofs::Pass::pass_next))]
+pub fn spread_tangents(
     lists: &SpreadLists,
     t: &mut [f64],
     current: &mut [f64],
     desired: &mut [f64],
 ) -> Counts
     requires { Written lists.now t.old current.old desired.old }
-    ensures { Reports (steps_of lists.now) (pass (steps_of lists.now) t.old) t.new result }
+    ensures report { Reports (steps_of lists.now) (spread_tangents (as_halfedges lists.now.h.now) lists.now.pos.now lists.now.normals.now lists.now.fixed.now t.old lists.now.n) t.new result }
+    ensures current { current.new ≡ replicate lists.now.n zero }
+    ensures desired { desired.new ≡ replicate lists.now.n zero }
 {
     let mut counts = Counts {
         looked: 0,
@@ -51,36 +48,6 @@ fn spread_all(
     for start in 0..lists.n {
         counts = distribute_walks::spread_at(lists, t, current, desired, start, counts);
     }
-    counts
-}
-
-// Spreading of an accepted mesh: the loop, and then zeros in both scratch lists. The signature is that of the call, for
-// the crates above hand on lists that the C interface lends.
-pub fn spread_tangents(
-    n: usize,
-    p: usize,
-    h: &[i32],
-    pos: &[f64],
-    normals: &[f64],
-    fixed: &[u8],
-    t: &mut [f64],
-    current: &mut [f64],
-    desired: &mut [f64],
-) -> Counts
-    requires { Lists (as_halfedges h.now) pos.now normals.now fixed.now t.old current.old desired.old n p }
-    ensures report { Reports (float_steps (as_halfedges h.now) pos.now normals.now fixed.now n) (spread_tangents (as_halfedges h.now) pos.now normals.now fixed.now t.old n) t.new result }
-    ensures current { current.new ≡ replicate n zero }
-    ensures desired { desired.new ≡ replicate n zero }
-{
-    let lists = SpreadLists {
-        n,
-        p,
-        h,
-        pos,
-        normals,
-        fixed,
-    };
-    let counts = spread_all(&lists, t, current, desired);
     current.fill(0.0);
     desired.fill(0.0);
     counts
@@ -88,6 +55,7 @@ pub fn spread_tangents(
 
 // Question 2 of the lists that spreading and its preview read or turn. No struct, here or in the other questions: what its
 // invariant would say is what they ask.
+#[tactic(auto, unfolding(mesh::specs::Mesh::as_halfedges))]
 pub fn lists_fit(
     n: usize,
     p: usize,
@@ -99,17 +67,10 @@ pub fn lists_fit(
 ) -> bool
     ensures { result ≡ lists_fit (as_halfedges h.now) pos.now normals.now fixed.now t.now n p }
 {
-    let points = common::both(
-        common::both(
-            mesh::has_length(h.len(), n, mesh::HALFEDGE_STRIDE),
-            mesh::has_length(pos.len(), p, 3),
-        ),
-        mesh::has_length(normals.len(), p, 3),
-    );
-    common::both(
-        common::both(points, mesh::has_length(fixed.len(), n, 1)),
-        mesh::has_length(t.len(), n, 4),
-    )
+    let points = mesh::has_length(h.len(), n, mesh::HALFEDGE_STRIDE)
+        & mesh::has_length(pos.len(), p, 3)
+        & mesh::has_length(normals.len(), p, 3);
+    points & mesh::has_length(fixed.len(), n, 1) & mesh::has_length(t.len(), n, 4)
 }
 
 // Question 2 of the lists that the call is lent.
@@ -127,13 +88,11 @@ fn lengths_fit(
     ensures { result ≡ lengths_fit (as_halfedges h.now) pos.now normals.now fixed.now t.now current.now desired.now n p }
 {
     let lists = lists_fit(n, p, h, pos, normals, fixed, t);
-    common::both(
-        common::both(lists, mesh::has_length(current.len(), n, 1)),
-        mesh::has_length(desired.len(), n, 1),
-    )
+    lists & mesh::has_length(current.len(), n, 1) & mesh::has_length(desired.len(), n, 1)
 }
 
 // The questions 1 to 7 and 11.
+#[tactic(auto, unfolding(crate::specs::Distribute::check_lists))]
 fn check_lists(
     n: usize,
     p: usize,
@@ -156,6 +115,7 @@ fn check_lists(
 // for each halfedge, and the scratch lists `current` and `desired` (the Rust's `current_angle` and `desired_angle`) a
 // place for each halfedge.
 // The signature stays flat, as the C interface lends: counts, lists read, lists written, scratch.
+#[tactic(auto, using(crate::proofs::Accepted::lists_of, crate::proofs::Values::values_of))]
 pub fn distribute_tangents(
     n: usize,
     p: usize,
@@ -175,9 +135,18 @@ pub fn distribute_tangents(
     ensures values { Values (check_lists (as_halfedges h.now) pos.now normals.now fixed.now t.old current.old desired.old n p) (float_steps (as_halfedges h.now) pos.now normals.now fixed.now n) (spread_tangents (as_halfedges h.now) pos.now normals.now fixed.now t.old n) result }
 {
     let checked = check_lists(n, p, h, pos, normals, fixed, t, current, desired);
+    // Document 01's form by place: the check's answer is opened by `let .. else`.
     let Ok(()) = checked else {
         return mesh::refused(checked);
     };
-    let counts = spread_tangents(n, p, h, pos, normals, fixed, t, current, desired);
+    let lists = SpreadLists {
+        n,
+        p,
+        h,
+        pos,
+        normals,
+        fixed,
+    };
+    let counts = spread_tangents(&lists, t, current, desired);
     Ok(counts)
 }

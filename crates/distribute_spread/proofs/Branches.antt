@@ -19,12 +19,6 @@ module _ (S : Steps) (ts : S.Tangents) (start here looked : ℕ) (g : S.Gathered
   first_none = refl
 
   module _ (k : ℕ) where
-    -- marked, and the start: it ends
-    pub first_back : marked S ts (step here) ≡ true → eqb (step here) start ≡ true
-        → first_walk S (suc k) ts start here looked g ≡ record { last = step here; looked = suc looked; gathered = g }
-    unfolding first_walk
-    first_back m q = rw (m, first_walk) (rw q)
-
     -- marked, and another: it goes on
     pub first_passes : marked S ts (step here) ≡ true → eqb (step here) start ≡ false
         → first_walk S (suc k) ts start here looked g ≡ first_walk S k ts start (step here) (suc looked) g

@@ -2,7 +2,7 @@
 -- y gives a `FirstStep` or a `SecondStep`: what is kept at y, a measure that falls, and that what is left of the walk is the same. The fuel stays n + 1
 -- throughout. `first_end`, `second_stop` and `second_end` say what a walk that ends at y comes to.
 use mathlib.Core.Path.{◌≡◌, refl, sym, ap, ◌∙◌}
-use mathlib.Core.Bool.{Bool, true, false, true≢false}
+use mathlib.Core.Bool.{Bool, true, false}
 use mathlib.Core.List.{◌∷◌}
 use mathlib.Core.Logic.{◌≢◌}
 use Prim.Native.Nat.{ℕ, suc, ◌+◌, ◌≤◌, ◌<◌, zero-le, suc-le-suc}
@@ -99,10 +99,6 @@ module _ {S : Steps} (L : Lawful S) where
   module _ {ts : S.Tangents} {start x y : ℕ} (w : FirstAt S ts start x) (e : y ≡ step x) where
     pub first_below : y < n
     first_below = walking_below permutes w.walking e
-
-    -- a marked halfedge is not the start
-    pub first_other : marked S ts y ≡ true → y ≢ start
-    first_other m q = true≢false (sym m ∙ ap (marked S ts) q ∙ w.from.1)
 
     first_on : (g h : Gathered) → is_stop S ts y ≡ false → gather_all S ts start (gather_places S ts (suc n) x) g ≡ gather_all S ts start (gather_places S ts (suc n) y) h
         → FirstStep S ts start x y g h

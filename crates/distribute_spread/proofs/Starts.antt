@@ -11,11 +11,11 @@ use borrow.Author.Tests.{eqb-true}
 use Rattle.cycles.specs.Count.{count, ◌∈◌}
 use Rattle.cycles.specs.Walk.{path, walk_end}
 use Rattle.cycles.proofs.Count.{Below}
-use Rattle.cycles.proofs.Orbits.{path_below, path_once, path_within}
+use Rattle.cycles.proofs.Orbits.{path_below, path_once}
 use Rattle.distribute_spread.specs.Steps.{Steps, Lawful}
 use Rattle.distribute_spread.specs.Spread.{Found, State, marked, second_walk, spread_from, handed_in}
 use Rattle.distribute_spread.proofs.Branches.{found_from, with_looked, walks_first, walks_both, from_marked, from_unmarked}
-use Rattle.distribute_spread.proofs.Sublists.{Sublist, none, sublist_count, sublist_length, sublist_trans, select_passes}
+use Rattle.distribute_spread.proofs.Sublists.{Sublist, none, sublist_count, sublist_trans, select_passes}
 use Rattle.distribute_spread.proofs.Turns.{SameMarks, SameCounts, on_tangents, turn_all, all_counts, Turning, all_whole, all_turning, all_same}
 use Rattle.distribute_spread.proofs.Places.{is_stop, is_turned, look_places, gather_places, turn_places, gathers_looks, turns_gathers}
 use Rattle.distribute_spread.proofs.Walks.{gather_all, gather_same, found_by, first_is, second_is}
@@ -137,16 +137,6 @@ module _ {S : Steps} (L : Lawful S) (ts : S.Tangents) (s : ℕ) (s_below : s < S
       go true m = rw m (omega arith)
       go false m = rw m (path_once permutes (is_stop S ts) s s_below (rw m s_fixed) (suc n) e)
 
-  pub looks_within : length (looks_of S ts s) ≤ n
-  looks_within = go (marked S ts s) refl
-    where
-      go : (b : Bool) → marked S ts s ≡ b → length (looks_of S ts s) ≤ n
-      go true m = rw m (omega arith)
-      go false m = rw m (path_within permutes (is_stop S ts) s s_below (rw m s_fixed) (suc n))
-
-  pub turns_within : length (turns_of S ts s) ≤ n
-  turns_within = le_trans (sublist_length (turns_sublist S ts s)) looks_within
-
   pub turns_below : Below n (turns_of S ts s)
   turns_below e h = looks_below e (le_trans h (turns_looks S ts s e))
 
@@ -176,17 +166,3 @@ module _ {S : Steps} (L : Lawful S) (ts : S.Tangents) (s : ℕ) (s_below : s < S
 
       reads : (e : ℕ) → e ∈ turns_of S ts s → read st.tangents e ≡ read ts e
       reads e h = un.looks_same e (le_trans h (turns_looks S ts s e))
-
--- what one start adds to the counts is at most n
-module _ {S : Steps} (L : Lawful S) (s : ℕ) (s_below : s < S.n) (s_fixed : S.fixed s ≡ true) (st : State S) (w : L.Whole st.tangents) where
-  does : StartDoes L st.tangents s s_below s_fixed st (spread_from S s st)
-  does = start_does L st.tangents s s_below s_fixed w st w (λ e. refl) record { start_same = refl; looks_same = λ e h. refl }
-
-  pub from_looked : (spread_from S s st).looked ≤ S.n + st.looked
-  from_looked = omega (arith, does.looked, looks_within L st.tangents s s_below s_fixed)
-
-  pub from_turned : (spread_from S s st).turned ≤ S.n + st.turned
-  from_turned = omega (arith, does.turning.turned, turns_within L st.tangents s s_below s_fixed)
-
-  pub from_whole : L.Whole (spread_from S s st).tangents
-  from_whole = does.whole

@@ -8,7 +8,7 @@ use Rattle.linalg.specs.declared.Vec4.{Vec4}
 use Rattle.linalg.specs.Vec.{add3, sub3, cross_of, dot_of, qrot_of, rotation_quat_axis_angle}
 use Rattle.mesh.specs.Mesh.{start_vert, end_vert, Halfedges}
 use Rattle.common.specs.Fold.{fold_to}
-use Rattle.smoothing.specs.Directions.{vec3_from_vec4, safe_normalize, wrap_of, angle_between}
+use Rattle.smoothing.specs.Directions.{vec3_from_vec4, with_weight, safe_normalize, wrap_of, angle_between}
 use Rattle.smoothing.specs.Lists.{point_at, tangent_at, put_tangent}
 use Rattle.cycles.specs.Cycles.{next_around}
 use Rattle.distribute_spread.specs.Steps.{Steps}
@@ -168,8 +168,7 @@ turn_angle p = get_or p.current_angle p.index nan ⊖ desired_angle p ⊖ p.offs
 -- a tangent turned about an axis, its weight kept
 unfoldable pub turned_tangent : Vec3 → Float → Vec4 → Vec4
 turned_tangent axis angle v =
-    let rotated = qrot_of (rotation_quat_axis_angle axis angle) (vec3_from_vec4 v) in
-    record { x = rotated.x; y = rotated.y; z = rotated.z; w = v.w }
+    with_weight (qrot_of (rotation_quat_axis_angle axis angle) (vec3_from_vec4 v)) v.w
 
 -- the tangent turned as the plan says
 abbrev pub turn : Plan → Vec4 → Vec4

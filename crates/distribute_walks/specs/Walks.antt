@@ -1,30 +1,19 @@
 -- What the walks of the code ask and ensure: the lists of an accepted call, the code's state, and one step of each walk. H are the halfedges, P the positions, N the point normals, X the flags, T the tangents, C and D the scratch lists, n and p the counts of halfedges and points.
 use Rattle.std.specs.Prelude.{ℕ, suc, ◌+◌, ◌*◌, ◌^◌, ◌≤◌, ◌<◌, ◌≡◌, List, true, false, length, Float}
-use Rattle.mesh.specs.Mesh.{halfedge_stride, as_halfedges, Halfedges}
-use Rattle.mesh.specs.Sound.{Sound}
+use Rattle.mesh.specs.Mesh.{as_halfedges, Halfedges}
 use Rattle.smoothing.specs.Lists.{tangent_at}
 use Rattle.distribute_spread.specs.Steps.{Steps}
 use Rattle.distribute_spread.specs.Spread.{Found, State, first_walk}
 use Rattle.distribute_steps.specs.FloatSteps.{is_mark, is_start, begin, float_steps}
-use Rattle.distribute_steps.specs.Scratch.{gathered_of, directions_at}
+use Rattle.distribute_steps.specs.Scratch.{gathered_of}
 use Rattle.distribute_steps.specs.declared.Carried.{Carried}
-use Rattle.distribute_steps.specs.declared.Directions.{Directions}
 use Rattle.distribute_steps.specs.declared.Turning.{Turning}
 use Rattle.distribute_walks.specs.declared.Counts.{Counts}
 use Rattle.distribute_walks.specs.declared.Ended.{Ended}
 use Rattle.distribute_walks.specs.declared.lists.SpreadLists.{SpreadLists}
+use Rattle.distribute_walks.specs.declared.lists.FirstWalk.{FirstWalk}
 
 -- ---- the lists of an accepted call
-
-pub record Lists (H : Halfedges) (P N : List Float) (X : List ℕ) (T C D : List Float) (n p : ℕ) : Type 0 where
-  pub sound : Sound H n p
-  pub whole : H.numbers ≡ n * halfedge_stride
-  pub positions : length P ≡ p * 3
-  pub normals : length N ≡ p * 3
-  pub flags : length X ≡ n
-  pub tangents : length T ≡ n * 4
-  pub current : length C ≡ n
-  pub desired : length D ≡ n
 
 -- the lists that a walk writes, beside those that it only reads
 pub record Written (lists : SpreadLists) (T C D : List Float) : Type 0 where
@@ -68,16 +57,9 @@ first_from H P N X n T start looked = first_walk (float_steps H P N X n) (suc n)
 abbrev pub first_found : (lists : SpreadLists) → List Float → ℕ → ℕ → Found (steps_of lists)
 first_found lists T start looked = first_from (as_halfedges lists.h.now) lists.pos.now lists.normals.now lists.fixed.now lists.n T start looked
 
--- a step onto halfedge e, where `first` are the directions at the start
-pub record CanLook (lists : SpreadLists) (T : List Float) (start e : ℕ) (first : Directions) : Type 0 where
-  pub start_below : start < lists.n
-  pub below : e < lists.n
-  pub tangents : length T ≡ lists.n * 4
-  pub first_is : first ≡ directions_at (as_halfedges lists.h.now) lists.pos.now T start start
-
--- and there is a place for its angles
-pub record CanGather (lists : SpreadLists) (T C D : List Float) (start e : ℕ) (first : Directions) (g : Carried) : Type 0 where
-  pub look : CanLook lists T start e first
+-- a step onto halfedge e: there is one, and a place for its angles
+pub record CanGather (walk : FirstWalk) (C D : List Float) (e : ℕ) (g : Carried) : Type 0 where
+  pub below : e < walk.lists.now.n
   pub current_in : g.count < length C
   pub desired_in : g.count < length D
 

@@ -1,20 +1,25 @@
 // The two walks of `distribute_tangents` of src/smoothing_tangents.rs, and one turn of its loop over the halfedges. No walk
 // has a guard: a vertex cycle comes back.
+// Each function asks for its own place (`start < n`, of which `is_start` may be known) and for room in the counts: both differ from
+// call to call, so no struct of the lists can hold them. The lists that are written stay parameters: with a struct that lends them
+// each clause would read `lists.new.t.now` and state what they are lent as, too.
+// These walks and this turn are alike in shape to those of `preview_walks`, and both stay: the preview carries no angles and writes
+// no tangents (document 02 asks for one without scratch), and one text for both would take the step of each walk with its own state.
 #![tactic(auto)]
 
 ghost use Rattle.std.specs.Prelude.{◌≡◌, true, not, cond, ◌&&◌, List, suc, ◌+◌, ◌≤◌, ◌<◌, length, eqb, Float};
 ghost use Rattle.mesh.specs.Mesh.{as_halfedges};
 ghost use Rattle.smoothing.specs.Lists.{tangent_at, put_tangent};
 ghost use Rattle.distribute_spread.specs.Spread.{second_walk, spread_at};
-ghost use Rattle.distribute_steps.specs.FloatSteps.{is_mark, is_fixed, is_start, edge_direction, gather_edge, turn, next, float_steps};
+ghost use Rattle.distribute_steps.specs.FloatSteps.{is_mark, is_fixed, is_start, gather, turn, next, float_steps};
 ghost use Rattle.distribute_steps.specs.Scratch.{gathered_of, directions_at, plan_of};
-ghost use Rattle.distribute_walks.specs.Walks.{Written, Room, Gives, more_turned, steps_of, found_of, first_found, CanLook, CanGather, CanTurn, SecondInput};
+ghost use Rattle.distribute_walks.specs.Walks.{Written, Room, Gives, more_turned, steps_of, found_of, first_found, CanGather, CanTurn, SecondInput};
 ghost use Rattle.distribute_walks.specs.declared.Counts.{Counts};
 
 mod lists;
 
 use distribute_steps::{Carried, Directions, Turning};
-use linalg::Vec3;
+use lists::FirstWalk;
 pub use lists::SpreadLists;
 
 // How many steps the first walks took, and how many tangents the second walks wrote.
@@ -32,46 +37,36 @@ pub struct Ended {
     pub carried: Carried,
 }
 
-// The two directions at halfedge e of a walk from `start`. Back there, the walk uses those that it set out with, `first`.
-fn directions_at(
-    lists: &SpreadLists,
-    t: &[f64],
-    start: usize,
-    e: usize,
-    first: Directions,
-) -> Directions
-    requires { CanLook lists.now t.now start e first }
-    ensures { result ≡ directions_at (as_halfedges lists.now.h.now) lists.now.pos.now t.now start e }
+// The two directions at halfedge e of a first walk. Back at its start, the walk uses those that it set out with.
+fn directions_at(walk: &FirstWalk, e: usize) -> Directions
+    requires { e < walk.now.lists.now.n }
+    ensures { result ≡ directions_at (as_halfedges walk.now.lists.now.h.now) walk.now.lists.now.pos.now walk.now.t.now walk.now.start e }
 {
-    if e == start {
-        return first;
+    if e == walk.start {
+        return walk.first;
     }
-    let edge = distribute_steps::edge_direction(lists.h, lists.pos, start, e);
-    let tangent = distribute_steps::tangent_direction(smoothing::tangent_at(t, e));
+    let edge = distribute_steps::edge_direction(walk.lists.h, walk.lists.pos, walk.start, e);
+    let tangent = distribute_steps::tangent_direction(smoothing::tangent_at(walk.t, e));
     Directions { edge, tangent }
 }
 
 // One step of the first walk, onto halfedge e: the mark is read before anything else, and a marked one gathers nothing.
 fn gather_at(
-    lists: &SpreadLists,
-    t: &[f64],
+    walk: &FirstWalk,
     current: &mut [f64],
     desired: &mut [f64],
-    approx: Vec3,
-    start: usize,
     e: usize,
-    first: Directions,
     g: Carried,
 ) -> Carried
-    requires { CanGather lists.now t.now current.old desired.old start e first g }
-    ensures result_after { gathered_of current.new desired.new result ≡ cond (is_mark (tangent_at t.now e).w) (gathered_of current.old desired.old g) (gather_edge approx (edge_direction (as_halfedges lists.now.h.now) lists.now.pos.now start e) (eqb e start) (tangent_at t.now e) (gathered_of current.old desired.old g)) }
-    ensures count_value { result.count ≡ cond (is_mark (tangent_at t.now e).w) g.count (g.count + 1) }
+    requires { CanGather walk.now current.old desired.old e g }
+    ensures result_after { gathered_of current.new desired.new result ≡ cond (is_mark (tangent_at walk.now.t.now e).w) (gathered_of current.old desired.old g) (gather (as_halfedges walk.now.lists.now.h.now) walk.now.lists.now.pos.now walk.now.lists.now.normals.now walk.now.start e (tangent_at walk.now.t.now e) (gathered_of current.old desired.old g)) }
+    ensures count_value { result.count ≡ cond (is_mark (tangent_at walk.now.t.now e).w) g.count (g.count + 1) }
 {
-    if distribute_steps::is_marked(t, e) {
+    if distribute_steps::is_marked(walk.t, e) {
         return g;
     }
-    let at = directions_at(lists, t, start, e, first);
-    distribute_steps::gather_edge(current, desired, approx, at, e == start, g)
+    let at = directions_at(walk, e);
+    distribute_steps::gather_edge(current, desired, walk.approx, at, e == walk.start, g)
 }
 
 // The first walk, document 01's "loop that yields the halfedge where it stopped": breaks with the next one that is fixed and
@@ -89,18 +84,22 @@ fn first_walk(
     ensures result_after { found_of lists.now current.new desired.new result ≡ first_found lists.now t.now start counts.looked }
     ensures looked_bound { (result.looked ≤ counts.looked + lists.now.n) × (result.carried.count ≤ lists.now.n) }
 {
-    let approx = smoothing::point_at(lists.normals, mesh::start_vert(lists.h, start));
     let v = smoothing::tangent_at(t, start);
     let mut g = distribute_steps::begin(lists.h, lists.pos, start, v);
-    let edge = g.last_edge;
-    let tangent = g.first_tangent;
-    let first = Directions { edge, tangent };
-    let mut looked = counts.looked;
-    let mut here = start;
+    let approx = smoothing::point_at(lists.normals, mesh::start_vert(lists.h, start));
+    let (edge, tangent) = (g.last_edge, g.first_tangent);
+    let walk = FirstWalk {
+        lists,
+        t,
+        start,
+        approx,
+        first: Directions { edge, tangent },
+    };
+    let (mut looked, mut here) = (counts.looked, start);
     let last = loop {
         here = cycles::next_around(lists.h, here);
         looked += 1;
-        g = gather_at(lists, t, current, desired, approx, start, here, first, g);
+        g = gather_at(&walk, current, desired, here, g);
         if distribute_steps::is_start(lists.fixed, t, here) {
             break here;
         }
@@ -138,7 +137,7 @@ pub fn leaves(fixed: &[u8], start: usize, e: usize) -> bool
     requires { e < length fixed.now }
     ensures { result ≡ (not (eqb e start) && is_fixed fixed.now e) }
 {
-    common::both(e != start, fixed[e] == 1)
+    (e != start) & (fixed[e] == 1)
 }
 
 // The second walk: leaves by its label at a fixed halfedge other than the start, before that one's mark is read.
@@ -171,6 +170,7 @@ fn second_walk(
 
 // One turn of the loop over the halfedges: one that is not fixed is no start, and a marked start is passed over. From any
 // other start both walks go.
+#[tactic(auto, using(crate::proofs::Starts::at_none))]
 pub fn spread_at(
     lists: &SpreadLists,
     t: &mut [f64],
@@ -192,7 +192,7 @@ pub fn spread_at(
     if distribute_steps::turns_none(carried.count, carried.normal) {
         return Counts {
             looked: ended.looked,
-            turned: counts.turned,
+            ..counts
         };
     }
     let by = distribute_steps::plan(current, desired, start, ended.last, carried);

@@ -86,7 +86,7 @@ fn make(rt: &impl Print, asked: &str, n: usize, vert: i32) {
     );
 }
 
-// Are the bits of the tangents the same?
+// Are the tangents the same, bit for bit? By `==` zeros of either sign would be one, and no not-a-number itself.
 fn same(xs: &[f64; 24], ys: &[f64; 24]) -> bool {
     xs.iter()
         .zip(ys)

@@ -5,7 +5,7 @@ use Rattle.float.specs.Ops.{◌⊕◌, ◌⊖◌, ◌⊗◌, ◌⊘◌, two}
 use Rattle.sqrt.specs.Sqrt.{sqrt_of}
 use Rattle.math.specs.Trig.{sin_of, cos_of}
 use Rattle.linalg.specs.declared.Vec3.{Vec3}
-use Rattle.linalg.specs.declared.Quat.{Quat}
+use Rattle.linalg.specs.declared.Vec4.{Vec4}
 
 -- the operators of `Vec3`
 unfoldable pub add3 : Vec3 → Vec3 → Vec3
@@ -36,7 +36,7 @@ cross_of a b = record {
 }
 
 -- `qxdir`
-unfoldable pub qxdir_of : Quat → Vec3
+unfoldable pub qxdir_of : Vec4 → Vec3
 qxdir_of q = record {
   x = q.w ⊗ q.w ⊕ q.x ⊗ q.x ⊖ q.y ⊗ q.y ⊖ q.z ⊗ q.z;
   y = (q.x ⊗ q.y ⊕ q.z ⊗ q.w) ⊗ two;
@@ -44,7 +44,7 @@ qxdir_of q = record {
 }
 
 -- `qydir`
-unfoldable pub qydir_of : Quat → Vec3
+unfoldable pub qydir_of : Vec4 → Vec3
 qydir_of q = record {
   x = (q.x ⊗ q.y ⊖ q.z ⊗ q.w) ⊗ two;
   y = q.w ⊗ q.w ⊖ q.x ⊗ q.x ⊕ q.y ⊗ q.y ⊖ q.z ⊗ q.z;
@@ -52,7 +52,7 @@ qydir_of q = record {
 }
 
 -- `qzdir`
-unfoldable pub qzdir_of : Quat → Vec3
+unfoldable pub qzdir_of : Vec4 → Vec3
 qzdir_of q = record {
   x = (q.z ⊗ q.x ⊕ q.y ⊗ q.w) ⊗ two;
   y = (q.y ⊗ q.z ⊖ q.x ⊗ q.w) ⊗ two;
@@ -60,7 +60,7 @@ qzdir_of q = record {
 }
 
 -- `qrot`
-unfoldable pub qrot_of : Quat → Vec3 → Vec3
+unfoldable pub qrot_of : Vec4 → Vec3 → Vec3
 qrot_of q v = add3 (add3 (scale3 (qxdir_of q) v.x) (scale3 (qydir_of q) v.y)) (scale3 (qzdir_of q) v.z)
 
 -- `length2`
@@ -76,7 +76,7 @@ unfoldable pub normalize_of : Vec3 → Vec3
 normalize_of a = div3 a (length_of a)
 
 -- `rotation_quat_axis_angle`: the Rust works `sin(angle / 2.0)` out three times, with one result
-unfoldable pub rotation_quat_axis_angle : Vec3 → Float → Quat
+unfoldable pub rotation_quat_axis_angle : Vec3 → Float → Vec4
 rotation_quat_axis_angle axis angle =
     let s = sin_of (angle ⊘ two) in
     record { x = axis.x ⊗ s; y = axis.y ⊗ s; z = axis.z ⊗ s; w = cos_of (angle ⊘ two) }

@@ -7,7 +7,7 @@ ghost use Rattle.linalg.specs.Vec.{add3, sub3, neg3, scale3, div3, dot_of, cross
 
 use std::ops::{Add, Div, Mul, Neg, Sub};
 
-#[derive(Clone, Copy)]
+#[derive(Clone, Copy, PartialEq)]
 pub struct Vec3 {
     pub x: f64,
     pub y: f64,
@@ -31,14 +31,8 @@ pub struct Vec4 {
     pub w: f64,
 }
 
-// The Rust's own type, apart from `Vec4`, which has the same fields.
-#[derive(Clone, Copy)]
-pub struct Quat {
-    pub x: f64,
-    pub y: f64,
-    pub z: f64,
-    pub w: f64,
-}
+// As in the Rust, another name.
+pub type Quat = Vec4;
 
 impl Add for Vec3 {
     type Output = Vec3;
@@ -113,36 +107,6 @@ impl Div<f64> for Vec3 {
             z: self.z / s,
         }
     }
-}
-
-pub fn add(a: Vec3, b: Vec3) -> Vec3
-    ensures { result ≡ add3 a b }
-{
-    a + b
-}
-
-pub fn sub(a: Vec3, b: Vec3) -> Vec3
-    ensures { result ≡ sub3 a b }
-{
-    a - b
-}
-
-pub fn neg(a: Vec3) -> Vec3
-    ensures { result ≡ neg3 a }
-{
-    -a
-}
-
-pub fn scale(a: Vec3, s: f64) -> Vec3
-    ensures { result ≡ scale3 a s }
-{
-    a * s
-}
-
-pub fn divide(a: Vec3, s: f64) -> Vec3
-    ensures { result ≡ div3 a s }
-{
-    a / s
 }
 
 #[tactic(auto, unfolding(crate::specs::Vec::dot_of))]

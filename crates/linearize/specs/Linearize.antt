@@ -10,7 +10,7 @@ use Rattle.mesh.specs.Questions.{has_length}
 use Rattle.mesh.specs.Check.{Checked, check_mesh, when_accepted}
 use Rattle.common.specs.Fold.{fold_to}
 use Rattle.mesh.specs.Sound.{Sound}
-use Rattle.smoothing.specs.Directions.{vec3_from_vec4}
+use Rattle.smoothing.specs.Directions.{vec3_from_vec4, with_weight}
 use Rattle.smoothing.specs.Lists.{tangent_at, put_tangent}
 use Rattle.smoothing.specs.Edges.{EdgeIn, QuadIn, edge_vec}
 
@@ -22,7 +22,7 @@ is_flat tangent = eq tangent.w zero
 
 -- `Vec4::new(v.x, v.y, v.z, 1.0)`
 unfoldable pub with_unit_weight : Vec3 → Vec4
-with_unit_weight v = record { x = v.x; y = v.y; z = v.z; w = one }
+with_unit_weight v = with_weight v one
 
 -- The new tangent of a flat end, from the edge as it runs from that end and the tangent of the other end. The Rust's four expressions are this at `edge_vec` and `other`, and at `-edge_vec` and `tangent`.
 unfoldable pub linearized : Vec3 → Vec4 → Vec4

@@ -371,6 +371,7 @@ fn sin_turned(x: f64, more: u32) -> f64
     -value
 }
 
+// `sin` and `cos` stay two functions, as in the Rust: bound, small value and kernel differ, and what they share is `sin_turned`.
 #[tactic(auto, using(crate::proofs::Quadrants::sin_is), unfolding(crate::specs::Trig::sin_of))]
 pub fn sin(x: f64) -> f64
     ensures { result ≡ sin_of x }
@@ -478,7 +479,7 @@ fn acos_positive(x: f64) -> f64
 pub fn acos(x: f64) -> f64
     ensures { result ≡ acos_of x }
 {
-    if x != x {
+    if x.is_nan() {
         return x;
     }
     let b = f64::to_bits(x);

@@ -10,7 +10,7 @@ use Rattle.mesh.specs.Mesh.{max_halfedges, max_points, start_vert, end_vert, pai
 use Rattle.mesh.specs.Lowest.{lowest}
 use Rattle.mesh.specs.All.{halfedge_holds, triangle_holds, triangles_hold}
 use Rattle.mesh.specs.Sound.{Sound}
-use Rattle.common.proofs.Tests.{and_true}
+use Rattle.std.proofs.lemmas.Bool.{and_parts}
 use Rattle.mesh.proofs.Halfedges.{next_cases}
 use Rattle.mesh.proofs.Lowest.{lowest_before}
 
@@ -29,10 +29,10 @@ module _ (H : Halfedges) (n p : ℕ) where
   holding : (e f : ℕ) → next_halfedge e ≡ f → ltb (start_vert H e) p ≡ true → ltb (start_vert H f) p ≡ true → halfedge_holds H n e (start_vert H e) (start_vert H f) ≡ true → Holds e
   unfolding halfedge_holds
   holding e f next start other all =
-      let o = and_true (eqb (end_vert H e) (start_vert H f)) _ all in
-      let q = and_true (ltb (paired_halfedge H e) n) _ o.1 in
-      let r = and_true (eqb (paired_halfedge H (paired_halfedge H e)) e) _ q.1 in
-      let s = and_true (eqb (start_vert H (paired_halfedge H e)) (start_vert H f)) _ r.1 in
+      let o = and_parts (eqb (end_vert H e) (start_vert H f)) _ all in
+      let q = and_parts (ltb (paired_halfedge H e) n) _ o.1 in
+      let r = and_parts (eqb (paired_halfedge H (paired_halfedge H e)) e) _ q.1 in
+      let s = and_parts (eqb (start_vert H (paired_halfedge H e)) (start_vert H f)) _ r.1 in
       let end : end_vert H e ≡ start_vert H f = eqb-true _ _ o.0 in
       record {
         start_below = ltb-true _ _ start;
@@ -48,11 +48,11 @@ module _ (H : Halfedges) (n p : ℕ) where
   held : (e : ℕ) → e % 3 ≡ 0 → triangle_holds H n p e ≡ true → Holds e × Holds (e + 1) × Holds (e + 2)
   unfolding triangle_holds
   held e m t =
-      let q = and_true (ltb (start_vert H e) p && (ltb (start_vert H (e + 1)) p && ltb (start_vert H (e + 2)) p)) _ t in
-      let a = and_true (ltb (start_vert H e) p) _ q.0 in
-      let b = and_true (ltb (start_vert H (e + 1)) p) (ltb (start_vert H (e + 2)) p) a.1 in
-      let f = and_true (halfedge_holds H n e (start_vert H e) (start_vert H (e + 1))) _ q.1 in
-      let g = and_true (halfedge_holds H n (e + 1) (start_vert H (e + 1)) (start_vert H (e + 2))) _ f.1 in
+      let q = and_parts (ltb (start_vert H e) p && (ltb (start_vert H (e + 1)) p && ltb (start_vert H (e + 2)) p)) _ t in
+      let a = and_parts (ltb (start_vert H e) p) _ q.0 in
+      let b = and_parts (ltb (start_vert H (e + 1)) p) (ltb (start_vert H (e + 2)) p) a.1 in
+      let f = and_parts (halfedge_holds H n e (start_vert H e) (start_vert H (e + 1))) _ q.1 in
+      let g = and_parts (halfedge_holds H n (e + 1) (start_vert H (e + 1)) (start_vert H (e + 2))) _ f.1 in
       let to₁ : next_halfedge e ≡ e + 1 = ⊎_elim (λ w. omega arith) (λ w. omega arith) (next_cases e) in
       let to₂ : next_halfedge (e + 1) ≡ e + 2 = ⊎_elim (λ w. omega arith) (λ w. omega arith) (next_cases (e + 1)) in
       let to₀ : next_halfedge (e + 2) ≡ e = ⊎_elim (λ w. omega arith) (λ w. omega arith) (next_cases (e + 2)) in (

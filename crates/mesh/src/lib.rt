@@ -1,6 +1,7 @@
 // The mesh of the Rust's src/types.rs as flat lists, and the questions that documents 01 and 02 put to a call: 1 to
 // 11, and 12 to making from normals.
-// The questions read lists of any length and content, and past the end a default; the other reads are of accepted meshes.
+// The questions read lists of any length and content, and past the end a default; the other reads are of accepted meshes. Each read
+// asks for its own place (`Inside e`, `e + 1 < 2 ^ 64`): it differs from call to call, so no struct of the lists can hold it.
 #![tactic(auto)]
 
 mod questions;
@@ -12,7 +13,7 @@ ghost use Rattle.mesh.specs.Inside.{Inside};
 ghost use Rattle.mesh.specs.Scalar.{radians_of};
 ghost use Rattle.mesh.specs.Questions.{has_length, sign_clear};
 ghost use Rattle.mesh.specs.All.{triangles_hold, ask_each};
-ghost use Rattle.mesh.specs.Check.{number_of, place_of, answer_of, once, each, check_mesh, check_refs, check_entries, check_flags, check_rows};
+ghost use Rattle.mesh.specs.Check.{number_of, place_of, answer_of, asked, each, check_mesh, check_refs, check_entries, check_flags, check_rows};
 
 use questions::{
     counts_fit, has_clear_sign, has_mesh, has_pair, has_points, has_row, is_flag, is_joined,
@@ -30,7 +31,8 @@ pub const HALFEDGE_STRIDE: usize = 4;
 
 pub const REF_STRIDE: usize = 3;
 
-// What a negative entry is read as: a number above every count.
+// What a negative entry is read as: a number above every count, so that the questions compare it like any other. An Option would be
+// opened in each of them to answer the same no.
 const NO_INDEX: usize = 4294967296;
 
 // The questions that a call puts to its mesh and its lists, 1 to 12, and the program to its records, 20 to 24: each with its number.
@@ -62,7 +64,9 @@ pub struct Refusal {
     pub place: usize,
 }
 
-// Number k of item e, in a list of `stride` numbers to an item.
+// Number k of item e, in a list of `stride` numbers to an item. That k is few stays a clause, here and below: an enum of the numbers
+// would be one for halfedges and another for references.
+#[tactic(auto, unfolding(crate::specs::Mesh::number_at))]
 fn number_at(s: &[i32], e: usize, stride: usize, k: usize) -> i32
     requires { (0 < stride) × (stride ≤ 4) × (k ≤ 4) }
     ensures { result ≡ number_at s.now e stride k }
@@ -70,20 +74,21 @@ fn number_at(s: &[i32], e: usize, stride: usize, k: usize) -> i32
     if s.len() <= e {
         return 0;
     }
-    let at = e * stride + k;
-    if at < s.len() { s[at] } else { 0 }
+    s.get(e * stride + k).copied().unwrap_or(0)
 }
 
 // Number k of halfedge e of any list, as the number of a point or a halfedge. What the questions read.
+#[tactic(auto, unfolding(crate::specs::Mesh::field, crate::specs::Mesh::index_of))]
 fn field(h: &[i32], e: usize, k: usize) -> usize
     requires { k ≤ 4 }
     ensures { result ≡ field h.now e k }
 {
     let x = number_at(h, e, HALFEDGE_STRIDE, k);
-    if x < 0 { NO_INDEX } else { x as usize }
+    usize::try_from(x).unwrap_or(NO_INDEX)
 }
 
 // Number k of a halfedge e that is known to lie in the list, as on an accepted mesh: read without a test.
+#[tactic(auto, unfolding(crate::specs::Mesh::field, crate::specs::Mesh::number_at))]
 fn known_field(h: &[i32], e: usize, k: usize) -> usize
     requires { (e * halfedge_stride + k < length h.now) × (field h.now e k < no_index) }
     ensures { result ≡ field h.now e k }
@@ -91,6 +96,7 @@ fn known_field(h: &[i32], e: usize, k: usize) -> usize
     index_of(h[e * HALFEDGE_STRIDE + k])
 }
 
+#[tactic(auto, unfolding(crate::specs::Mesh::as_halfedges))]
 pub fn start_vert(h: &[i32], e: usize) -> usize
     requires { Inside (as_halfedges h.now) e }
     ensures { result ≡ start_vert (as_halfedges h.now) e }
@@ -98,6 +104,7 @@ pub fn start_vert(h: &[i32], e: usize) -> usize
     known_field(h, e, 0)
 }
 
+#[tactic(auto, unfolding(crate::specs::Mesh::as_halfedges))]
 pub fn end_vert(h: &[i32], e: usize) -> usize
     requires { Inside (as_halfedges h.now) e }
     ensures { result ≡ end_vert (as_halfedges h.now) e }
@@ -105,6 +112,7 @@ pub fn end_vert(h: &[i32], e: usize) -> usize
     known_field(h, e, 1)
 }
 
+#[tactic(auto, unfolding(crate::specs::Mesh::as_halfedges))]
 pub fn paired_halfedge(h: &[i32], e: usize) -> usize
     requires { Inside (as_halfedges h.now) e }
     ensures { result ≡ paired_halfedge (as_halfedges h.now) e }
@@ -120,6 +128,7 @@ pub fn prop_vert(h: &[i32], e: usize) -> usize
     known_field(h, e, 3)
 }
 
+#[tactic(auto, unfolding(crate::specs::Mesh::as_halfedges, crate::specs::Mesh::field, crate::specs::Mesh::number_at))]
 pub fn is_forward(h: &[i32], e: usize) -> bool
     requires { Inside (as_halfedges h.now) e }
     ensures { result ≡ is_forward (as_halfedges h.now) e }
@@ -128,6 +137,7 @@ pub fn is_forward(h: &[i32], e: usize) -> bool
     h[at] < h[at + 1]
 }
 
+#[tactic(auto, unfolding(crate::specs::Mesh::next_halfedge))]
 pub fn next_halfedge(e: usize) -> usize
     requires { e + 1 < 2 ^ 64 }
     ensures { result ≡ next_halfedge e }
@@ -136,6 +146,7 @@ pub fn next_halfedge(e: usize) -> usize
     if n % 3 == 0 { n - 3 } else { n }
 }
 
+#[tactic(auto, unfolding(crate::specs::Mesh::prev_halfedge))]
 pub fn prev_halfedge(e: usize) -> usize
     requires { e + 1 < 2 ^ 64 }
     ensures { result ≡ prev_halfedge e }
@@ -145,7 +156,7 @@ pub fn prev_halfedge(e: usize) -> usize
     base + pos
 }
 
-// Do the references of the triangles a and b have the same number k?
+// Do the references of the triangles a and b have the same number k? No `==` of slices: past the end of a list a number is 0.
 fn same_ref(refs: &[i32], a: usize, b: usize, k: usize) -> bool
     requires { k ≤ 4 }
     ensures { result ≡ eq_z (ref_at refs.now a k) (ref_at refs.now b k) }
@@ -153,25 +164,25 @@ fn same_ref(refs: &[i32], a: usize, b: usize, k: usize) -> bool
     number_at(refs, a, REF_STRIDE, k) == number_at(refs, b, REF_STRIDE, k)
 }
 
+#[tactic(auto, unfolding(crate::specs::Mesh::same_face))]
 pub fn same_face(refs: &[i32], a: usize, b: usize) -> bool
     ensures { result ≡ same_face refs.now a b }
 {
-    common::both(
-        common::both(same_ref(refs, a, b, 0), same_ref(refs, a, b, 1)),
-        same_ref(refs, a, b, 2),
-    )
+    same_ref(refs, a, b, 0) & same_ref(refs, a, b, 1) & same_ref(refs, a, b, 2)
 }
 
 // Question 10 of one smoothness: a number with a clear sign bit.
+#[tactic(auto, using(crate::proofs::Sign::number_sign, crate::proofs::Sign::nan_sign))]
 pub fn sign_clear(x: f64) -> bool
     ensures { result ≡ sign_clear x }
 {
-    if x != x {
+    if x.is_nan() {
         return false;
     }
-    float::bits(x) < 0x8000_0000_0000_0000
+    x.is_sign_positive()
 }
 
+#[tactic(auto, unfolding(crate::specs::Scalar::radians_of))]
 pub fn radians(degrees: f64) -> f64
     ensures { result ≡ radians_of degrees }
 {
@@ -182,33 +193,22 @@ pub fn radians(degrees: f64) -> f64
 pub fn has_length(len: usize, count: usize, per: usize) -> bool
     ensures { result ≡ has_length len count per }
 {
-    if per == 0 {
-        return len == 0;
-    }
-    if len % per != 0 {
-        return false;
-    }
-    len / per == count
+    count.checked_mul(per) == Some(len)
 }
 
-// The number of an answer: that of the question that refuses, and 0 where none does.
+// The number of an answer: that of the question that refuses, and 0 where none does. Number and place have a function each, as each
+// is a value of its own.
 pub fn number_of<T: Copy>(answer: Result<T, Refusal>) -> usize
     ensures { result ≡ number_of answer }
 {
-    match answer {
-        Ok(_) => 0,
-        Err(refusal) => refusal.question as usize,
-    }
+    answer.err().map_or(0, |refusal| refusal.question as usize)
 }
 
 // The place of an answer, 0 where none refuses.
 pub fn place_of<T: Copy>(answer: Result<T, Refusal>) -> usize
     ensures { result ≡ place_of answer }
 {
-    match answer {
-        Ok(_) => 0,
-        Err(refusal) => refusal.place,
-    }
+    answer.err().map_or(0, |refusal| refusal.place)
 }
 
 // The refusal that the questions were answered with, as the answer of a call.
@@ -217,10 +217,7 @@ pub fn refused<T>(checked: Result<(), Refusal>) -> Result<T, Refusal>
     ensures same { IfErr checked (λ refusal. result ≡ Err refusal) }
     ensures answer { (value : T) → result ≡ answer_of checked value }
 {
-    match checked {
-        Ok(()) => unreachable!(),
-        Err(refusal) => Err(refusal),
-    }
+    Err(checked.unwrap_err())
 }
 
 // The answer of a question whose test is put to each of so many places: the one search of all questions.
@@ -244,15 +241,11 @@ fn all_hold(h: &[i32], n: usize, p: usize) -> bool
     if !has_length(h.len(), n, HALFEDGE_STRIDE) {
         return false;
     }
-    for t in 0..n / 3 {
-        if !triangle_holds(h, n, p, t * 3) {
-            return false;
-        }
-    }
-    true
+    (0..n / 3).all(|t| triangle_holds(h, n, p, t * 3))
 }
 
 // The questions 3 to 7, one after the other.
+#[tactic(auto, unfolding(crate::specs::All::ask_each))]
 fn ask_each(h: &[i32], n: usize, p: usize) -> Result<(), Refusal>
     ensures { result ≡ ask_each (as_halfedges h.now) n p }
 {
@@ -263,29 +256,32 @@ fn ask_each(h: &[i32], n: usize, p: usize) -> Result<(), Refusal>
     ask(Question::Joined, n, |e| is_joined(h, e))
 }
 
-// The answer of a question that is put once: a no has place 0.
-fn once(question: Question, answer: bool) -> Result<(), Refusal>
-    ensures { result ≡ once question answer }
+// The answer of a question that is put at one place.
+pub fn ask_at(question: Question, place: usize, answer: bool) -> Result<(), Refusal>
+    ensures { result ≡ asked question place answer }
 {
     if answer {
         return Ok(());
     }
-    Err(Refusal { question, place: 0 })
+    Err(Refusal { question, place })
 }
 
 // The questions 1 to 7. `lengths` is the answer to question 2, which the caller finds of its own lists by `has_length`.
+#[tactic(auto, unfolding(crate::specs::Check::check_mesh, crate::specs::All::ask_each))]
 pub fn check_mesh(h: &[i32], n: usize, p: usize, lengths: bool) -> Result<(), Refusal>
     ensures { result ≡ check_mesh (as_halfedges h.now) n p lengths }
 {
-    once(Question::Counts, counts_fit(n, p))?;
-    once(Question::Lengths, lengths)?;
+    ask_at(Question::Counts, 0, counts_fit(n, p))?;
+    ask_at(Question::Lengths, 0, lengths)?;
     if all_hold(h, n, p) {
         return Ok(());
     }
     ask_each(h, n, p)
 }
 
-// Question 8, after earlier answers: the face references of the triangles.
+// Question 8, after earlier answers: the face references of the triangles. Here and below the earlier answer is a parameter and not the
+// caller's `?`: the contract of a public function says what it answers after any of them.
+#[tactic(auto, unfolding(crate::specs::Check::check_refs))]
 pub fn check_refs(sofar: Result<(), Refusal>, refs: &[i32], n: usize) -> Result<(), Refusal>
     ensures { result ≡ check_refs sofar refs.now n }
 {
@@ -294,6 +290,7 @@ pub fn check_refs(sofar: Result<(), Refusal>, refs: &[i32], n: usize) -> Result<
 }
 
 // The questions 9 and 10, after earlier answers: the sharp entries' halfedges and smoothness.
+#[tactic(auto, unfolding(crate::specs::Check::check_entries))]
 pub fn check_entries(
     sofar: Result<(), Refusal>,
     halfedges: &[usize],
@@ -316,6 +313,7 @@ pub fn check_entries(
 }
 
 // Question 11, after those of `check_mesh`: the flags of the halfedges.
+#[tactic(auto, unfolding(crate::specs::Check::check_flags))]
 pub fn check_flags(mesh: Result<(), Refusal>, flags: &[u8], n: usize) -> Result<(), Refusal>
     ensures { result ≡ check_flags mesh flags.now n }
 {
@@ -324,6 +322,7 @@ pub fn check_flags(mesh: Result<(), Refusal>, flags: &[u8], n: usize) -> Result<
 }
 
 // Question 12, after those of `check_mesh`: the rows of the halfedges, of which there are so many.
+#[tactic(auto, unfolding(crate::specs::Check::check_rows))]
 pub fn check_rows(
     checked: Result<(), Refusal>,
     h: &[i32],

@@ -1,11 +1,9 @@
 -- At a halfedge of the loop the lists hold what the test for a quad reads. Assumes nothing.
-use Prim.Native.Nat.{ℕ}
-use mathlib.Core.List.{List}
-use lib.Ieee.{Float}
-use Rattle.mesh.specs.Mesh.{Halfedges}
+use Prim.Native.Nat.{ℕ, ◌<◌}
 use Rattle.smoothing.specs.Edges.{InsideQuadIn}
 use Rattle.smoothing.proofs.Edges.{inside_quad_in}
-use Rattle.normals_core.specs.Flags.{FlagIn}
+use Rattle.normals_core.specs.declared.quad_lists.QuadLists.{QuadLists}
+use Rattle.normals_core.specs.Flags.{halfedges_of}
 
-pub quad_at : {H : Halfedges} {T : List Float} {Q : List ℕ} {e : ℕ} → FlagIn H T Q e → InsideQuadIn H T e
-quad_at {e = e} w = inside_quad_in _ _ _ _ w.lists.sound w.lists.whole w.lists.tangents e w.below
+pub quad_at : (l : QuadLists) (e : ℕ) → e < l.mesh.n → InsideQuadIn (halfedges_of l) l.t.now e
+quad_at l e h = inside_quad_in _ _ _ _ l.mesh.sound l.mesh.whole l.tangents e h

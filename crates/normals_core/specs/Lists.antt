@@ -6,10 +6,10 @@ use Rattle.normals_walks.specs.Lists.{mesh_of, normal_of}
 use Rattle.normals_core.specs.Core.{normal_tangents, create_tangents_from_normals, from_normals_directionless}
 
 abbrev pub normal_tangents_by : NormalLists → List Float → Bool → Tangents
-normal_tangents_by l T old = normal_tangents (mesh_of l) l.pos.now l.normals.now l.face_normals.now l.refs.now (normal_of l) T old l.n l.p
+normal_tangents_by l T old = normal_tangents (mesh_of l) l.mesh.pos.now l.mesh.normals.now l.mesh.face_normals.now l.mesh.refs.now (normal_of l) T old l.mesh.n l.mesh.p
 
 abbrev pub create_tangents_by : NormalLists → List Float → Bool → List Float
-create_tangents_by l T old = create_tangents_from_normals (mesh_of l) l.pos.now l.normals.now l.face_normals.now l.refs.now (normal_of l) T old l.n l.p
+create_tangents_by l T old = create_tangents_from_normals (mesh_of l) l.mesh.pos.now l.mesh.normals.now l.mesh.face_normals.now l.mesh.refs.now (normal_of l) T old l.mesh.n l.mesh.p
 
 abbrev pub from_normals_count : NormalLists → List Float → Bool → ℕ
-from_normals_count l T old = from_normals_directionless (mesh_of l) l.pos.now l.normals.now l.face_normals.now l.refs.now (normal_of l) T old l.n l.p
+from_normals_count l T old = from_normals_directionless (mesh_of l) l.mesh.pos.now l.mesh.normals.now l.mesh.face_normals.now l.mesh.refs.now (normal_of l) T old l.mesh.n l.mesh.p

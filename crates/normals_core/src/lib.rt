@@ -1,66 +1,62 @@
 // `create_tangents_from_normals` of src/smoothing_tangents.rs on an accepted mesh.
+// Each function asks for its own place (`e < n`): the place differs from call to call, so no struct of the lists can hold it. Lengths
+// of lists that are written stay clauses too: a struct that lends them would make each clause say `lists.exit.t.now` for `t.new`.
 #![tactic(auto)]
 
-ghost use Rattle.std.specs.Prelude.{◌≡◌, false, length, set, replicate};
+mod quad_lists;
+
+ghost use Rattle.std.specs.Prelude.{◌≡◌, ◌<◌, false, length, set, replicate};
 ghost use Rattle.float.specs.Ops.{zero};
-ghost use Rattle.mesh.specs.Mesh.{as_halfedges};
-ghost use Rattle.smoothing.specs.Edges.{InsideQuadIn};
 ghost use Rattle.smoothing.specs.Inner.{put_edge};
 ghost use Rattle.create_shared.specs.Makings.{tangents_of};
 ghost use Rattle.normals_state.specs.Units.{UnitsIn};
-ghost use Rattle.distribute_walks.specs.Walks.{Lists as SpreadLists};
 ghost use Rattle.distribute.specs.Distribute.{spread_tangents};
 ghost use Rattle.normals_core.specs.Core.{MadeIn, ScratchIn};
 ghost use Rattle.normals_core.specs.Lists.{normal_tangents_by, create_tangents_by, from_normals_count};
-ghost use Rattle.normals_core.specs.Flags.{InsideIn, FlagIn, quad_flag, inside_quads, inside_quad_step};
+ghost use Rattle.normals_core.specs.Flags.{halfedges_of, quad_flag_by, inside_quads, inside_quad_step};
 
+use distribute_walks::SpreadLists;
 use normals_walks::{NormalLists, WalkLists};
+use quad_lists::QuadLists;
 
 // The flag of halfedge e: 1 if it is inside a quad.
-fn quad_flag(h: &[i32], refs: &[i32], t: &[f64], old: bool, e: usize) -> u8
-    requires { InsideQuadIn (as_halfedges h.now) t.now e }
-    ensures { result ≡ quad_flag (as_halfedges h.now) refs.now t.now old e }
+#[tactic(auto, using(crate::proofs::Lent::quad_at), unfolding(crate::specs::Flags::quad_flag))]
+fn quad_flag(lists: &QuadLists<'_>, e: usize) -> u8
+    requires { e < lists.now.mesh.n }
+    ensures { result ≡ quad_flag_by lists.now lists.now.old e }
 {
-    if smoothing::is_inside_quad(h, refs, t, old, e) {
-        return 1;
-    }
-    0
+    u8::from(smoothing::is_inside_quad(lists.mesh.h, lists.mesh.refs, lists.t, lists.old, e))
 }
 
-// Writes the flags of both halfedges of an edge at its forward one, e, where there are no old tangents: both are inside a quad
-// or neither is.
-fn put_edge_flags(h: &[i32], refs: &[i32], t: &[f64], inside: &mut [u8], e: usize)
-    requires { FlagIn (as_halfedges h.now) t.now inside.old e }
-    ensures { inside.new ≡ put_edge set (as_halfedges h.now) (quad_flag (as_halfedges h.now) refs.now t.now false) inside.old e }
+// The body of the loop over the halfedges. Where there are no old tangents it writes the flags of both halfedges of an edge at its
+// forward one: both are inside a quad or neither is. `old` is asked at each halfedge: asked before the loop it would take two loops,
+// with an invariant each, for this one.
+#[tactic(auto, unfolding(crate::specs::Flags::inside_quad_step, crate::specs::Flags::inside_quad_at, smoothing::specs::Inner::put_edge))]
+fn inside_quad_step(lists: &QuadLists<'_>, inside: &mut [u8], e: usize)
+    requires { (e < lists.now.mesh.n) × (length inside.old ≡ lists.now.mesh.n) }
+    ensures { inside.new ≡ inside_quad_step (halfedges_of lists.now) lists.now.mesh.refs.now lists.now.t.now lists.now.old inside.old e }
 {
-    if !mesh::is_forward(h, e) {
+    let h = lists.mesh.h;
+    if !lists.old && !mesh::is_forward(h, e) {
         return;
     }
-    let flag = quad_flag(h, refs, t, false, e);
-    let pair = mesh::paired_halfedge(h, e);
+    let flag = quad_flag(lists, e);
     inside[e] = flag;
+    if lists.old {
+        return;
+    }
+    let pair = mesh::paired_halfedge(h, e);
     inside[pair] = flag;
 }
 
-// The body of the loop over the halfedges.
-fn inside_quad_step(h: &[i32], refs: &[i32], t: &[f64], old: bool, inside: &mut [u8], e: usize)
-    requires { FlagIn (as_halfedges h.now) t.now inside.old e }
-    ensures { inside.new ≡ inside_quad_step (as_halfedges h.now) refs.now t.now old inside.old e }
-{
-    if old {
-        inside[e] = quad_flag(h, refs, t, true, e);
-        return;
-    }
-    put_edge_flags(h, refs, t, inside, e);
-}
-
 // A 1 for each halfedge inside a quad and a 0 for each other one, whatever the list held.
-fn inside_quads(n: usize, h: &[i32], refs: &[i32], t: &[f64], old: bool, inside: &mut [u8])
-    requires { InsideIn (as_halfedges h.now) t.now inside.old n }
-    ensures { inside.new ≡ inside_quads (as_halfedges h.now) refs.now t.now old n }
+#[tactic(auto, using(common::proofs::Fold::fold_next), unfolding(common::specs::Fold::fold_to))]
+fn inside_quads(lists: &QuadLists<'_>, inside: &mut [u8])
+    requires { length inside.old ≡ lists.now.mesh.n }
+    ensures { inside.new ≡ inside_quads (halfedges_of lists.now) lists.now.mesh.refs.now lists.now.t.now lists.now.old lists.now.mesh.n }
 {
-    for e in 0..n {
-        inside_quad_step(h, refs, t, old, inside, e);
+    for e in 0..inside.len() {
+        inside_quad_step(lists, inside, e);
     }
 }
 
@@ -74,16 +70,20 @@ fn normal_tangents(
     inside: &mut [u8],
     first: &mut [usize],
 ) -> usize
-    requires { UnitsIn lists.now.face_normals.now face_units.now lists.now.n × MadeIn t.old fixed.old inside.old first.old lists.now.n lists.now.p }
+    requires { UnitsIn lists.now.mesh.face_normals.now face_units.now lists.now.mesh.n × MadeIn t.old fixed.old inside.old first.old lists.now.mesh.n lists.now.mesh.p }
     ensures tangents { tangents_of t.new fixed.new ≡ normal_tangents_by lists.now t.old old }
     ensures directionless { result ≡ from_normals_count lists.now t.old old }
 {
-    let n = lists.n;
-    let h = lists.h;
-    inside_quads(n, h, lists.refs, t, old, inside);
+    let mesh = &lists.mesh;
+    let quads = QuadLists {
+        mesh: *mesh,
+        t,
+        old,
+    };
+    inside_quads(&quads, inside);
     t.fill(0.0);
     fixed.fill(0);
-    create_shared::vert_halfedge(h, first, n);
+    create_shared::vert_halfedge(mesh.h, first, mesh.n);
     let walks = WalkLists {
         lists: *lists,
         face_units,
@@ -94,7 +94,8 @@ fn normal_tangents(
 }
 
 // The tangents of an accepted call, and zeros in all scratch lists; and the count. Until spreading, `current` holds the unit
-// vectors of the triangles' normals.
+// vectors of the triangles' normals. The six lists that are written stay parameters: of a struct that lends them a clause would say
+// `scratch.exit.current.now` for `current.new`.
 pub fn make_tangents(
     lists: &NormalLists<'_>,
     old: bool,
@@ -105,23 +106,27 @@ pub fn make_tangents(
     desired: &mut [f64],
     first: &mut [usize],
 ) -> usize
-    requires { ScratchIn t.old fixed.old inside.old current.old desired.old first.old lists.now.n lists.now.p }
+    requires { ScratchIn t.old fixed.old inside.old current.old desired.old first.old lists.now.mesh.n lists.now.mesh.p }
     ensures tangents { t.new ≡ create_tangents_by lists.now t.old old }
-    ensures fixed { fixed.new ≡ replicate lists.now.n 0 }
-    ensures inside { inside.new ≡ replicate lists.now.n 0 }
-    ensures current { current.new ≡ replicate lists.now.n zero }
-    ensures desired { desired.new ≡ replicate lists.now.n zero }
-    ensures first { first.new ≡ replicate lists.now.p 0 }
+    ensures fixed { fixed.new ≡ replicate lists.now.mesh.n 0 }
+    ensures inside { inside.new ≡ replicate lists.now.mesh.n 0 }
+    ensures current { current.new ≡ replicate lists.now.mesh.n zero }
+    ensures desired { desired.new ≡ replicate lists.now.mesh.n zero }
+    ensures first { first.new ≡ replicate lists.now.mesh.p 0 }
     ensures directionless { result ≡ from_normals_count lists.now t.old old }
 {
-    let n = lists.n;
-    let p = lists.p;
-    let h = lists.h;
-    let pos = lists.pos;
-    let normals = lists.normals;
-    normals_state::put_units(n, lists.face_normals, current);
+    let mesh = &lists.mesh;
+    normals_state::put_units(mesh.face_normals, current);
     let directionless = normal_tangents(lists, current, old, t, fixed, inside, first);
-    distribute::spread_tangents(n, p, h, pos, normals, fixed, t, current, desired);
+    let spread = SpreadLists {
+        n: mesh.n,
+        p: mesh.p,
+        h: mesh.h,
+        pos: mesh.pos,
+        normals: mesh.normals,
+        fixed,
+    };
+    distribute::spread_tangents(&spread, t, current, desired);
     fixed.fill(0);
     inside.fill(0);
     first.fill(0);

@@ -1,4 +1,7 @@
 // What `create_tangents_from_normals` reads of the normals, and what it carries on its way round a vertex cycle.
+// `RowIn` stays in three `requires`: a value that has it would be made at each halfedge, and each maker would have to show it. Each
+// function asks for its own place besides (`e / 3 * 3 + 3 ≤ length face_units`, `t * 3 + 3 ≤ length units`): the place differs from
+// call to call, so no struct of the lists can hold it.
 #![tactic(auto)]
 
 ghost use Rattle.std.specs.Prelude.{◌≡◌, ◌+◌, ◌*◌, ◌/◌, ◌≤◌, length};
@@ -10,13 +13,21 @@ ghost use Rattle.normals_state.specs.Units.{put_unit, put_units};
 use linalg::Vec3;
 
 // The normal of a halfedge, its unit vector, whether it is missing, and whether it is that of its triangle. Each is worked out
-// once, for the halfedge and for the one before it round the point.
+// once, for the halfedge and for the one before it round the point. No Option where the normal is missing: its unit vector is read
+// in each case, by the halfedge after it, and both flags are.
 #[derive(Clone, Copy)]
 pub struct HalfedgeNormal {
     pub normal: Vec3,
     pub unit: Vec3,
     pub zero: bool,
     pub flat: bool,
+}
+
+// The normal of a halfedge and that of the next one round its point.
+#[derive(Clone, Copy)]
+pub struct NormalPair {
+    pub here: HalfedgeNormal,
+    pub next: HalfedgeNormal,
 }
 
 // The Rust's `face_edges`, the halfedges round a point at which a flat face begins or ends: none yet; one; two; or a third, or
@@ -49,6 +60,7 @@ pub struct CycleState {
 // ---- normals
 
 // The normal of halfedge e, which stands at its row. The one place where a row is read.
+#[tactic(auto, unfolding(crate::specs::State::get_normal))]
 pub fn get_normal(h: &[i32], rows: &[f64], e: usize) -> Vec3
     requires { RowIn h.now rows.now e }
     ensures { result ≡ get_normal h.now rows.now e }
@@ -61,7 +73,7 @@ pub fn get_normal(h: &[i32], rows: &[f64], e: usize) -> Vec3
 pub fn is_zero(v: Vec3) -> bool
     ensures { result ≡ is_zero v }
 {
-    common::both(common::both(v.x == 0.0, v.y == 0.0), v.z == 0.0)
+    v == Vec3::ZERO
 }
 
 // A normal, or another where it is missing.
@@ -90,7 +102,7 @@ fn same_normal(a: Vec3, b: Vec3) -> bool
     let same_x = same_number(a.x, b.x);
     let same_y = same_number(a.y, b.y);
     let same_z = same_number(a.z, b.z);
-    common::both(common::both(same_x, same_y), same_z)
+    same_x & same_y & same_z
 }
 
 // The unit vector of a normal, where that of the normal before it is known: on a smooth surface the two are mostly the same.
@@ -117,12 +129,14 @@ fn put_unit(face_normals: &[f64], units: &mut [f64], t: usize)
     units[at + 2] = unit.z;
 }
 
-// The unit vectors of all triangles' normals, three numbers each, whatever the list held.
-pub fn put_units(n: usize, face_normals: &[f64], units: &mut [f64])
-    requires { (length face_normals.now ≡ n) × (length units.old ≡ n) }
-    ensures { units.new ≡ put_units face_normals.now units.old n }
+// The unit vectors of all triangles' normals, three numbers each, whatever the list held. By number and not by chunks: once an
+// iterator's borrow of `units` is over, a proof knows the list's length and not its numbers.
+#[tactic(auto, using(common::proofs::Fold::fold_next), unfolding(crate::specs::Units::put_units, common::specs::Fold::fold_to))]
+pub fn put_units(face_normals: &[f64], units: &mut [f64])
+    requires { length face_normals.now ≡ length units.old }
+    ensures { units.new ≡ put_units face_normals.now units.old (length units.old) }
 {
-    for t in 0..n / 3 {
+    for t in 0..units.len() / 3 {
         put_unit(face_normals, units, t);
     }
 }
@@ -179,6 +193,7 @@ fn add_face_edge(edges: FaceEdges, e: usize) -> FaceEdges
     }
 }
 
+#[tactic(auto, using(crate::proofs::Tests::xor_is), unfolding(crate::specs::State::next_face_edges))]
 fn next_face_edges(here: bool, next: bool, edges: FaceEdges, e: usize) -> FaceEdges
     ensures { result ≡ next_face_edges here next edges e }
 {
@@ -225,11 +240,7 @@ fn next_start(here: bool, next: bool, start: StartHalfedge, e: usize) -> StartHa
 fn next_last(here: bool, next: bool, normal: Vec3, last: Vec3) -> Vec3
     ensures { result ≡ next_last here next normal last }
 {
-    if common::both(!here, next) {
-        normal
-    } else {
-        last
-    }
+    if !here & next { normal } else { last }
 }
 
 // What is carried before the first halfedge.
@@ -239,24 +250,17 @@ pub fn start_state() -> CycleState
     CycleState {
         face_edges: FaceEdges::NoEdge,
         start_halfedge: StartHalfedge::NoneMissing,
-        last_normal: Vec3 {
-            x: 0.0,
-            y: 0.0,
-            z: 0.0,
-        },
+        last_normal: Vec3::ZERO,
     }
 }
 
 // What is carried after halfedge e, by its normal and the next one round its point, whatever these are.
 #[tactic(auto, unfolding(crate::specs::Carried::next_state_of))]
-pub fn next_state(
-    state: CycleState,
-    here: HalfedgeNormal,
-    next: HalfedgeNormal,
-    e: usize,
-) -> CycleState
-    ensures { result ≡ next_state_of state here next e }
+pub fn next_state(state: CycleState, normals: &NormalPair, e: usize) -> CycleState
+    ensures { result ≡ next_state_of state normals.now.here normals.now.next e }
 {
+    let here = normals.here;
+    let next = normals.next;
     let edges = state.face_edges;
     let start = state.start_halfedge;
     let last = state.last_normal;
@@ -272,12 +276,9 @@ pub fn next_state(
 pub fn spoil_face_edges(state: CycleState) -> CycleState
     ensures { result ≡ spoil_face_edges state }
 {
-    let start_halfedge = state.start_halfedge;
-    let last_normal = state.last_normal;
     CycleState {
         face_edges: FaceEdges::Spoiled,
-        start_halfedge,
-        last_normal,
+        ..state
     }
 }
 
@@ -285,9 +286,5 @@ pub fn spoil_face_edges(state: CycleState) -> CycleState
 pub fn some_missing(start: StartHalfedge) -> bool
     ensures { result ≡ some_missing start }
 {
-    match start {
-        StartHalfedge::NoneMissing => false,
-        StartHalfedge::SomeMissing => true,
-        StartHalfedge::StartAt(_) => true,
-    }
+    !matches!(start, StartHalfedge::NoneMissing)
 }

@@ -9,7 +9,7 @@ use Rattle.float.specs.Ops.{zero, one}
 use Rattle.linalg.specs.declared.Vec3.{Vec3}
 use Rattle.linalg.specs.declared.Vec4.{Vec4}
 use Rattle.mesh.specs.Mesh.{Halfedges}
-use Rattle.smoothing.specs.Directions.{vec3_from_vec4, circular_tangent}
+use Rattle.smoothing.specs.Directions.{vec3_from_vec4, with_weight, circular_tangent}
 use Rattle.smoothing.specs.Edges.{edge_vec}
 use Rattle.smoothing.proofs.Inner.{tangent_by_direction}
 use Rattle.smoothing.specs.Lists.{tangent_at, put_tangent}
@@ -22,8 +22,10 @@ use Rattle.normals_state.specs.State.{is_missing, next_state}
 use Rattle.normals_state.specs.Carried.{halfedge_normal}
 use Rattle.normals_state.specs.Units.{UnitsIn}
 use Rattle.normals_state.proofs.Carried.{next_state_by}
-use Rattle.normals_steps.specs.Steps.{tangent_between, with_weight, inside_quad_weight, missing_normal_weight, flag_tangent, Walk, walk_of, tangent_step, normal_step, normal_step_directionless}
-use Rattle.normals_steps.specs.Carried.{direction_between, tangent_step_of, normal_step_of, normal_step_directionless_of}
+use Rattle.normals_steps.specs.Steps.{tangent_between, inside_quad_weight, missing_normal_weight, flag_tangent, Walk, walk_of, tangent_step, normal_step, normal_step_directionless}
+use Rattle.normals_state.specs.declared.NormalPair.{NormalPair}
+use Rattle.normals_steps.specs.declared.FaceLists.{FaceLists}
+use Rattle.normals_steps.specs.Carried.{halfedges_of, direction_between, tangent_step_of, normal_step_of, normal_step_directionless_of}
 
 -- ---- the weight says whether there is a flag
 
@@ -57,14 +59,19 @@ no_flag_is false false last t h = refl
 
 -- ---- a halfedge e without a flag
 
-pub tangent_between_by : (H : Halfedges) (P A : List Float) (a b : Vec3) (equal : Bool) (e : ℕ) → tangent_between H P A a b equal e ≡ circular_tangent (direction_between H A a b equal (edge_vec H P e) e) (edge_vec H P e)
+-- by its direction
+pub tangent_between_by : (l : FaceLists) (a b : Vec3) (equal : Bool) (e : ℕ) → tangent_between (halfedges_of l) l.pos.now l.face_normals.now a b equal e ≡ circular_tangent (direction_between l a b equal (edge_vec (halfedges_of l) l.pos.now e) e) (edge_vec (halfedges_of l) l.pos.now e)
 unfolding tangent_between direction_between
-tangent_between_by H P A a b true e = tangent_by_direction H P A a e
-tangent_between_by H P A a b false e = refl
+tangent_between_by l a b true e = tangent_by_direction (halfedges_of l) l.pos.now l.face_normals.now a e
+tangent_between_by l a b false e = refl
 
-pub tangent_step_by : (H : Halfedges) (P A U : List Float) (normal : ℕ → Vec3) (m : Walk) (e : ℕ) → tangent_step H P A normal m e ≡ tangent_step_of H P A (halfedge_normal U normal e) (halfedge_normal U normal (next_around H e)) m e
+-- the normals of halfedge e and of the next one round its point; U are the unit vectors of the triangles' normals
+abbrev pub pair_at : Halfedges → List Float → (ℕ → Vec3) → ℕ → NormalPair
+pair_at H U normal e = record { here = halfedge_normal U normal e; next = halfedge_normal U normal (next_around H e) }
+
+pub tangent_step_by : (l : FaceLists) (U : List Float) (normal : ℕ → Vec3) (m : Walk) (e : ℕ) → tangent_step (halfedges_of l) l.pos.now l.face_normals.now normal m e ≡ tangent_step_of l (pair_at (halfedges_of l) U normal e) m e
 unfolding tangent_step tangent_step_of halfedge_normal
-tangent_step_by H P A U normal m e = rw (equal_by_units (normal (next_around H e)) (normal e)) refl
+tangent_step_by l U normal m e = rw (equal_by_units (normal (next_around (halfedges_of l) e)) (normal e)) refl
 
 -- ---- the body of the loop, at halfedge e
 
@@ -84,14 +91,6 @@ module _ (H : Halfedges) (P A : List Float) (normal : ℕ → Vec3) (inside : �
   step_cases false k =
       simp (no_flag_is (is_missing H normal e) (inside e) after.last_normal (tangent_at m.tangents e) k, weight_put_same m.tangents e (with_weight (vec3_from_vec4 (tangent_at m.tangents e)) one) h, one_above, put_put)
 
-  -- U holds the unit vectors of the triangles' normals
-  pub normal_step_by : {U : List Float} {n : ℕ} → UnitsIn A U n → e / 3 * 3 + 3 ≤ n → next_around H e / 3 * 3 + 3 ≤ n
-      → normal_step H P A normal inside m e ≡ normal_step_of H P A inside (halfedge_normal U normal e) (halfedge_normal U normal (next_around H e)) m e
-  unfolding normal_step_of is_missing halfedge_normal
-  normal_step_by {U} w j k =
-      step_cases (inside e || is_missing H normal e) refl
-      ∙ rw (next_state_by w H normal m.state e j k, tangent_step_by H P A U normal) refl
-
   -- and what it counts
   count_cases : (b : Bool) → inside e || is_missing H normal e ≡ b → normal_step_directionless H P A normal inside m e ≡ cond b 0 (directionless_at H P e)
   unfolding normal_step_directionless
@@ -100,6 +99,16 @@ module _ (H : Halfedges) (P A : List Float) (normal : ℕ → Vec3) (inside : �
   count_cases false k =
       simp (no_flag_is (is_missing H normal e) (inside e) after.last_normal (tangent_at m.tangents e) k, weight_put_same m.tangents e (with_weight (vec3_from_vec4 (tangent_at m.tangents e)) one) h, one_above)
 
-  pub normal_count_by : (U : List Float) → normal_step_directionless H P A normal inside m e ≡ normal_step_directionless_of H P inside (halfedge_normal U normal e) (halfedge_normal U normal (next_around H e)) e
+-- by the normals of the lists
+module _ (l : FaceLists) (normal : ℕ → Vec3) (inside : ℕ → Bool) (m : Walk) (e : ℕ) (h : e * 4 + 4 ≤ length m.tangents) where
+  pub normal_step_by : {U : List Float} {n : ℕ} → UnitsIn l.face_normals.now U n → e / 3 * 3 + 3 ≤ n → next_around (halfedges_of l) e / 3 * 3 + 3 ≤ n
+      → normal_step (halfedges_of l) l.pos.now l.face_normals.now normal inside m e ≡ normal_step_of l inside (pair_at (halfedges_of l) U normal e) m e
+  unfolding normal_step_of is_missing halfedge_normal
+  normal_step_by {U} w j k =
+      step_cases (halfedges_of l) l.pos.now l.face_normals.now normal inside m e h (inside e || is_missing (halfedges_of l) normal e) refl
+      ∙ rw (next_state_by w (halfedges_of l) normal m.state e j k, tangent_step_by l U normal) refl
+
+  pub normal_count_by : (U : List Float) → normal_step_directionless (halfedges_of l) l.pos.now l.face_normals.now normal inside m e ≡ normal_step_directionless_of l inside (pair_at (halfedges_of l) U normal e) e
   unfolding normal_step_directionless_of is_missing halfedge_normal
-  normal_count_by U = count_cases (inside e || is_missing H normal e) refl
+  normal_count_by U =
+      count_cases (halfedges_of l) l.pos.now l.face_normals.now normal inside m e h (inside e || is_missing (halfedges_of l) normal e) refl

@@ -1,7 +1,7 @@
 -- On an accepted mesh the lent lists hold what `normals_steps` reads and writes, and a walk names only such halfedges as it comes by. Assumes nothing.
 use Prim.Native.Nat.{ℕ}
 use mathlib.Core.Path.{◌≡◌, sym, subst}
-use mathlib.Core.Bool.{Bool, true, false, cond, xor}
+use mathlib.Core.Bool.{Bool, true, false, xor}
 use mathlib.Core.List.{List}
 use lib.Ieee.{Float, lt}
 use Rattle.float.specs.Ops.{zero}
@@ -16,6 +16,7 @@ use Rattle.normals_state.specs.declared.StartHalfedge.{StartHalfedge}
 use Rattle.normals_state.specs.declared.StartHalfedge.TheVariants.{NoneMissing, SomeMissing, StartAt}
 use Rattle.normals_state.specs.declared.CycleState.{CycleState}
 use Rattle.normals_state.specs.State.{is_missing, add_face_edge, next_face_edges, set_start, missing_start, next_start, start_state, next_state, spoil_face_edges}
+use Rattle.std.proofs.lemmas.Bool.{cond_both}
 use Rattle.normals_steps.specs.Steps.{FaceEdgesNames, StartNames, StateNames, flag_tangent, Walk, walk_of, tangent_step, normal_step}
 
 -- ---- the halfedges that a walk names are such as it comes by
@@ -23,10 +24,6 @@ use Rattle.normals_steps.specs.Steps.{FaceEdgesNames, StartNames, StateNames, fl
 module _ (Q : ℕ → Type 0) where
   pub state_start : StateNames Q start_state
   state_start = record { face_edges = tt; start_halfedge = tt }
-
-  either_way : (b : Bool) (x y : Walk) → StateNames Q x.state → StateNames Q y.state → StateNames Q (cond b x y).state
-  either_way true x y p q = p
-  either_way false x y p q = q
 
   module _ {e : ℕ} (h : Q e) where
     face_edge_added : (f : FaceEdges) → FaceEdgesNames Q f → FaceEdgesNames Q (add_face_edge f e)
@@ -65,7 +62,7 @@ module _ (Q : ℕ → Type 0) where
 
       tangent_state : (m : Walk) → StateNames Q m.state → StateNames Q (tangent_step H P A normal m e).state
       unfolding tangent_step spoil_face_edges
-      tangent_state m w = either_way (equal_normals (normal (next_around H e)) (normal e)) _ _ w (record { face_edges = tt; start_halfedge = w.start_halfedge })
+      tangent_state m w = cond_both (equal_normals (normal (next_around H e)) (normal e)) _ _ (λ (k : Walk). StateNames Q k.state) (λ q. w) (λ q. record { face_edges = tt; start_halfedge = w.start_halfedge })
 
       -- after the body of the first loop, at halfedge e
       pub state_step : (m : Walk) → StateNames Q m.state → StateNames Q (normal_step H P A normal inside m e).state
@@ -73,7 +70,7 @@ module _ (Q : ℕ → Type 0) where
       state_step m w =
           let k = state_next m.state w in
           let T = put_tangent m.tangents e (flag_tangent (is_missing H normal e) (inside e) (next_state H A normal m.state e).last_normal (tangent_at m.tangents e)) in
-          either_way (lt (weight_at T e) zero) _ _ k (tangent_state (walk_of T m.fixed (next_state H A normal m.state e)) k)
+          cond_both (lt (weight_at T e) zero) _ _ (λ (k : Walk). StateNames Q k.state) (λ q. k) (λ q. tangent_state (walk_of T m.fixed (next_state H A normal m.state e)) k)
 
       pub state_after : (m : Walk) {m' : Walk} → m' ≡ normal_step H P A normal inside m e → StateNames Q m.state → StateNames Q m'.state
       state_after m q w = subst (λ (z : Walk). StateNames Q z.state) (sym q) (state_step m w)

@@ -6,7 +6,7 @@ use Rattle.linalg.specs.declared.Vec3.{Vec3}
 use Rattle.linalg.specs.declared.Vec4.{Vec4}
 use Rattle.linalg.specs.Vec.{sub3, neg3, dot_of, cross_of, normalize_of}
 use Rattle.mesh.specs.Mesh.{Halfedges}
-use Rattle.smoothing.specs.Directions.{vec3_from_vec4, equal_normals, circular_tangent}
+use Rattle.smoothing.specs.Directions.{vec3_from_vec4, with_weight, equal_normals, circular_tangent}
 use Rattle.smoothing.specs.Lists.{tangent_at, put_tangent, weight_at, is_marked_inside_quad}
 use Rattle.smoothing.specs.Edges.{edge_vec, tangent_from_normal}
 use Rattle.cycles.specs.Cycles.{next_around}
@@ -60,9 +60,6 @@ tangent_between H P A a b equal e =
     cond equal (tangent_from_normal H P A a e) (circular_tangent (signed_dir a b (edge_vec H P e)) (edge_vec H P e))
 
 -- ---- the loop round the vertex cycle
-
-abbrev pub with_weight : Vec3 → Float → Vec4
-with_weight v w = record { x = v.x; y = v.y; z = v.z; w = w }
 
 -- `K_INSIDE_QUAD` and `K_MISSING_NORMAL`
 abbrev pub inside_quad_weight : Float

@@ -17,25 +17,23 @@ use Rattle.normals_walks.specs.Lists.{mesh_of}
 
 module _ (l : NormalLists) where
   -- with as many tangents and fixed flags
-  pub making_in : {T : List Float} {X : List ℕ} → length T ≡ l.n * 4 → length X ≡ l.n → MakingIn (mesh_of l) l.pos.now T X l.n
-  making_in q x = record { tangents = record { points = l.p; sound = l.sound; whole = l.whole; tangents = q }; positions = l.positions; fixed = x }
-
-  pub point_in : {v : ℕ} → v < l.p → v * 3 + 3 ≤ length l.normals.now
-  point_in h = omega (arith, l.point_normals)
+  pub making_in : {T : List Float} {X : List ℕ} → length T ≡ l.mesh.n * 4 → length X ≡ l.mesh.n → MakingIn (mesh_of l) l.mesh.pos.now T X (length X)
+  making_in q x =
+      rw x (record { tangents = record { points = l.mesh.p; sound = l.mesh.sound; whole = l.mesh.whole; tangents = q }; positions = l.mesh.positions; fixed = x })
 
   -- the row of x, the next halfedge round e's point, and the triangles of both
-  module _ {e : ℕ} (h : e < l.n) where
-    pub next_in : {x : ℕ} → x ≡ next_around (mesh_of l) e → RowIn l.h.now l.rows.now x
-    next_in {x} q = l.halfedge_normals x (omega (arith, next_below l.sound e h))
+  module _ {e : ℕ} (h : e < l.mesh.n) where
+    pub next_in : {x : ℕ} → x ≡ next_around (mesh_of l) e → RowIn l.mesh.h.now l.rows.now x
+    next_in {x} q = l.halfedge_normals x (omega (arith, next_below l.mesh.sound e h))
 
-    pub here_face_in : e / 3 * 3 + 3 ≤ l.n
-    here_face_in = omega (arith, l.sound.triangles)
+    pub here_face_in : e / 3 * 3 + 3 ≤ l.mesh.n
+    here_face_in = omega (arith, l.mesh.sound.triangles)
 
-    pub next_face_in : {x : ℕ} → x ≡ next_around (mesh_of l) e → x / 3 * 3 + 3 ≤ l.n
-    next_face_in q = omega (arith, l.sound.triangles, next_below l.sound e h)
+    pub next_face_in : {x : ℕ} → x ≡ next_around (mesh_of l) e → x / 3 * 3 + 3 ≤ l.mesh.n
+    next_face_in q = omega (arith, l.mesh.sound.triangles, next_below l.mesh.sound e h)
 
 -- the halfedge in its place of `first` starts there
-pub starts_there : (w : WalkLists) {v : ℕ} → v < w.lists.p → get_or w.first.now v 0 < w.lists.n → start_vert (mesh_of w.lists) (get_or w.first.now v 0) ≡ v
+pub starts_there : (w : WalkLists) {v : ℕ} → v < w.lists.mesh.p → get_or w.first.now v 0 < w.lists.mesh.n → start_vert (mesh_of w.lists) (get_or w.first.now v 0) ≡ v
 starts_there w {v} l h =
     let q = w.lowest v l in
-    ap (start_vert (mesh_of w.lists)) q ∙ vert_halfedge_starts (mesh_of w.lists) w.lists.n v (subst (λ (x : ℕ). x < w.lists.n) q h)
+    ap (start_vert (mesh_of w.lists)) q ∙ vert_halfedge_starts (mesh_of w.lists) w.lists.mesh.n v (subst (λ (x : ℕ). x < w.lists.mesh.n) q h)

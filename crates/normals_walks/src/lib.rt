@@ -1,5 +1,6 @@
 // The loops of `create_tangents_from_normals` round a vertex cycle, what it does at a point, and the loop over the points; and how
 // many circular tangents each computes on an edge without direction. No walk has a guard: a vertex cycle comes back.
+// Each function asks for its own place (`e < n`, `v < p`): the place differs from call to call, so no struct of the lists can hold it.
 #![tactic(auto)]
 
 mod lists;
@@ -11,33 +12,32 @@ ghost use Rattle.normals_walks.specs.Lists.{normal_walk_by, vert_normal_walk_by,
 ghost use Rattle.normals_walks.specs.Lists.{normal_walk_count, vert_normal_walk_count, fill_walk_count, fill_missing_count, finish_vert_count, normals_vert_count, normals_verts_count};
 
 pub use crate::lists::{NormalLists, WalkLists};
+use create_shared::Counted;
 use linalg::Vec3;
-use normals_state::{CycleState, StartHalfedge};
-
-// What the first loop carries after the last halfedge, and what it counts.
-#[derive(Clone, Copy)]
-pub struct NormalWalk {
-    pub state: CycleState,
-    pub directionless: usize,
-}
+use normals_state::{CycleState, NormalPair, StartHalfedge};
+use normals_steps::FaceLists;
 
 // ---- a vertex cycle
 
-// The first loop, from halfedge e: what it carries after the last one, and what it counts. The two lists that are written stay
-// parameters: of a struct that lends them a clause would say `made.entry.t.now` for `t.old` and `made.exit.t.now` for `t.new`.
-fn normal_walk(walks: &WalkLists<'_>, t: &mut [f64], fixed: &mut [u8], e: usize) -> NormalWalk
-    requires { (e < walks.now.lists.n) × (length t.old ≡ walks.now.lists.n * 4) × (length fixed.old ≡ walks.now.lists.n) }
-    ensures state { walk_of t.new fixed.new result.state ≡ normal_walk_by walks.now (tangents_of t.old fixed.old) e }
-    ensures state_in { StateIn walks.now.lists.n result.state }
+// The first loop, from halfedge e: what it carries after the last one, and what it counts. A loop and no iterator, here and in both
+// walks below: document 01 names this form. The two lists that are written stay parameters, and their lengths clauses, here and
+// below: of a struct that lends them a clause would say `made.entry.t.now` for `t.old` and `made.exit.t.now` for `t.new`.
+fn normal_walk(
+    walks: &WalkLists<'_>,
+    t: &mut [f64],
+    fixed: &mut [u8],
+    e: usize,
+) -> Counted<CycleState>
+    requires { (e < walks.now.lists.mesh.n) × (length t.old ≡ walks.now.lists.mesh.n * 4) × (length fixed.old ≡ walks.now.lists.mesh.n) }
+    ensures state { walk_of t.new fixed.new result.value ≡ normal_walk_by walks.now (tangents_of t.old fixed.old) e }
+    ensures state_in { StateIn walks.now.lists.mesh.n result.value }
     ensures directionless { result.directionless ≡ normal_walk_count walks.now (tangents_of t.old fixed.old) e }
 {
-    let lists = &walks.lists;
-    let n = lists.n;
-    let h = lists.h;
-    let pos = lists.pos;
-    let face_normals = lists.face_normals;
-    let rows = lists.rows;
+    let mesh = &walks.lists.mesh;
+    let h = mesh.h;
+    let rows = walks.lists.rows;
     let face_units = walks.face_units;
+    let faces = FaceLists::from(mesh);
     let inside = walks.inside;
     let mut state = normals_state::start_state();
     let mut here = normals_state::halfedge_normal(h, face_units, rows, e);
@@ -53,20 +53,9 @@ fn normal_walk(walks: &WalkLists<'_>, t: &mut [f64], fixed: &mut [u8], e: usize)
             here.unit,
             following,
         );
-        let step = normals_steps::normal_step(
-            n,
-            h,
-            pos,
-            face_normals,
-            inside,
-            t,
-            fixed,
-            state,
-            here,
-            next,
-            current,
-        );
-        state = step.state;
+        let normals = NormalPair { here, next };
+        let step = normals_steps::normal_step(&faces, inside, t, fixed, state, &normals, current);
+        state = step.value;
         directionless += step.directionless;
         here = next;
         current = following;
@@ -74,25 +63,25 @@ fn normal_walk(walks: &WalkLists<'_>, t: &mut [f64], fixed: &mut [u8], e: usize)
             break;
         }
     }
-    NormalWalk {
-        state,
+    Counted {
+        value: state,
         directionless,
     }
 }
 
 // All normals are missing: the loop that takes the point's normal, from halfedge e.
 fn vert_normal_walk(lists: &NormalLists<'_>, normal: Vec3, t: &mut [f64], e: usize) -> usize
-    requires { (e < lists.now.n) × (length t.old ≡ lists.now.n * 4) }
+    requires { (e < lists.now.mesh.n) × (length t.old ≡ lists.now.mesh.n * 4) }
     ensures tangents { t.new ≡ vert_normal_walk_by lists.now normal t.old e }
     ensures directionless { result ≡ vert_normal_walk_count lists.now normal t.old e }
 {
-    let h = lists.h;
-    let pos = lists.pos;
-    let face_normals = lists.face_normals;
+    let mesh = &lists.mesh;
+    let h = mesh.h;
+    let faces = FaceLists::from(mesh);
     let mut directionless = 0;
     let mut current = e;
     loop {
-        directionless += normals_steps::vert_normal_step(h, pos, face_normals, normal, t, current);
+        directionless += normals_steps::vert_normal_step(&faces, normal, t, current);
         current = cycles::next_around(h, current);
         if current == e {
             break;
@@ -102,22 +91,23 @@ fn vert_normal_walk(lists: &NormalLists<'_>, normal: Vec3, t: &mut [f64], e: usi
 }
 
 // Some normals are missing: the loop that fills them in, backwards from `start`. `last` is the last normal of the first loop.
+#[tactic(auto, using(mesh::proofs::Halfedges::prev_below))]
 fn fill_walk(lists: &NormalLists<'_>, last: Vec3, t: &mut [f64], start: usize) -> usize
-    requires { (start < lists.now.n) × (length t.old ≡ lists.now.n * 4) }
+    requires { (start < lists.now.mesh.n) × (length t.old ≡ lists.now.mesh.n * 4) }
     ensures tangents { t.new ≡ fill_walk_by lists.now last t.old start }
     ensures directionless { result ≡ fill_walk_count lists.now last t.old start }
 {
-    let h = lists.h;
-    let pos = lists.pos;
-    let face_normals = lists.face_normals;
+    let mesh = &lists.mesh;
+    let h = mesh.h;
     let rows = lists.rows;
+    let faces = FaceLists::from(mesh);
     let next = cycles::next_around(h, start);
     let mut prev = normals_state::get_normal(h, rows, next);
     let mut directionless = 0;
     let mut current = start;
     loop {
-        let step = normals_steps::fill_step(h, pos, face_normals, rows, last, t, prev, current);
-        prev = step.prev;
+        let step = normals_steps::fill_step(&faces, rows, last, t, prev, current);
+        prev = step.value;
         directionless += step.directionless;
         current = cycles::prev_around(h, current);
         if current == start {
@@ -128,8 +118,9 @@ fn fill_walk(lists: &NormalLists<'_>, last: Vec3, t: &mut [f64], start: usize) -
 }
 
 // The same where there is a halfedge to start from.
+#[tactic(auto, unfolding(crate::specs::Walks::fill_missing, crate::specs::Walks::fill_missing_directionless))]
 fn fill_missing(lists: &NormalLists<'_>, last: Vec3, t: &mut [f64], start: StartHalfedge) -> usize
-    requires { StartIn lists.now.n start × (length t.old ≡ lists.now.n * 4) }
+    requires { StartIn lists.now.mesh.n start × (length t.old ≡ lists.now.mesh.n * 4) }
     ensures tangents { t.new ≡ fill_missing_by lists.now last t.old start }
     ensures directionless { result ≡ fill_missing_count lists.now last t.old start }
 {
@@ -143,6 +134,7 @@ fn fill_missing(lists: &NormalLists<'_>, last: Vec3, t: &mut [f64], start: Start
 // ---- a point
 
 // What follows the first loop, at point v with its lowest halfedge e, and what it counts.
+#[tactic(auto, unfolding(crate::specs::Walks::finish_vert, crate::specs::Walks::finish_vert_directionless))]
 fn finish_vert(
     lists: &NormalLists<'_>,
     t: &mut [f64],
@@ -151,55 +143,48 @@ fn finish_vert(
     v: usize,
     e: usize,
 ) -> usize
-    requires { (e < lists.now.n) × (v < lists.now.p) × StateIn lists.now.n state × (length t.old ≡ lists.now.n * 4) × (length fixed.old ≡ lists.now.n) }
+    requires { (e < lists.now.mesh.n) × (v < lists.now.mesh.p) × StateIn lists.now.mesh.n state × (length t.old ≡ lists.now.mesh.n * 4) × (length fixed.old ≡ lists.now.mesh.n) }
     ensures tangents { tangents_of t.new fixed.new ≡ finish_vert_by lists.now (walk_of t.old fixed.old state) v e }
     ensures directionless { result ≡ finish_vert_count lists.now (walk_of t.old fixed.old state) v e }
 {
+    let mesh = &lists.mesh;
     let start = state.start_halfedge;
     let last = state.last_normal;
-    if common::both(
-        normals_state::some_missing(start),
-        normals_state::is_zero(last),
-    ) {
-        let normal = smoothing::point_at(lists.normals, v);
+    if normals_state::some_missing(start) & normals_state::is_zero(last) {
+        let normal = smoothing::point_at(mesh.normals, v);
         return vert_normal_walk(lists, normal, t, e);
     }
     let filled = fill_missing(lists, last, t, start);
-    let aligned = normals_steps::align_face_edges(
-        lists.n,
-        lists.h,
-        lists.pos,
-        t,
-        fixed,
-        state.face_edges,
-    );
+    let aligned = normals_steps::align_face_edges(mesh.h, mesh.pos, t, fixed, state.face_edges);
     filled + aligned
 }
 
 // The body of the loop over the points, at point v, and what it counts: nothing where no halfedge starts.
+#[tactic(auto, unfolding(crate::specs::Walks::normals_vert, crate::specs::Walks::normals_vert_directionless))]
 fn normals_vert(walks: &WalkLists<'_>, t: &mut [f64], fixed: &mut [u8], v: usize) -> usize
-    requires { (v < walks.now.lists.p) × (length t.old ≡ walks.now.lists.n * 4) × (length fixed.old ≡ walks.now.lists.n) }
+    requires { (v < walks.now.lists.mesh.p) × (length t.old ≡ walks.now.lists.mesh.n * 4) × (length fixed.old ≡ walks.now.lists.mesh.n) }
     ensures tangents { tangents_of t.new fixed.new ≡ normals_vert_by walks.now (tangents_of t.old fixed.old) v }
     ensures directionless { result ≡ normals_vert_count walks.now (tangents_of t.old fixed.old) v }
 {
-    let n = walks.lists.n;
+    let n = walks.lists.mesh.n;
     let e = walks.first[v];
     if e >= n {
         return 0;
     }
     let walk = normal_walk(walks, t, fixed, e);
-    let finish = finish_vert(&walks.lists, t, fixed, walk.state, v, e);
+    let finish = finish_vert(&walks.lists, t, fixed, walk.value, v, e);
     walk.directionless + finish
 }
 
 // The loop over the points, and what it counts.
+#[tactic(auto, using(common::proofs::Fold::fold_next, crate::proofs::Counting::turn), unfolding(common::specs::Fold::fold_to, crate::specs::Walks::normals_verts_directionless))]
 pub fn normals_verts(walks: &WalkLists<'_>, t: &mut [f64], fixed: &mut [u8]) -> usize
-    requires { (length t.old ≡ walks.now.lists.n * 4) × (length fixed.old ≡ walks.now.lists.n) }
+    requires { (length t.old ≡ walks.now.lists.mesh.n * 4) × (length fixed.old ≡ walks.now.lists.mesh.n) }
     ensures tangents { tangents_of t.new fixed.new ≡ normals_verts_by walks.now (tangents_of t.old fixed.old) }
     ensures directionless { result ≡ normals_verts_count walks.now (tangents_of t.old fixed.old) }
 {
     let mut directionless = 0;
-    for v in 0..walks.lists.p {
+    for v in 0..walks.lists.mesh.p {
         directionless += normals_vert(walks, t, fixed, v);
     }
     directionless

@@ -4,7 +4,7 @@ use native.Mathlib.Omega.{arith}
 use native.Mathlib.Decide.{ℕ_discrete}
 use mathlib.Core.Path.{◌≡◌, refl, sym, ap, ◌∙◌, subst}
 use mathlib.Core.Logic.{◌⊎◌, inl, inr}
-use mathlib.Core.Bool.{Bool, true, false, cond, true≢false, ◌&&◌, ◌||◌}
+use mathlib.Core.Bool.{Bool, true, false, true≢false, ◌&&◌, ◌||◌}
 use mathlib.Core.List.{List, foldl}
 use borrow.Author.Tests.{ltb-true}
 use lib.Dec.{ltb}
@@ -25,8 +25,9 @@ use Rattle.create_shared.specs.Makings.{Tangents, tangents_of}
 use Rattle.normals_state.specs.declared.StartHalfedge.{StartHalfedge}
 use Rattle.normals_state.specs.declared.StartHalfedge.TheVariants.{NoneMissing, SomeMissing, StartAt}
 use Rattle.normals_state.specs.State.{is_zero, is_missing, some_missing, set_start, missing_start, next_start, next_last, zero_normal, start_state}
-use Rattle.normals_steps.specs.Steps.{missing_normal_weight, Walk, walk_of, normal_step, vert_normal_step, fill_of, fill_step, align_face_edges}
+use Rattle.normals_steps.specs.Steps.{missing_normal_weight, Walk, walk_of, normal_step, vert_normal_step, fill_of, fill_step}
 use Rattle.normals_walks.specs.Walks.{normal_walk, vert_normal_walk, fill_walk, fill_missing, finish_vert, normals_vert}
+use Rattle.std.proofs.lemmas.Bool.{cond_both}
 use Rattle.normals_weights.proofs.Folds.{list_keeps, list_gains}
 use Rattle.normals_weights.proofs.Writes.{Writes, Made, MadeOrMissing, vert_normal_writes, vert_normal_made, fill_writes, fill_made, align_length, align_keeps, Flagged, normal_writes, normal_flagged, normal_start, normal_last}
 
@@ -232,13 +233,10 @@ module _ {H : Halfedges} {n p : ℕ} (S : Sound H n p) (h : ℕ) (h_below : h < 
 
         finish_length : (N : List Float) (v : ℕ) → length (finish_vert H P N A normal n after v h).tangents ≡ n * 4
         unfolding finish_vert
-        finish_length N v = go (some_missing start_after && is_zero after.state.last_normal)
-          where
-            go : (c : Bool)
-                → length (cond c (tangents_of (vert_normal_walk H P A n (point_at N v) after.tangents h) after.fixed)
-                (align_face_edges H P (tangents_of (fill_missing H P A normal n after.state.last_normal after.tangents start_after) after.fixed) after.state.face_edges)).tangents ≡ n * 4
-            go true = vert_normal_length (point_at N v)
-            go false = align_length H P _ after.state.face_edges ∙ fill_missing_length after.state.last_normal start_after
+        finish_length N v =
+            cond_both (some_missing start_after && is_zero after.state.last_normal) _ _ (λ (k : Tangents). length k.tangents ≡ n * 4)
+            (λ q. vert_normal_length (point_at N v))
+            (λ q. align_length H P _ after.state.face_edges ∙ fill_missing_length after.state.last_normal start_after)
 
         -- ---- at halfedge d, whose weight was made before
 
@@ -323,15 +321,11 @@ module _ {H : Halfedges} {n p : ℕ} (S : Sound H n p) (h : ℕ) (h_below : h < 
 
           finish_made : (N : List Float) (v : ℕ) → Made H P (finish_vert H P N A normal n after v h).tangents d
           unfolding finish_vert
-          finish_made N v = go (some_missing start_after && is_zero last_after) refl
-            where
-              go : (c : Bool) → (some_missing start_after && is_zero last_after) ≡ c
-                  → Made H P (cond c (tangents_of (vert_normal_walk H P A n (point_at N v) after.tangents h) after.fixed)
-                  (align_face_edges H P (tangents_of (fill_missing H P A normal n last_after after.tangents start_after) after.fixed) after.state.face_edges)).tangents d
-              go true q = vert_normal_all (point_at N v)
-              go false q =
-                  align_keeps H P (tangents_of (fill_missing H P A normal n last_after after.tangents start_after) after.fixed) after.state.face_edges d
-                  (omega (arith, fill_missing_length last_after start_after)) (fill_missing_lem start_after refl q)
+          finish_made N v =
+              cond_both (some_missing start_after && is_zero last_after) _ _ (λ (k : Tangents). Made H P k.tangents d)
+              (λ q. vert_normal_all (point_at N v))
+              (λ q. align_keeps H P (tangents_of (fill_missing H P A normal n last_after after.tangents start_after) after.fixed) after.state.face_edges d
+              (omega (arith, fill_missing_length last_after start_after)) (fill_missing_lem start_after refl q))
 
 -- ---- THE POINT
 
@@ -343,11 +337,11 @@ pub record AllMade (H : Halfedges) (P : List Float) (n : ℕ) (m : Tangents) : T
 module _ {H : Halfedges} {n p : ℕ} (S : Sound H n p) (P N A : List Float) (normal : ℕ → Vec3) (in_quad : ℕ → Bool) where
   pub vert_keeps : (m : Tangents) (v : ℕ) → AllMade H P n m → AllMade H P n (normals_vert H P N A normal in_quad n m v)
   unfolding normals_vert normal_walk
-  vert_keeps m v a = go (vert_halfedge H n v) (ltb (vert_halfedge H n v) n) refl
-    where
-      go : (e : ℕ) (b : Bool) → ltb e n ≡ b → AllMade H P n (cond b (finish_vert H P N A normal n (normal_walk H P A normal in_quad n m e) v e) m)
-      go e true q = record {
+  vert_keeps m v a =
+      let e = vert_halfedge H n v in
+      cond_both (ltb e n) _ _ (AllMade H P n)
+      (λ q. record {
         whole = finish_length S e (ltb-true e n q) P A normal in_quad m a.whole N v;
         made = λ d l. finish_made S e (ltb-true e n q) P A normal in_quad m a.whole d l (a.made d l) N v;
-      }
-      go e false q = a
+      })
+      (λ q. a)

@@ -5,7 +5,7 @@ use mathlib.Core.Path.{◌≡◌, refl, sym, ap, ◌∙◌, subst}
 use mathlib.Core.Logic.{◌⊎◌, inl, inr}
 use mathlib.Core.Bool.{Bool, true, false, cond, true≢false}
 use mathlib.Core.List.{List}
-use lib.ListN.{length, set}
+use lib.ListN.{length}
 use lib.Ieee.{Float, lt, eq, neg, of_bits}
 use Rattle.float.specs.Ops.{zero}
 use Rattle.linalg.specs.declared.Vec3.{Vec3}
@@ -21,7 +21,9 @@ use Rattle.normals_state.specs.declared.FaceEdges.{FaceEdges}
 use Rattle.normals_state.specs.declared.FaceEdges.TheVariants.{NoEdge, OneEdge, TwoEdges, Spoiled}
 use Rattle.normals_state.specs.State.{is_zero, is_missing, next_start, next_last, next_state, spoil_face_edges}
 use Rattle.normals_steps.specs.Steps.{tangent_between, inside_quad_weight, missing_normal_weight, flag_tangent, Walk, walk_of, tangent_step, normal_step, vert_normal_step, Fill, fill_tangent, put_fill_tangent, fill_step, fix_face_edges, align_face_edges}
+use Rattle.normals_state.specs.declared.CycleState.{CycleState}
 use Rattle.normals_steps.proofs.Carried.{one_above}
+use Rattle.std.proofs.lemmas.Bool.{cond_both}
 use Rattle.normals_weights.specs.Weights.{MadeWeight, inside, circular}
 
 -- ---- a write at halfedge e
@@ -74,52 +76,35 @@ module _ (H : Halfedges) (P : List Float) where
   between A a b true e = from_normal A a e
   between A a b false e = (_, refl)
 
-  pub made_still : {T U : List Float} {e d : ℕ} → Writes T U e → Made U e → Made T d → Made U d
-  made_still {T} {U} {e} {d} w m k = go (ℕ_discrete d e)
-    where
-      go : Dec (d ≡ e) → Made U d
-      go (yes q) = subst (Made U) (sym q) m
-      go (no q) = subst (MadeWeight H P d) (sym (w.others d q)) k
-
   -- ---- the loop where all normals are missing
 
   module _ (A : List Float) (normal : Vec3) (T : List Float) (e : ℕ) where
     pub vert_normal_writes : Writes T (vert_normal_step H P A normal T e) e
     unfolding vert_normal_step
-    vert_normal_writes = go (is_marked_inside_quad T e)
-      where
-        go : (b : Bool) → Writes T (cond b T (put_tangent T e (tangent_from_normal H P A normal e))) e
-        go true = writes_none T e
-        go false = writes_put T e _
+    vert_normal_writes = cond_both (is_marked_inside_quad T e) _ _ (λ U. Writes T U e) (λ q. writes_none T e) (λ q. writes_put T e _)
 
     pub vert_normal_made : e * 4 + 4 ≤ length T → MadeOrMissing T e → Made (vert_normal_step H P A normal T e) e
     unfolding vert_normal_step
-    vert_normal_made h w = go (is_marked_inside_quad T e) refl w
+    vert_normal_made h w = cond_both (is_marked_inside_quad T e) _ _ (λ U. Made U e) (marked w) (λ q. put_circular T e _ h (from_normal A normal e))
       where
-        go : (b : Bool) → is_marked_inside_quad T e ≡ b → MadeOrMissing T e → Made (cond b T (put_tangent T e (tangent_from_normal H P A normal e))) e
-        go true q (inl m) = m
-        go true q (inr m) = absurd (true≢false (sym q ∙ ap (λ (x : Float). eq x inside_quad_weight) m ∙ missing_inside))
-        go false q m = put_circular T e _ h (from_normal A normal e)
+        marked : MadeOrMissing T e → is_marked_inside_quad T e ≡ true → Made T e
+        marked (inl m) q = m
+        marked (inr m) q = absurd (true≢false (sym q ∙ ap (λ (x : Float). eq x inside_quad_weight) m ∙ missing_inside))
 
   -- ---- the loop that goes round backwards
 
   module _ (A : List Float) (last prev : Vec3) (T : List Float) (e : ℕ) where
     put_fill_writes : Writes T (put_fill_tangent H P A last prev T e) e
     unfolding put_fill_tangent
-    put_fill_writes = go (eq (weight_at T e) missing_normal_weight)
-      where
-        go : (b : Bool) → Writes T (cond b (put_tangent T e (fill_tangent H P A last prev (tangent_at T e) e)) T) e
-        go true = writes_put T e _
-        go false = writes_none T e
+    put_fill_writes = cond_both (eq (weight_at T e) missing_normal_weight) _ _ (λ U. Writes T U e) (λ q. writes_put T e _) (λ q. writes_none T e)
 
     put_fill_made : e * 4 + 4 ≤ length T → MadeOrMissing T e → Made (put_fill_tangent H P A last prev T e) e
     unfolding put_fill_tangent fill_tangent
-    put_fill_made h w = go (eq (weight_at T e) missing_normal_weight) refl w
+    put_fill_made h w = cond_both (eq (weight_at T e) missing_normal_weight) _ _ (λ U. Made U e) (λ q. put_circular T e _ h (between A _ _ _ e)) (unflagged w)
       where
-        go : (b : Bool) → eq (weight_at T e) missing_normal_weight ≡ b → MadeOrMissing T e → Made (cond b (put_tangent T e (fill_tangent H P A last prev (tangent_at T e) e)) T) e
-        go true q m = put_circular T e _ h (between A _ _ _ e)
-        go false q (inl m) = m
-        go false q (inr m) = absurd (true≢false (sym missing_missing ∙ ap (λ (x : Float). eq x missing_normal_weight) (sym m) ∙ q))
+        unflagged : MadeOrMissing T e → eq (weight_at T e) missing_normal_weight ≡ false → Made T e
+        unflagged (inl m) q = m
+        unflagged (inr m) q = absurd (true≢false (sym missing_missing ∙ ap (λ (x : Float). eq x missing_normal_weight) (sym m) ∙ q))
 
   module _ (A : List Float) (normal : ℕ → Vec3) (last : Vec3) (m : Fill) (e : ℕ) where
     pub fill_writes : Writes m.tangents (fill_step H P A normal last m e).tangents e
@@ -168,19 +153,14 @@ module _ (H : Halfedges) (P : List Float) where
 
     tangent_writes : (m : Walk) (e : ℕ) → Writes m.tangents (tangent_step H P A normal m e).tangents e
     unfolding tangent_step
-    tangent_writes m e = go (equal_normals (normal (next_around H e)) (normal e)) _
-      where
-        go : (b : Bool) (v : Vec4) → Writes m.tangents (cond b (walk_of (put_tangent m.tangents e v) m.fixed m.state) (walk_of (put_tangent m.tangents e v) (set m.fixed e 1) (spoil_face_edges m.state))).tangents e
-        go true v = writes_put m.tangents e v
-        go false v = writes_put m.tangents e v
+    tangent_writes m e =
+        let put = writes_put m.tangents e _ in
+        cond_both (equal_normals (normal (next_around H e)) (normal e)) _ _ (λ (k : Walk). Writes m.tangents k.tangents e) (λ q. put) (λ q. put)
 
     tangent_made : (m : Walk) (e : ℕ) → e * 4 + 4 ≤ length m.tangents → Made (tangent_step H P A normal m e).tangents e
     unfolding tangent_step
-    tangent_made m e h = go (equal_normals (normal (next_around H e)) (normal e)) _ (between A _ _ _ e)
-      where
-        go : (b : Bool) (v : Vec4) → Circular e v → Made (cond b (walk_of (put_tangent m.tangents e v) m.fixed m.state) (walk_of (put_tangent m.tangents e v) (set m.fixed e 1) (spoil_face_edges m.state))).tangents e
-        go true v c = put_circular m.tangents e v h c
-        go false v c = put_circular m.tangents e v h c
+    tangent_made m e h =
+        cond_both (equal_normals (normal (next_around H e)) (normal e)) _ _ (λ (k : Walk). Made k.tangents e) (λ q. put_circular m.tangents e _ h (between A _ _ _ e)) (λ q. put_circular m.tangents e _ h (between A _ _ _ e))
 
     -- the walk after the flag is written at halfedge e
     abbrev flagged : Walk → ℕ → Walk
@@ -191,13 +171,11 @@ module _ (H : Halfedges) (P : List Float) where
     abbrev is_negative : Walk → ℕ → Bool
     is_negative k e = lt (weight_at k.tangents e) zero
 
-    normal_either : (b : Bool) (m : Walk) (k : Walk) (e : ℕ) → Writes m.tangents k.tangents e → Writes m.tangents (cond b k (tangent_step H P A normal k e)).tangents e
-    normal_either true m k e w = w
-    normal_either false m k e w = writes_both w (tangent_writes k e)
-
     pub normal_writes : (m : Walk) (e : ℕ) → Writes m.tangents (normal_step H P A normal in_quad m e).tangents e
     unfolding normal_step
-    normal_writes m e = normal_either (is_negative (flagged m e) e) m (flagged m e) e (writes_put m.tangents e _)
+    normal_writes m e =
+        let put = writes_put m.tangents e _ in
+        cond_both (is_negative (flagged m e) e) _ _ (λ (k : Walk). Writes m.tangents k.tangents e) (λ q. put) (λ q. writes_both put (tangent_writes (flagged m e) e))
 
     module _ (m : Walk) (e : ℕ) (h : e * 4 + 4 ≤ length m.tangents) where
       -- by whether a normal is missing, whether e is inside a quad, and whether the weight is below 0
@@ -215,36 +193,22 @@ module _ (H : Halfedges) (P : List Float) where
       unfolding normal_step
       normal_flagged = flag_cases (is_missing H normal e) (in_quad e) (is_negative (flagged m e) e) _ (flagged m e) refl refl refl
 
-    -- the state: `start_halfedge` and `last_normal`
-    module _ (m : Walk) (e : ℕ) where
-      tangent_start : (tangent_step H P A normal m e).state.start_halfedge ≡ m.state.start_halfedge
-      unfolding tangent_step spoil_face_edges
-      tangent_start = go (equal_normals (normal (next_around H e)) (normal e)) _
-        where
-          go : (b : Bool) (T : List Float) → (cond b (walk_of T m.fixed m.state) (walk_of T (set m.fixed e 1) (spoil_face_edges m.state))).state.start_halfedge ≡ m.state.start_halfedge
-          go true T = refl
-          go false T = refl
+    -- the state: `start_halfedge` and `last_normal`, which a halfedge without a flag leaves as they are
+    module _ {Q : Type 0} (of : CycleState → Q) (spoiled : (s : CycleState) → of (spoil_face_edges s) ≡ of s) where
+      tangent_state : (m : Walk) (e : ℕ) → of (tangent_step H P A normal m e).state ≡ of m.state
+      unfolding tangent_step
+      tangent_state m e =
+          cond_both (equal_normals (normal (next_around H e)) (normal e)) _ _ (λ (k : Walk). of k.state ≡ of m.state) (λ q. refl) (λ q. spoiled m.state)
 
-      tangent_last : (tangent_step H P A normal m e).state.last_normal ≡ m.state.last_normal
-      unfolding tangent_step spoil_face_edges
-      tangent_last = go (equal_normals (normal (next_around H e)) (normal e)) _
-        where
-          go : (b : Bool) (T : List Float) → (cond b (walk_of T m.fixed m.state) (walk_of T (set m.fixed e 1) (spoil_face_edges m.state))).state.last_normal ≡ m.state.last_normal
-          go true T = refl
-          go false T = refl
-
-    either_start : (b : Bool) (k : Walk) (e : ℕ) → (cond b k (tangent_step H P A normal k e)).state.start_halfedge ≡ k.state.start_halfedge
-    either_start true k e = refl
-    either_start false k e = tangent_start k e
-
-    either_last : (b : Bool) (k : Walk) (e : ℕ) → (cond b k (tangent_step H P A normal k e)).state.last_normal ≡ k.state.last_normal
-    either_last true k e = refl
-    either_last false k e = tangent_last k e
+      normal_state : (m : Walk) (e : ℕ) → of (normal_step H P A normal in_quad m e).state ≡ of (next_state H A normal m.state e)
+      unfolding normal_step
+      normal_state m e =
+          cond_both (is_negative (flagged m e) e) _ _ (λ (k : Walk). of k.state ≡ of (flagged m e).state) (λ q. refl) (λ q. tangent_state (flagged m e) e)
 
     pub normal_start : (m : Walk) (e : ℕ) → (normal_step H P A normal in_quad m e).state.start_halfedge ≡ next_start (is_zero (normal e)) (is_zero (normal (next_around H e))) m.state.start_halfedge e
-    unfolding normal_step next_state
-    normal_start m e = either_start (is_negative (flagged m e) e) (flagged m e) e
+    unfolding next_state spoil_face_edges
+    normal_start m e = normal_state (λ s. s.start_halfedge) (λ s. refl) m e
 
     pub normal_last : (m : Walk) (e : ℕ) → (normal_step H P A normal in_quad m e).state.last_normal ≡ next_last (is_zero (normal e)) (is_zero (normal (next_around H e))) (normal e) m.state.last_normal
-    unfolding normal_step next_state
-    normal_last m e = either_last (is_negative (flagged m e) e) (flagged m e) e
+    unfolding next_state spoil_face_edges
+    normal_last m e = normal_state (λ s. s.last_normal) (λ s. refl) m e

@@ -18,9 +18,13 @@ use Rattle.distribute_spread.proofs.Order.{order_free}
 use Rattle.distribute_walks.proofs.Lawful.{lawful}
 use Rattle.distribute.specs.Distribute as Distribute
 use Rattle.distribute.specs.Distribute.{Spreading, counts_of, lists_fit, spread_tangents}
+use Rattle.std.specs.Prelude.{Ok}
+use Rattle.distribute_steps.specs.FloatSteps.{float_steps}
+use Rattle.distribute_walks.specs.declared.Counts.{Counts}
+use Rattle.preview_walks.specs.Walks.{Shows}
 use Rattle.preview_walks.specs.Bytes.{turned_byte, turned_bytes}
 use Rattle.preview_walks.proofs.Bytes.{byte_one, byte_zero, bytes_at, bytes_same}
-use Rattle.preview.specs.Preview.{check_lists, preview_tangents, bytes_after, AsSpreading, PreviewFree, AnyOrder}
+use Rattle.preview.specs.Preview.{check_lists, preview_tangents, AsSpreading, PreviewFree, AnyOrder}
 use Rattle.preview.proofs.Accepted.{lists_of}
 
 and_assoc : (a b c : Bool) → a && (b && c) ≡ (a && b) && c
@@ -53,10 +57,10 @@ module _ {S : Steps} (L : Lawful S) (ts : S.Tangents) (whole : L.Whole ts) (star
   }
 
 module _ (H : Halfedges) (P N : List Float) (X : List ℕ) (T : List Float) (Y : List ℕ) (n p : ℕ) where
-  pub any_order : {Z : List ℕ} {r : Spreading} → r ≡ preview_tangents H P N X T Y n p → Z ≡ bytes_after H P N X T Y n p → AnyOrder H P N X T Y n p Z r
-  any_order er ez acc starts names =
-      let l = (lists_of H P N X T Y n p acc).0 in
-      rw (er, ez, acc) (preview_free (lawful l.sound P N X) T l.tangents starts names)
+  pub any_order : {Z : List ℕ} {k : Counts} → Shows (float_steps H P N X n) (spread_tangents H P N X T n) Z k → AnyOrder H P N X T Y n p Z (Ok k)
+  any_order w acc starts names =
+      let l = lists_of H P N X T Y n p acc in
+      rw (w.bytes_are, w.looked_is, w.turned_is) (preview_free (lawful l.0 P N X) T l.1.tangents starts names)
 
   pub as_spreading : {r : Spreading} → r ≡ preview_tangents H P N X T Y n p → AsSpreading H P N X T Y n p r
   unfolding check_lists Distribute.check_lists

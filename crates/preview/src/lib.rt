@@ -15,6 +15,7 @@ use mesh::Refusal;
 use preview_walks::PreviewLists;
 
 // The loop over the halfedges of an accepted mesh, after zeros in all bytes.
+#[tactic(auto, using(crate::proofs::Pass::shown_begin))]
 fn preview_all(lists: &PreviewLists, bytes: &mut [u8]) -> Counts
     requires { length bytes.old ≡ lists.now.n }
     ensures { (P N : List Float) → Shows (steps_of lists.now P N) (pass (steps_of lists.now P N) lists.now.t.now) bytes.new result }
@@ -30,7 +31,9 @@ fn preview_all(lists: &PreviewLists, bytes: &mut [u8]) -> Counts
     counts
 }
 
-// The questions 1 to 7 and 11; the second of the lists that the call is lent.
+// The questions 1 to 7 and 11; the second of the lists that the call is lent. No struct of them: what its ghost fields would say is
+// what is asked.
+#[tactic(auto, unfolding(crate::specs::Preview::check_lists))]
 fn check_lists(
     n: usize,
     p: usize,
@@ -44,7 +47,7 @@ fn check_lists(
     ensures { result ≡ check_lists (as_halfedges h.now) pos.now normals.now fixed.now t.now bytes.now n p }
 {
     let lists = distribute::lists_fit(n, p, h, pos, normals, fixed, t);
-    let lengths = common::both(lists, mesh::has_length(bytes.len(), n, 1));
+    let lengths = lists & mesh::has_length(bytes.len(), n, 1);
     let checked = mesh::check_mesh(h, n, p, lengths);
     mesh::check_flags(checked, fixed, n)
 }
@@ -52,6 +55,7 @@ fn check_lists(
 // The preview, for lists of any length and content. `pos` and `normals` have three numbers for each point, `fixed` a flag
 // for each halfedge, and `bytes` a byte: 1 if the halfedge's tangent would be written, else 0.
 // The signature stays flat, as the C interface lends: counts, lists read, lists written, scratch.
+#[tactic(auto, using(crate::proofs::Accepted::lists_of, distribute::proofs::Values::values_of))]
 pub fn preview_tangents(
     n: usize,
     p: usize,
@@ -69,6 +73,7 @@ pub fn preview_tangents(
     ensures values { Values (check_lists (as_halfedges h.now) pos.now normals.now fixed.now t.now bytes.old n p) (float_steps (as_halfedges h.now) pos.now normals.now fixed.now n) (spread_tangents (as_halfedges h.now) pos.now normals.now fixed.now t.now n) result }
 {
     let checked = check_lists(n, p, h, pos, normals, fixed, t, bytes);
+    // Document 01's form by place: the check's answer is opened by `let .. else`.
     let Ok(()) = checked else {
         return mesh::refused(checked);
     };

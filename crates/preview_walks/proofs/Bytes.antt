@@ -15,7 +15,7 @@ use Rattle.distribute_spread.specs.Steps.{Steps}
 use Rattle.distribute_spread.specs.Spread.{State, handed_in, turn_at}
 use Rattle.distribute_spread.specs.Order.{WasTurned}
 use Rattle.preview_walks.specs.Bytes.{turned_byte, turned_bytes}
-use Rattle.preview_walks.proofs.Tabulate.{length_tabulate, get_d_tabulate, tabulated}
+use Rattle.std.proofs.lemmas.List.FromFn.{length-map-range_with_len, get_or-map-range_with_len, fill_by_all}
 
 module _ (S : Steps) (st : State S) where
   pub byte_one : (e : ℕ) → WasTurned S st e → turned_byte S st e ≡ 1
@@ -25,23 +25,23 @@ module _ (S : Steps) (st : State S) where
   byte_zero e h = rw (eq-eqb (count e st.places) 0 h)
 
   pub bytes_length : length (turned_bytes S st) ≡ S.n
-  bytes_length = length_tabulate (turned_byte S st) S.n
+  bytes_length = length-map-range_with_len (turned_byte S st) 0 S.n
 
   pub bytes_at : (e d : ℕ) → e < S.n → get_or (turned_bytes S st) e d ≡ turned_byte S st e
-  bytes_at e d l = get_d_tabulate (turned_byte S st) S.n e d l
+  bytes_at e d l = get_or-map-range_with_len (turned_byte S st) 0 S.n e e d l (omega arith)
 
 -- zeros before the first
 pub bytes_none : (S : Steps) (ts : S.Tangents) (n : ℕ) → n ≡ S.n → replicate n 0 ≡ turned_bytes S (handed_in S ts)
 unfolding count
 bytes_none S ts n q =
-    tabulated (turned_byte S (handed_in S ts)) (replicate n 0) S.n 0 (length-replicate n 0 ∙ q)
+    fill_by_all (turned_byte S (handed_in S ts)) (replicate n 0) S.n 0 (length-replicate n 0 ∙ q)
     (λ i l. get_or-replicate n i 0 0 (let b : i < n = omega arith in b) ∙ sym (byte_zero S (handed_in S ts) i refl))
 
 -- a 1 for one more
 pub bytes_turn : (S : Steps) (e : ℕ) (p : S.Plan) (st : State S) → e < S.n → set (turned_bytes S st) e 1 ≡ turned_bytes S (turn_at S e p st)
 unfolding count
 bytes_turn S e p st l =
-    tabulated (turned_byte S (turn_at S e p st)) (set (turned_bytes S st) e 1) S.n 0 (length-set (turned_bytes S st) e 1 ∙ bytes_length S st) (λ i b. go i b (ℕ_discrete i e))
+    fill_by_all (turned_byte S (turn_at S e p st)) (set (turned_bytes S st) e 1) S.n 0 (length-set (turned_bytes S st) e 1 ∙ bytes_length S st) (λ i b. go i b (ℕ_discrete i e))
   where
     go : (i : ℕ) → i < S.n → Dec (i ≡ e) → get_or (set (turned_bytes S st) e 1) i 0 ≡ turned_byte S (turn_at S e p st) i
     go i b (yes q) =
@@ -55,5 +55,5 @@ bytes_turn S e p st l =
 -- the bytes depend on how often each halfedge was turned, and on nothing else
 pub bytes_same : (S : Steps) (st sv : State S) → ((e : ℕ) → count e st.places ≡ count e sv.places) → turned_bytes S st ≡ turned_bytes S sv
 bytes_same S st sv h =
-    tabulated (turned_byte S sv) (turned_bytes S st) S.n 0 (bytes_length S st)
+    fill_by_all (turned_byte S sv) (turned_bytes S st) S.n 0 (bytes_length S st)
     (λ i l. bytes_at S st i 0 l ∙ ap (λ (k : ℕ). cond (eqb k 0) 0 1) (h i))

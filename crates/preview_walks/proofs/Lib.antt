@@ -1,5 +1,4 @@
 -- The laws of `preview_walks`, for the crates above.
-pub mod Tabulate
 pub mod Bytes
 pub mod Lawful
 mod First

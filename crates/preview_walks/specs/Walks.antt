@@ -1,25 +1,16 @@
 -- The two walks of a preview, as its code holds them: only contracts inside the call name these definitions. H are the halfedges, X the flags, T the tangents, which stay as lent, Y the bytes, n and p the counts of halfedges and points. What a start turns does not depend on the positions P and the point normals N.
-use Rattle.std.specs.Prelude.{ℕ, ◌+◌, ◌*◌, ◌^◌, ◌≤◌, ◌<◌, ◌≡◌, List, length, Float}
+use Rattle.std.specs.Prelude.{ℕ, ◌+◌, ◌≡◌, List, length, Float}
 use Rattle.linalg.specs.declared.Vec3.{Vec3}
-use Rattle.mesh.specs.Mesh.{halfedge_stride, as_halfedges, Halfedges}
-use Rattle.mesh.specs.Sound.{Sound}
-use Rattle.smoothing.specs.Lists.{tangent_at}
+use Rattle.mesh.specs.Mesh.{as_halfedges}
 use Rattle.distribute_spread.specs.Steps.{Steps}
 use Rattle.distribute_spread.specs.Spread.{State}
-use Rattle.distribute_steps.specs.FloatSteps.{Gathered, tangent_direction, next_normal, float_steps}
+use Rattle.distribute_steps.specs.FloatSteps.{Gathered, next_normal, float_steps}
 use Rattle.distribute_walks.specs.Walks.{state_of, first_from}
 use Rattle.distribute_walks.specs.declared.Counts.{Counts}
 use Rattle.preview_walks.specs.Bytes.{turned_bytes}
 use Rattle.preview_walks.specs.declared.Summed.{Summed}
 use Rattle.preview_walks.specs.declared.Seen.{Seen}
 use Rattle.preview_walks.specs.declared.lists.PreviewLists.{PreviewLists}
-
--- the lists of an accepted call that the walks read; the bytes have one place for each halfedge
-pub record Lists (H : Halfedges) (X : List ℕ) (T : List Float) (n p : ℕ) : Type 0 where
-  pub sound : Sound H n p
-  pub whole : H.numbers ≡ n * halfedge_stride
-  pub flags : length X ≡ n
-  pub tangents : length T ≡ n * 4
 
 -- the steps of spreading over the lists
 abbrev pub steps_of : PreviewLists → List Float → List Float → Steps
@@ -34,12 +25,6 @@ summed_of g = record { count = length g.current_angle; normal = g.normal; last_t
 -- a tangent of this direction is gathered
 unfoldable pub add_tangent : Vec3 → Summed → Summed
 add_tangent tangent s = record { count = s.count + 1; normal = next_normal s.normal tangent s.last_tangent; last_tangent = tangent }
-
--- halfedge e has a tangent, there is room for one more, and `first` is the direction at the start
-pub record CanAdd (T : List Float) (start e : ℕ) (first : Vec3) (s : Summed) : Type 0 where
-  pub tangent_in : e * 4 + 4 ≤ length T
-  pub count_fits : s.count + 1 < 2 ^ 64
-  pub first_is : first ≡ tangent_direction (tangent_at T start)
 
 -- r is what spreading's first walk from the start finds, with so many steps looked at before
 abbrev pub Sums : PreviewLists → ℕ → ℕ → Seen → Type 0

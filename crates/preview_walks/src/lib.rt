@@ -1,5 +1,9 @@
 // The two walks of `distribute_tangents` of src/smoothing_tangents.rs, without its angles: which tangents they would write.
 // The tangents stay as they are; a byte for each halfedge tells those that would be turned.
+// Each function asks for its own place (`start < n`, `e * 4 + 4 ≤ length t`) and for room in the counts: both differ from call to
+// call, so no struct of the lists can hold them. The bytes stay a parameter, and their length a clause: the list is written, and a
+// struct that lends it would make each clause say `lists.new.bytes.now`.
+// The walks are alike in shape to those of `distribute_walks`, where it stands why both stay.
 #![tactic(auto)]
 
 ghost use Rattle.std.specs.Prelude.{◌≡◌, true, cond, List, suc, ◌+◌, ◌*◌, ◌^◌, ◌≤◌, ◌<◌, length, set, Float};
@@ -9,13 +13,14 @@ ghost use Rattle.distribute_spread.specs.Spread.{second_walk, spread_at};
 ghost use Rattle.distribute_steps.specs.FloatSteps.{Plan, is_mark, is_start, tangent_direction, float_steps};
 ghost use Rattle.distribute_walks.specs.Walks.{Room, more_turned};
 ghost use Rattle.distribute_walks.specs.declared.Counts.{Counts};
-ghost use Rattle.preview_walks.specs.Walks.{steps_of, add_tangent, CanAdd, Sums, Previews};
+ghost use Rattle.preview_walks.specs.Walks.{steps_of, add_tangent, Sums, Previews};
 
 mod lists;
 
 use distribute_walks::Counts;
 use linalg::Vec3;
 pub use lists::PreviewLists;
+use lists::Walk;
 
 // What of the first walk decides whether anything is turned: the number of angles and the sum `normal`, for which the last
 // tangent's direction is kept.
@@ -33,26 +38,27 @@ pub struct Seen {
     pub summed: Summed,
 }
 
-// The direction of the tangent of halfedge e. Back at its start, a walk uses the one that it set out with, `first`.
-fn direction_at(t: &[f64], start: usize, e: usize, first: Vec3) -> Vec3
-    requires { (e * 4 + 4 ≤ length t.now) × (first ≡ tangent_direction (tangent_at t.now start)) }
-    ensures { result ≡ tangent_direction (tangent_at t.now e) }
+// The direction of the tangent of halfedge e. Back at its start, a walk uses the one that it set out with.
+fn direction_at(walk: &Walk, e: usize) -> Vec3
+    requires { e * 4 + 4 ≤ length walk.now.lists.now.t.now }
+    ensures { result ≡ tangent_direction (tangent_at walk.now.lists.now.t.now e) }
 {
-    if e == start {
-        return first;
+    if e == walk.start {
+        return walk.first;
     }
-    distribute_steps::tangent_direction(smoothing::tangent_at(t, e))
+    distribute_steps::tangent_direction(smoothing::tangent_at(walk.lists.t, e))
 }
 
 // One step of the first walk, onto halfedge e: a marked one gathers nothing.
-fn add_tangent(t: &[f64], start: usize, e: usize, first: Vec3, s: Summed) -> Summed
-    requires { CanAdd t.now start e first s }
-    ensures { result ≡ cond (is_mark (tangent_at t.now e).w) s (add_tangent (tangent_direction (tangent_at t.now e)) s) }
+#[tactic(auto, unfolding(crate::specs::Walks::add_tangent))]
+fn add_tangent(walk: &Walk, e: usize, s: Summed) -> Summed
+    requires { (e * 4 + 4 ≤ length walk.now.lists.now.t.now) × (s.count + 1 < 2 ^ 64) }
+    ensures { result ≡ cond (is_mark (tangent_at walk.now.lists.now.t.now e).w) s (add_tangent (tangent_direction (tangent_at walk.now.lists.now.t.now e)) s) }
 {
-    if distribute_steps::is_marked(t, e) {
+    if distribute_steps::is_marked(walk.lists.t, e) {
         return s;
     }
-    let tangent = direction_at(t, start, e, first);
+    let tangent = direction_at(walk, e);
     Summed {
         count: s.count + 1,
         normal: distribute_steps::next_normal(s.normal, tangent, s.last_tangent),
@@ -60,13 +66,13 @@ fn add_tangent(t: &[f64], start: usize, e: usize, first: Vec3, s: Summed) -> Sum
     }
 }
 
-// The first walk, which ends at the next halfedge that is fixed and unmarked: a loop, the form that document 01 names.
-fn first_walk(lists: &PreviewLists, start: usize, counts: Counts) -> Seen
-    requires { (start < lists.now.n) × (is_start lists.now.fixed.now lists.now.t.now start ≡ true) × Room lists.now.n counts }
-    ensures sums { Sums lists.now start counts.looked result }
-    ensures looked_bound { result.looked ≤ counts.looked + lists.now.n }
+// The first walk, which ends at the next halfedge that is fixed and unmarked. A loop and no iterator, here and in the
+// second walk: document 01 names this form.
+fn first_walk(walk: &Walk, counts: Counts) -> Seen
+    requires { Room walk.now.lists.now.n counts }
+    ensures sums { Sums walk.now.lists.now walk.now.start counts.looked result }
+    ensures looked_bound { result.looked ≤ counts.looked + walk.now.lists.now.n }
 {
-    let first = distribute_steps::tangent_direction(smoothing::tangent_at(lists.t, start));
     let normal = Vec3 {
         x: 0.0,
         y: 0.0,
@@ -75,15 +81,15 @@ fn first_walk(lists: &PreviewLists, start: usize, counts: Counts) -> Seen
     let mut summed = Summed {
         count: 0,
         normal,
-        last_tangent: first,
+        last_tangent: walk.first,
     };
     let mut looked = counts.looked;
-    let mut here = start;
+    let mut here = walk.start;
     loop {
-        here = cycles::next_around(lists.h, here);
+        here = cycles::next_around(walk.lists.h, here);
         looked += 1;
-        summed = add_tangent(lists.t, start, here, first, summed);
-        if distribute_steps::is_start(lists.fixed, lists.t, here) {
+        summed = add_tangent(walk, here, summed);
+        if distribute_steps::is_start(walk.lists.fixed, walk.lists.t, here) {
             break;
         }
     }
@@ -104,21 +110,20 @@ fn show_unmarked(t: &[f64], bytes: &mut [u8], i: usize, e: usize) -> usize
 }
 
 // The second walk: leaves by its label at a fixed halfedge other than the start, before that one's mark is read.
-fn second_walk(lists: &PreviewLists, bytes: &mut [u8], start: usize) -> usize
-    requires bytes { length bytes.old ≡ lists.now.n }
-    requires start_lt_n { (start < lists.now.n) × (is_start lists.now.fixed.now lists.now.t.now start ≡ true) }
-    ensures previews { (P N : List Float) (by : Plan) (k : Counts) → Previews (steps_of lists.now P N) (second_walk (steps_of lists.now P N) (suc lists.now.n) start start by) lists.now.t.now bytes.old k bytes.new (more_turned k result) }
-    ensures few { result ≤ lists.now.n }
+fn second_walk(walk: &Walk, bytes: &mut [u8]) -> usize
+    requires { length bytes.old ≡ walk.now.lists.now.n }
+    ensures previews { (P N : List Float) (by : Plan) (k : Counts) → Previews (steps_of walk.now.lists.now P N) (second_walk (steps_of walk.now.lists.now P N) (suc walk.now.lists.now.n) walk.now.start walk.now.start by) walk.now.lists.now.t.now bytes.old k bytes.new (more_turned k result) }
+    ensures few { result ≤ walk.now.lists.now.n }
 {
-    let mut here = start;
+    let mut here = walk.start;
     let mut i: usize = 0;
     'walk: loop {
-        here = cycles::next_around(lists.h, here);
-        if distribute_walks::leaves(lists.fixed, start, here) {
+        here = cycles::next_around(walk.lists.h, here);
+        if distribute_walks::leaves(walk.lists.fixed, walk.start, here) {
             break 'walk;
         }
-        i = show_unmarked(lists.t, bytes, i, here);
-        if here == start {
+        i = show_unmarked(walk.lists.t, bytes, i, here);
+        if here == walk.start {
             break 'walk;
         }
     }
@@ -136,15 +141,21 @@ pub fn preview_at(lists: &PreviewLists, bytes: &mut [u8], start: usize, counts: 
     if !distribute_steps::is_start(lists.fixed, lists.t, start) {
         return counts;
     }
-    let seen = first_walk(lists, start, counts);
+    let first = distribute_steps::tangent_direction(smoothing::tangent_at(lists.t, start));
+    let walk = Walk {
+        lists,
+        start,
+        first,
+    };
+    let seen = first_walk(&walk, counts);
     let summed = seen.summed;
     if distribute_steps::turns_none(summed.count, summed.normal) {
         return Counts {
             looked: seen.looked,
-            turned: counts.turned,
+            ..counts
         };
     }
-    let turned = second_walk(lists, bytes, start);
+    let turned = second_walk(&walk, bytes);
     Counts {
         looked: seen.looked,
         turned: counts.turned + turned,

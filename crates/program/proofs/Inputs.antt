@@ -2,13 +2,10 @@
 use Prim.Native.Nat.{ℕ, ◌+◌, ◌*◌, ◌≤◌}
 use native.Mathlib.Omega.{arith}
 use mathlib.Core.Path.{◌≡◌, refl, sym, ap, ◌∙◌}
-use mathlib.Core.Bool.{true}
 use mathlib.Core.List.{List, ◌++◌}
-use borrow.Author.Tests.{leb-true}
 use lib.ListN.{length, take, drop}
 use lib.Seq.{take_at, drop_at}
 use lib.Ieee.{Float}
-use Rattle.common.proofs.Tests.{and_true}
 use Rattle.little_endian.specs.Filled.{items, filled}
 use Rattle.little_endian.proofs.Filled.{items_length}
 use Rattle.little_endian.specs.Numbers.{f64_item}
@@ -25,45 +22,13 @@ use Rattle.mesh.specs.declared.Refusal.{Refusal}
 use Rattle.program_lines.specs.Lines.{lines_of, printed, rendered}
 use Rattle.program_lines.proofs.Whole.{whole}
 use Rattle.program_lines.specs.declared.Output.{Output}
-use Rattle.program_operations.specs.Operations.{operation_lines, operation_tangents, operation_scratch, SpreadIn, Shows}
-use Rattle.program.specs.Program.{output_of, halfedges_of, positions_of, tangents_of, normals_of, flags_of, positions_after, halfedges_after, normals_after, flags_after, tangents_after, scratch_after, when_spreading, has_room, Room}
+use Rattle.program_operations.specs.Operations.{operation_lines, operation_tangents, operation_scratch, Shows}
+use Rattle.program.specs.Program.{output_of, halfedges_of, positions_of, tangents_of, normals_of, flags_of, positions_after, halfedges_after, normals_after, flags_after, tangents_after, scratch_after, when_spreading, Room}
 
--- ---- the room
-
--- the lists of the program have the room
-pub lists_have_room : has_room 8187 5456 5456 8187 1364 1364 1364 131136 ≡ true
-unfolding has_room
-lists_have_room = refl
-
-module _ (positions halfedges tangents normals flags current desired out : ℕ) (room : has_room positions halfedges tangents normals flags current desired out ≡ true) where
-  pub all_room : Room positions halfedges tangents normals flags current desired × (131136 ≤ out)
-  unfolding has_room
-  all_room =
-      let a = and_true _ _ room in
-      let b = and_true _ _ a.0 in
-      let c = and_true _ _ b.0 in
-      let d = and_true _ _ c.0 in
-      let v = and_true _ _ d.0 in
-      let w = and_true _ _ v.0 in
-      let z = and_true _ _ w.0 in (
-        record {
-          position_room = leb-true _ _ z.0;
-          halfedge_room = leb-true _ _ z.1;
-          tangent_room = leb-true _ _ w.1;
-          normal_room = leb-true _ _ v.1;
-          flag_room = leb-true _ _ d.1;
-          current_room = leb-true _ _ c.1;
-          desired_room = leb-true _ _ b.1;
-        },
-        leb-true _ _ a.1,
-      )
-
-  -- what is rendered of an output that shows the program's lines
-  pub renders : (s : List ℕ) (o : Result Output Refusal) (T : List Float) → length T ≡ tangents → Shows (output_of s) 1364 o T →
-      rendered (printed o) T out ≡ output_of s
-  renders s o T l e =
-      let r = all_room in
-      whole (printed o) T out (omega (arith, r.0.tangent_room, e.halfedges_few)) (omega (arith, r.1, e.halfedges_few)) ∙ e.shown
+-- what is rendered of an output that shows the program's lines, where there is room
+pub renders : (s : List ℕ) (o : Result Output Refusal) (T : List Float) (out : ℕ) → 5456 ≤ length T → 131136 ≤ out → Shows (output_of s) 1364 o T →
+    rendered (printed o) T out ≡ output_of s
+renders s o T out t room e = whole (printed o) T out (omega (arith, e.halfedges_few)) (omega (arith, e.halfedges_few)) ∙ e.shown
 
 -- ---- the lists of an accepted input
 
@@ -90,18 +55,14 @@ spread_filled f Spread k xs = refl
 spread_filled f Check k xs = refl
 
 -- r is the answer to reading s into the lists L, which have room and become L'
-pub record Reading (s : List ℕ) (L L' : Lists) (r : Result Input Refusal) : Type 0 where
-  pub position_room : 8187 ≤ length L.positions
-  pub halfedge_room : 5456 ≤ length L.halfedges
-  pub tangent_room : 5456 ≤ length L.tangents
-  pub normal_room : 8187 ≤ length L.normals
-  pub flag_room : 1364 ≤ length L.flags
+pub record Reading (s : List ℕ) (L L' : Lists) (r : Result Input Refusal) (current desired : ℕ) : Type 0 where
   pub answer : r ≡ read_answer s L
   pub lists : L' ≡ read_lists r s L
+  pub room : Room (length L.positions) (length L.halfedges) (length L.tangents) (length L.normals) (length L.flags) current desired
 
-module _ {s : List ℕ} {L L' : Lists} {r : Result Input Refusal} (w : Reading s L L' r) where
+module _ {s : List ℕ} {L L' : Lists} {r : Result Input Refusal} {current desired : ℕ} (w : Reading s L L' r current desired) where
   parsed : (q : Result Input Refusal) → r ≡ q → parse_input s ≡ q
-  parsed q e = sym (never_short s L w.position_room w.halfedge_room w.tangent_room w.normal_room w.flag_room) ∙ sym w.answer ∙ e
+  parsed q e = sym (never_short s L w.room.position_room w.room.halfedge_room w.room.tangent_room w.room.normal_room w.room.flag_room) ∙ sym w.answer ∙ e
 
   -- the lists that only the reading writes
   pub read_left : (q : Result Input Refusal) → r ≡ q →
@@ -191,16 +152,3 @@ module _ {s : List ℕ} {L L' : Lists} {r : Result Input Refusal} (w : Reading s
         h
         ∙ rw (parsed _ e, halfedges_read, positions_read, tangents_read)
         (only_spread o (λ q N F. operation_scratch q (as_halfedges (halfedges_of s p n)) (positions_of s p n) N F (tangents_of s p n) n p lent) _ (normals_of s p n) _ (flags_of s p n) refl refl spread_read)
-
--- ---- what the operations may take for granted
-
-pub spread_in : (n p positions halfedges tangents normals flags current desired : ℕ) → 24 * p + 48 * n + 35 ≤ 65536 → Room positions halfedges tangents normals flags current desired →
-    SpreadIn n p positions halfedges tangents normals flags current desired
-spread_in n p positions halfedges tangents normals flags current desired h r =
-    record {
-      mesh_in = record { few = h; positions_in = omega arith; halfedges_in = omega arith; tangents_in = omega arith };
-      normals_in = omega arith;
-      flags_in = omega arith;
-      current_in = omega arith;
-      desired_in = omega arith;
-    }

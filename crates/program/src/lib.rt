@@ -22,7 +22,7 @@ pub const FLAG_ROOM: usize = 1364;
 
 pub const OUTPUT_ROOM: usize = 131136;
 
-// Reads the input into the lists, and does its operation.
+// Reads the input into the lists, and does its operation. The lists are parameters as in `answer`.
 fn respond(
     input: &[u8],
     pos: &mut [f64],
@@ -63,7 +63,7 @@ fn respond(
 // spreading; further places stay as lent, and so does all where the records are refused. Where a list has less than the room
 // above, it changes no list and returns 0. The lists are parameters: with a struct that lends them each clause would read
 // `lists.entry.pos.now` for `pos.old`.
-#[tactic(auto, unfolding(crate::specs::Program::has_room))]
+#[tactic(auto, using(crate::proofs::Inputs::renders), unfolding(crate::specs::Program::has_room))]
 pub fn answer(
     input: &[u8],
     pos: &mut [f64],

@@ -9,7 +9,7 @@ use borrow.Author.Tests.{le-leb, lt-leb, leb-true, leb-false}
 use lib.Dec.{leb}
 use lib.ListN.{length, length-append}
 use lib.Ieee.{Float}
-use Rattle.common.proofs.Tests.{and_true}
+use Rattle.std.proofs.lemmas.Bool.{and_parts}
 use Rattle.program_lines.specs.Text.{ascii}
 use Rattle.program_lines.specs.Lines.{number_line, bits_field, tangent_line, tangent_lines, tangents_lines, lines_of, halfedges_in, has_room, rendered}
 use Rattle.program_lines.specs.declared.Output.{Output}
@@ -61,7 +61,7 @@ module _ (n numbers room : ℕ) where
 pub room_for : (n numbers room : ℕ) → has_room n numbers room ≡ true → (4 * n ≤ numbers) × (96 * (n + 2) ≤ room)
 unfolding has_room
 room_for n numbers room e =
-    let p = and_true (leb (4 * n) numbers) (leb (96 * (n + 2)) room) e in
+    let p = and_parts (leb (4 * n) numbers) (leb (96 * (n + 2)) room) e in
     (leb-true (4 * n) numbers p.0, leb-true (96 * (n + 2)) room p.1)
 
 -- ---- what is rendered

@@ -1,4 +1,5 @@
-// Renders the output of the program `tangents` (document 01) into a lent buffer.
+// Renders the output of the program `tangents` (document 01) into a lent buffer. Each function asks for its own places
+// (`4 * n ≤ length t`, `at + 96 ≤ length out`): they differ from call to call, so no struct of the lists can hold them.
 #![tactic(auto)]
 
 ghost use Rattle.std.specs.Prelude.{◌≡◌, ◌+◌, ◌*◌, ◌<◌, ◌≤◌, length};
@@ -109,6 +110,7 @@ fn put_numbers_line(
     put_number_line(out, end, text2, m)
 }
 
+#[tactic(auto, unfolding(crate::specs::Lines::bits_field, crate::specs::Text::ascii))]
 fn put_bits_field(t: &[f64], i: usize, out: &mut [u8], at: usize) -> usize
     requires { (i < length t.now) × (at + 17 ≤ length out.old) }
     ensures { Put out.old at (bits_field t.now i) out.new result }
@@ -130,6 +132,7 @@ fn put_tangent_line(t: &[f64], e: usize, out: &mut [u8], at: usize) -> usize
 }
 
 // The lines of the halfedges below n.
+#[tactic(auto, unfolding(crate::specs::Lines::tangent_lines))]
 fn put_tangent_lines(t: &[f64], n: usize, out: &mut [u8], at: usize) -> usize
     requires { (4 * n ≤ length t.now) × (at + 96 * n ≤ length out.old) }
     ensures { Put out.old at (tangent_lines t.now n) out.new result }

@@ -73,16 +73,12 @@ operation_scratch Check H P N X T n p lent = lent
 
 -- ---- what the functions ask of their lists, and what they answer
 
--- the counts of an input, and the mesh in its lists
-pub record MeshIn (n p positions halfedges tangents : ℕ) : Type 0 where
+-- the counts of an input, and lists with room for it, those of spreading too
+pub record SpreadIn (n p positions halfedges tangents normals flags current desired : ℕ) : Type 0 where
   pub few : 24 * p + 48 * n + 35 ≤ 65536
   pub positions_in : 3 * p ≤ positions
   pub halfedges_in : halfedge_stride * n ≤ halfedges
   pub tangents_in : 4 * n ≤ tangents
-
--- the same with the lists of spreading
-pub record SpreadIn (n p positions halfedges tangents normals flags current desired : ℕ) : Type 0 where
-  pub mesh_in : MeshIn n p positions halfedges tangents
   pub normals_in : 3 * p ≤ normals
   pub flags_in : n ≤ flags
   pub current_in : n ≤ current

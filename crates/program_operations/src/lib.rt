@@ -5,75 +5,75 @@
 ghost use Rattle.std.specs.Prelude.{◌≡◌, ◌*◌, ◌++◌, length, take, drop};
 ghost use Rattle.mesh.specs.Mesh.{halfedge_stride, as_halfedges};
 ghost use Rattle.records.specs.Records.{operation_of_number};
-ghost use Rattle.program_operations.specs.Operations.{straighten_lines, spread_lines, check_lines, operation_lines, straighten_tangents, spread_tangents, spread_scratch, operation_tangents, operation_scratch, MeshIn, SpreadIn, Shows};
+ghost use Rattle.program_operations.specs.Operations.{straighten_lines, spread_lines, check_lines, operation_lines, straighten_tangents, spread_tangents, spread_scratch, operation_tangents, operation_scratch, SpreadIn, Shows};
 
 use mesh::Refusal;
 use program_lines::Output;
 use records::Operation;
 
-fn straighten(n: usize, p: usize, h: &[i32], pos: &[f64], t: &mut [f64]) -> Result<Output, Refusal>
-    requires { MeshIn n p (length pos.now) (length h.now) (length t.old) }
-    ensures lines { Shows (straighten_lines (as_halfedges (take (halfedge_stride * n) h.now)) (take (3 * p) pos.now) (take (4 * n) t.old) n p) n result t.new }
-    ensures tangents { t.new ≡ straighten_tangents (as_halfedges (take (halfedge_stride * n) h.now)) (take (3 * p) pos.now) (take (4 * n) t.old) n p ++ drop (4 * n) t.old }
-{
-    let hl = mesh::HALFEDGE_STRIDE * n;
-    let pl = 3 * p;
-    let tl = 4 * n;
-    linearize::linearize_flat_tangents(n, p, &h[..hl], &pos[..pl], &mut t[..tl])?;
-    Ok(Output::Tangents { halfedges: n })
-}
-
-fn spread(
+// The lists that an operation reads, cut to their lengths: n halfedges and p points. Only spreading reads the point normals
+// and the flags.
+#[derive(Clone, Copy)]
+struct ReadLists<'a> {
     n: usize,
     p: usize,
-    h: &[i32],
-    pos: &[f64],
-    normals: &[f64],
-    flags: &[u8],
+    h: &'a [i32],
+    pos: &'a [f64],
+    normals: &'a [f64],
+    flags: &'a [u8],
+}
+
+#[tactic(auto, unfolding(crate::specs::Operations::straighten_lines))]
+fn straighten(lists: &ReadLists<'_>, t: &mut [f64]) -> Result<Output, Refusal>
+    ensures lines { Shows (straighten_lines (as_halfedges lists.now.h.now) lists.now.pos.now t.old lists.now.n lists.now.p) lists.now.n result t.new }
+    ensures tangents { t.new ≡ straighten_tangents (as_halfedges lists.now.h.now) lists.now.pos.now t.old lists.now.n lists.now.p }
+{
+    linearize::linearize_flat_tangents(lists.n, lists.p, lists.h, lists.pos, t)?;
+    Ok(Output::Tangents { halfedges: lists.n })
+}
+
+#[tactic(auto, using(crate::proofs::Shown::scratch_lengths, crate::proofs::Shown::none_left), unfolding(crate::specs::Operations::spread_lines))]
+fn spread(
+    lists: &ReadLists<'_>,
     t: &mut [f64],
     current: &mut [f64],
     desired: &mut [f64],
 ) -> Result<Output, Refusal>
-    requires { SpreadIn n p (length pos.now) (length h.now) (length t.old) (length normals.now) (length flags.now) (length current.old) (length desired.old) }
-    ensures lines { Shows (spread_lines (as_halfedges (take (halfedge_stride * n) h.now)) (take (3 * p) pos.now) (take (3 * p) normals.now) (take n flags.now) (take (4 * n) t.old) n p) n result t.new }
-    ensures tangents { t.new ≡ spread_tangents (as_halfedges (take (halfedge_stride * n) h.now)) (take (3 * p) pos.now) (take (3 * p) normals.now) (take n flags.now) (take (4 * n) t.old) n p ++ drop (4 * n) t.old }
-    ensures current { current.new ≡ spread_scratch (as_halfedges (take (halfedge_stride * n) h.now)) (take (3 * p) pos.now) (take (3 * p) normals.now) (take n flags.now) (take (4 * n) t.old) n p current.old }
-    ensures desired { desired.new ≡ spread_scratch (as_halfedges (take (halfedge_stride * n) h.now)) (take (3 * p) pos.now) (take (3 * p) normals.now) (take n flags.now) (take (4 * n) t.old) n p desired.old }
+    requires { (length current.old ≡ lists.now.n) × (length desired.old ≡ lists.now.n) }
+    ensures lines { Shows (spread_lines (as_halfedges lists.now.h.now) lists.now.pos.now lists.now.normals.now lists.now.flags.now t.old lists.now.n lists.now.p) lists.now.n result t.new }
+    ensures tangents { t.new ≡ spread_tangents (as_halfedges lists.now.h.now) lists.now.pos.now lists.now.normals.now lists.now.flags.now t.old lists.now.n lists.now.p }
+    ensures current { current.new ≡ spread_scratch (as_halfedges lists.now.h.now) lists.now.pos.now lists.now.normals.now lists.now.flags.now t.old lists.now.n lists.now.p current.old }
+    ensures desired { desired.new ≡ spread_scratch (as_halfedges lists.now.h.now) lists.now.pos.now lists.now.normals.now lists.now.flags.now t.old lists.now.n lists.now.p desired.old }
 {
-    let hl = mesh::HALFEDGE_STRIDE * n;
-    let pl = 3 * p;
-    let tl = 4 * n;
     let counts = distribute::distribute_tangents(
-        n,
-        p,
-        &h[..hl],
-        &pos[..pl],
-        &normals[..pl],
-        &flags[..n],
-        &mut t[..tl],
-        &mut current[..n],
-        &mut desired[..n],
+        lists.n,
+        lists.p,
+        lists.h,
+        lists.pos,
+        lists.normals,
+        lists.flags,
+        t,
+        current,
+        desired,
     )?;
     Ok(Output::Spread {
-        halfedges: n,
+        halfedges: lists.n,
         looked: counts.looked,
         turned: counts.turned,
     })
 }
 
-fn check(n: usize, p: usize, h: &[i32], pos: &[f64], t: &[f64]) -> Result<Output, Refusal>
-    requires { MeshIn n p (length pos.now) (length h.now) (length t.now) }
-    ensures { Shows (check_lines (as_halfedges (take (halfedge_stride * n) h.now)) (take (3 * p) pos.now) (take (4 * n) t.now) n p) n result t.now }
+#[tactic(auto, unfolding(crate::specs::Operations::check_lines))]
+fn check(lists: &ReadLists<'_>, t: &[f64]) -> Result<Output, Refusal>
+    ensures { Shows (check_lines (as_halfedges lists.now.h.now) lists.now.pos.now t.now lists.now.n lists.now.p) lists.now.n result t.now }
 {
-    let hl = mesh::HALFEDGE_STRIDE * n;
-    let pl = 3 * p;
-    let tl = 4 * n;
-    let valid = validate::valid_tangents(n, p, &h[..hl], &pos[..pl], &t[..tl])?;
+    let valid = validate::valid_tangents(lists.n, lists.p, lists.h, lists.pos, t)?;
     Ok(Output::Valid { valid })
 }
 
-// The operation on the lists that were read. The lists are parameters: with a struct that lends them each clause would read
-// `lists.entry.t.now` for `t.old`.
+// The operation on the lists that were read, which it cuts to their lengths. The lists are parameters: with a struct that
+// lends them each clause would read `lists.entry.t.now` for `t.old`.
+#[tactic(auto, using(crate::proofs::Shown::shows_front))]
 pub fn perform(
     operation: Operation,
     n: usize,
@@ -92,26 +92,34 @@ pub fn perform(
     ensures current { current.new ≡ operation_scratch operation (as_halfedges (take (halfedge_stride * n) h.now)) (take (3 * p) pos.now) (take (3 * p) normals.now) (take n flags.now) (take (4 * n) t.old) n p current.old }
     ensures desired { desired.new ≡ operation_scratch operation (as_halfedges (take (halfedge_stride * n) h.now)) (take (3 * p) pos.now) (take (3 * p) normals.now) (take n flags.now) (take (4 * n) t.old) n p desired.old }
 {
+    let points = 3 * p;
+    let lists = ReadLists {
+        n,
+        p,
+        h: &h[..mesh::HALFEDGE_STRIDE * n],
+        pos: &pos[..points],
+        normals: &normals[..points],
+        flags: &flags[..n],
+    };
+    let t = &mut t[..4 * n];
     match operation {
-        Operation::Straighten => straighten(n, p, h, pos, t),
-        Operation::Spread => spread(n, p, h, pos, normals, flags, t, current, desired),
-        Operation::Check => check(n, p, h, pos, t),
+        Operation::Straighten => straighten(&lists, t),
+        Operation::Spread => spread(&lists, t, &mut current[..n], &mut desired[..n]),
+        Operation::Check => check(&lists, t),
     }
 }
 
 // The operation of a number: 1 straightens, 2 spreads, any other is the mark check.
-#[tactic(auto, unfolding(records::specs::Records::operation_of_number))]
+#[tactic(auto, unfolding(records::specs::Records::operation_of_number, records::specs::Records::operation_answer))]
 fn operation_of(number: u8) -> Operation
     ensures { result ≡ operation_of_number number }
 {
-    match number {
-        1 => Operation::Straighten,
-        2 => Operation::Spread,
-        _ => Operation::Check,
-    }
+    Operation::try_from(number).unwrap_or(Operation::Check)
 }
 
-// The same by the operation's number, for callers who have no `Operation`.
+// The same by the operation's number. Any number is taken, as a public call may not ask more of its callers than it did: by
+// `Operation`, as `perform` takes it, those who have another number than 1, 2 or 3 could not call. The lists are parameters as
+// in `perform`.
 pub fn operate(
     operation: u8,
     n: usize,

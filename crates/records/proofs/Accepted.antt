@@ -9,25 +9,25 @@ use lib.Dec.{leb, eqb}
 use lib.ListN.{length, take}
 use Rattle.std.specs.Prelude.{◌⊎◌, Result, Ok, Err}
 use Rattle.std.proofs.Common.{inl, inr}
-use Rattle.common.proofs.Tests.{and_true}
-use Rattle.mesh.specs.Check.{Checked, once, answer_of}
+use Rattle.std.proofs.lemmas.Bool.{and_parts}
+use Rattle.mesh.specs.Check.{Checked, asked, answer_of}
 use Rattle.mesh.specs.declared.Question.TheVariants.{Lengths, Fits, End}
 use Rattle.mesh.specs.declared.Refusal.{Refusal}
-use Rattle.mesh.proofs.Accepted.{then_accepted}
-use Rattle.records.specs.Records.{asked, operation_number, is_operation, operation_of_number, check_operation, kinds, body_bytes, records_length, bodies, check_record, check_bodies, check_records, check_input, operation_in, points_in, halfedges_in, input_in, parse_input, Values}
+use Rattle.mesh.proofs.Accepted.{then_accepted, asked_accepted}
+use Rattle.records.specs.Records.{operation_number, is_operation, operation_of_number, check_operation, kinds, body_bytes, records_length, bodies, check_record, check_bodies, check_records, check_input, operation_in, points_in, halfedges_in, input_in, parse_input, Values}
 use Rattle.records.specs.Lists.{if_spread, has_room, Lists, lists_have_room, check_reading, read_answer, MeshRoom, SpreadRoom}
 use Rattle.records.specs.declared.Operation.{Operation}
 use Rattle.records.specs.declared.Operation.TheVariants.{Straighten, Spread, Check}
 use Rattle.records.specs.declared.Kind.{Kind}
 use Rattle.records.specs.declared.Kind.TheVariants.{Operation as OperationKind, Counts as CountsKind}
 use Rattle.records.specs.declared.Input.{Input}
-use Rattle.records.proofs.Parse.{yes, answer_ok, answer_err}
+use Rattle.records.proofs.Parse.{answer_ok, answer_err}
 
 -- ---- the records fill the input
 
 whole_from : (s : List ℕ) (p n : ℕ) (left : List Kind) (place : ℕ) → check_bodies s p n left place ≡ Ok tt → length s ≡ place + records_length p n left
 unfolding check_bodies
-whole_from s p n [] place e = let q = eqb-true place (length s) (yes End place _ e) in omega arith
+whole_from s p n [] place e = let q = eqb-true place (length s) (asked_accepted End place _ e) in omega arith
 whole_from s p n (kind ∷ left) place e =
     let a = then_accepted (check_record s place kind (body_bytes p n kind)) (check_bodies s p n left (place + (6 + body_bytes p n kind))) e in
     omega (arith, whole_from s p n left (place + (6 + body_bytes p n kind)) a.1)
@@ -47,8 +47,8 @@ accepted_input s e =
     let d = then_accepted _ (check_record s 7 CountsKind 4) b.0 in
     let f = then_accepted (check_record s 0 OperationKind 1) (check_operation (operation_in s)) d.0 in
     record {
-      known = yes _ 0 _ f.1;
-      short = leb-true _ _ (yes Fits 0 _ a.0);
+      known = asked_accepted _ 0 _ f.1;
+      short = leb-true _ _ (asked_accepted Fits 0 _ a.0);
       whole = whole_from s _ _ _ 17 b.1;
     }
 
@@ -86,7 +86,7 @@ same_number k h = by_tests (eqb k 1) (eqb k 2) refl refl
     by_tests true y e f = rw e (sym (eqb-true k 1 e))
     by_tests false true e f = rw (e, f) (sym (eqb-true k 2 f))
     by_tests false false e f =
-        let q = and_true _ _ h in
+        let q = and_parts _ _ h in
         let l : 1 ≤ k = leb-true 1 k q.0 in
         let m : k ≤ 3 = leb-true k 3 q.1 in
         let g = eqb-false k 1 e in
@@ -101,7 +101,7 @@ values_of s (Err r) known = record { number = refl; place = refl; operation = re
 pub read_values : (s : List ℕ) (L : Lists) (r : Result Input Refusal) → r ≡ read_answer s L → Values (check_reading s L) s r
 unfolding read_answer check_reading
 read_values s L r e =
-    rw e (values_of s _ (λ a. (accepted_input s (then_accepted (check_input s) (once Lengths (lists_have_room (input_in s) L)) a).0).known))
+    rw e (values_of s _ (λ a. (accepted_input s (then_accepted (check_input s) (asked Lengths 0 (lists_have_room (input_in s) L)) a).0).known))
 
 -- ---- the answer of a reading
 
@@ -111,7 +111,7 @@ module _ (s : List ℕ) (L : Lists) where
   refused_back r e = rw (answer_err (check_input s) (input_in s) r e)
 
   module _ (i : Input) (e : parse_input s ≡ Ok i) where
-    room_asked : read_answer s L ≡ answer_of (once Lengths (lists_have_room i L)) i
+    room_asked : read_answer s L ≡ answer_of (asked Lengths 0 (lists_have_room i L)) i
     unfolding read_answer check_reading
     room_asked = let p = parsed s i e in rw (p.0, p.1)
 
@@ -119,7 +119,7 @@ module _ (s : List ℕ) (L : Lists) where
     short_lists b r h f = let z = rw h at f in rw (room_asked, z)
 
     pub read : (b : Bool) → b ≡ lists_have_room i L → asked Lengths 0 b ≡ Ok tt → (lists_have_room i L ≡ true) × (Ok i ≡ read_answer s L)
-    read b h f = let y = sym h ∙ yes Lengths 0 b f in (y, rw (room_asked, y))
+    read b h f = let y = sym h ∙ asked_accepted Lengths 0 b f in (y, rw (room_asked, y))
 
 -- ---- the room in the lists
 
@@ -128,10 +128,10 @@ module _ (o : Operation) (p n positions halfedges tangents normals flags : ℕ) 
       (3 * p ≤ positions) × (4 * n ≤ halfedges) × (4 * n ≤ tangents) × (if_spread o (3 * p) ≤ normals) × (if_spread o n ≤ flags)
   unfolding has_room
   room e =
-      let a = and_true _ _ e in
-      let b = and_true _ _ a.0 in
-      let c = and_true _ _ b.0 in
-      let d = and_true _ _ c.0 in
+      let a = and_parts _ _ e in
+      let b = and_parts _ _ a.0 in
+      let c = and_parts _ _ b.0 in
+      let d = and_parts _ _ c.0 in
       (leb-true _ _ d.0, leb-true _ _ d.1, leb-true _ _ c.1, leb-true _ _ b.1, leb-true _ _ a.1)
 
 module _ (s : List ℕ) (L : Lists) (i : Input) (e : parse_input s ≡ Ok i) (h : lists_have_room i L ≡ true) where

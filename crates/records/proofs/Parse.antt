@@ -13,13 +13,13 @@ use denote.Enum.Declared.{tag_of}
 use Rattle.std.specs.Prelude.{Ok, Err}
 use Rattle.std.proofs.lemmas.Bool.Decides.{nat_tests}
 use Rattle.little_endian.specs.Numbers.{u16_at, u32_at}
-use Rattle.common.proofs.Tests.{and_true}
-use Rattle.mesh.specs.Check.{Checked, ◌then◌, answer_of}
-use Rattle.mesh.proofs.Accepted.{then_accepted}
+use Rattle.std.proofs.lemmas.Bool.{and_parts}
+use Rattle.mesh.specs.Check.{Checked, asked, ◌then◌, answer_of}
+use Rattle.mesh.proofs.Accepted.{then_accepted, asked_accepted}
 use Rattle.mesh.specs.declared.Question.{Question}
 use Rattle.mesh.specs.declared.Question.TheVariants.{Fits, Kind as OtherKind, Body}
 use Rattle.mesh.specs.declared.Refusal.{Refusal}
-use Rattle.records.specs.Records.{asked, operation_of_number, check_operation, operation_answer, kind_number, record_fits, check_record, body_bytes, check_bodies}
+use Rattle.records.specs.Records.{operation_of_number, check_operation, operation_answer, kind_number, record_fits, check_record, body_bytes, check_bodies}
 use Rattle.records.specs.declared.Operation.{Operation}
 use Rattle.records.specs.declared.Kind.{Kind}
 use Rattle.records.specs.declared.Kind.TheVariants.{Operation as OperationKind, Counts as CountsKind, Positions, Halfedges, Tangents, Normals, Flags}
@@ -36,11 +36,6 @@ number_is Normals = refl
 number_is Flags = refl
 
 -- ---- one record
-
--- a question that is answered yes
-pub yes : (q : Question) (place : ℕ) (b : Bool) → asked q place b ≡ Ok tt → b ≡ true
-yes q place true e = refl
-yes q place false e = let z : ◌≡◌ {A = ℕ} 0 1 = cc in absurd (omega arith)
 
 -- a question in two parts
 asked_both : (q : Question) (place : ℕ) (a b : Bool) → asked q place (a && b) ≡ (asked q place a then asked q place b)
@@ -68,9 +63,9 @@ unfolding check_record record_fits
 within s at kind bytes e =
     let a = then_accepted _ (asked Body at (eqb (u32_at s at) bytes)) e in
     let b = then_accepted _ (asked OtherKind at (eqb (u16_at s (at + 4)) (kind_number kind))) a.0 in
-    let fit = and_true (leb (at + 6) (length s)) (leb (at + 6 + u32_at s at) (length s)) (yes Fits at _ b.0) in
+    let fit = and_parts (leb (at + 6) (length s)) (leb (at + 6 + u32_at s at) (length s)) (asked_accepted Fits at _ b.0) in
     let l = leb-true (at + 6 + u32_at s at) (length s) fit.1 in
-    let same = eqb-true (u32_at s at) bytes (yes Body at _ a.1) in
+    let same = eqb-true (u32_at s at) bytes (asked_accepted Body at _ a.1) in
     omega arith
 
 -- ---- the records in order

@@ -3,7 +3,7 @@ use Rattle.std.specs.Prelude.{ℕ, ◌*◌, ◌≤◌, List, Bool, ◌&&◌, len
 use Rattle.little_endian.specs.Numbers.{f64_item, i32_item, byte_item}
 use Rattle.little_endian.specs.Filled.{filled}
 use Rattle.mesh.specs.Mesh.{halfedge_stride}
-use Rattle.mesh.specs.Check.{Checked, once, ◌then◌, answer_of}
+use Rattle.mesh.specs.Check.{Checked, asked, ◌then◌, answer_of}
 use Rattle.mesh.specs.declared.Question.TheVariants.{Lengths}
 use Rattle.mesh.specs.declared.Refusal.{Refusal}
 use Rattle.records.specs.Records.{kinds, records_length, body_at, check_input, input_in}
@@ -45,7 +45,7 @@ lists_have_room input lists =
 
 -- the first no of a reading: the room (2) is asked about after the input, and has place 0; the lists of the program always have it
 unfoldable pub check_reading : List ℕ → Lists → Checked
-check_reading s lists = check_input s then once Lengths (lists_have_room (input_in s) lists)
+check_reading s lists = check_input s then asked Lengths 0 (lists_have_room (input_in s) lists)
 
 -- the answer of a reading
 unfoldable pub read_answer : List ℕ → Lists → Result Input Refusal

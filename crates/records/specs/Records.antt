@@ -1,7 +1,7 @@
 -- The program's input as document 01 has it: records of a u32 body length, a u16 kind and the body, kinds 1, 2, 3, .. in order. An input is refused by the first question that is answered no: 20 to 24, with its place.
 use Rattle.std.specs.Prelude.{ℕ, ◌+◌, ◌*◌, ◌-◌, ◌≡◌, List, [], ◌∷◌, Bool, cond, ◌&&◌, length, get_or, take, drop, leb, eqb, Result, Ok, Err}
 use Rattle.little_endian.specs.Numbers.{u16_at, u32_at}
-use Rattle.mesh.specs.Check.{Checked, refused, number_of, place_of, cond_checked, ◌then◌, answer_of}
+use Rattle.mesh.specs.Check.{Checked, number_of, place_of, asked, ◌then◌, answer_of, when_accepted}
 use Rattle.mesh.specs.declared.Question.{Question}
 use Rattle.mesh.specs.declared.Question.TheVariants.{Fits, Kind as OtherKind, Body, Operation as Unknown, End}
 use Rattle.mesh.specs.declared.Refusal.{Refusal}
@@ -10,10 +10,6 @@ use Rattle.records.specs.declared.Operation.TheVariants.{Straighten, Spread, Che
 use Rattle.records.specs.declared.Kind.{Kind}
 use Rattle.records.specs.declared.Kind.TheVariants.{Operation as OperationKind, Counts as CountsKind, Positions, Halfedges, Tangents, Normals, Flags}
 use Rattle.records.specs.declared.Input.{Input}
-
--- a question that is put at a place
-abbrev pub asked : Question → ℕ → Bool → Checked
-asked question place answer = cond_checked answer (Ok tt) (refused question place)
 
 -- ---- the operations: 1 straighten, 2 spread, 3 check
 
@@ -168,15 +164,10 @@ check_input s = asked Fits 0 (leb (length s) max_input) then check_records s
 unfoldable pub parse_input : List ℕ → Result Input Refusal
 parse_input s = answer_of (check_input s) (input_in s)
 
--- a value of an answer: 0 where there is a refusal
-abbrev pub unless_refused : Checked → ℕ → ℕ
-unless_refused (Ok a) value = value
-unless_refused (Err refusal) value = 0
-
 -- what holds of each answer r to an input s, where this is the first no
 pub record Values (checked : Checked) (s : List ℕ) (r : Result Input Refusal) : Type 0 where
   pub number : number_of r ≡ number_of checked
   pub place : place_of r ≡ place_of checked
-  pub operation : operation_of r ≡ unless_refused checked (operation_in s)
-  pub points : points_of r ≡ unless_refused checked (points_in s)
-  pub halfedges : halfedges_of r ≡ unless_refused checked (halfedges_in s)
+  pub operation : operation_of r ≡ when_accepted checked (operation_in s) 0
+  pub points : points_of r ≡ when_accepted checked (points_in s) 0
+  pub halfedges : halfedges_of r ≡ when_accepted checked (halfedges_in s) 0

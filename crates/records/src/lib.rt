@@ -6,7 +6,7 @@ ghost use Rattle.little_endian.specs.Numbers.{f64_item, i32_item, byte_item};
 ghost use Rattle.little_endian.specs.Filled.{filled};
 ghost use Rattle.mesh.specs.Mesh.{halfedge_stride};
 ghost use Rattle.mesh.specs.Check.{answer_of};
-ghost use Rattle.records.specs.Records.{operation_answer, asked, check_record, body_bytes, body_at, bodies, positions_at, check_bodies, check_records, input_in, parse_input, Values};
+ghost use Rattle.records.specs.Records.{operation_answer, check_record, body_bytes, body_at, bodies, positions_at, check_bodies, check_records, input_in, parse_input, Values};
 ghost use Rattle.records.specs.Lists.{MeshRoom, SpreadRoom, if_spread, has_room, lists_of, check_reading, read_answer, read_lists};
 
 use little_endian::LittleEndian;
@@ -85,27 +85,17 @@ pub struct Input {
     pub counts: Counts,
 }
 
-// The answer of a question that is put at a place.
-fn ask(question: Question, place: usize, answer: bool) -> Result<(), Refusal>
-    ensures { result ≡ asked question place answer }
-{
-    if answer {
-        return Ok(());
-    }
-    Err(Refusal { question, place })
-}
-
 // The questions of the record of a kind, with so many bytes, that is due at `at`.
 fn check_record(s: &[u8], at: usize, kind: Kind, bytes: usize) -> Result<(), Refusal>
     requires { at ≤ length s.now }
     ensures { result ≡ check_record s.now at kind bytes }
 {
     let left = s.len() - at;
-    ask(Question::Fits, at, HEADER_BYTES <= left)?;
+    mesh::ask_at(Question::Fits, at, HEADER_BYTES <= left)?;
     let body_length = u32::read(s, at) as usize;
-    ask(Question::Fits, at, body_length <= left - HEADER_BYTES)?;
-    ask(Question::Kind, at, u16::read(s, at + 4) == kind as u16)?;
-    ask(Question::Body, at, body_length == bytes)
+    mesh::ask_at(Question::Fits, at, body_length <= left - HEADER_BYTES)?;
+    mesh::ask_at(Question::Kind, at, u16::read(s, at + 4) == kind as u16)?;
+    mesh::ask_at(Question::Body, at, body_length == bytes)
 }
 
 // The body length that the counts call for.
@@ -147,6 +137,7 @@ fn bodies(operation: Operation) -> &'static [Kind]
 }
 
 // The records after the counts, and the end of the input.
+#[tactic(auto, unfolding(crate::specs::Records::check_bodies))]
 fn check_bodies(s: &[u8], kinds: &[Kind], counts: Counts) -> Result<(), Refusal>
     requires { positions_at ≤ length s.now }
     ensures { result ≡ check_bodies s.now counts.points counts.halfedges kinds.now positions_at }
@@ -157,10 +148,11 @@ fn check_bodies(s: &[u8], kinds: &[Kind], counts: Counts) -> Result<(), Refusal>
         check_record(s, place, *kind, bytes)?;
         place += HEADER_BYTES + bytes;
     }
-    ask(Question::End, place, place == s.len())
+    mesh::ask_at(Question::End, place, place == s.len())
 }
 
 // The records of an input of any length.
+#[tactic(auto, unfolding(crate::specs::Records::check_records))]
 fn parse_records(s: &[u8]) -> Result<Input, Refusal>
     ensures { result ≡ answer_of (check_records s.now) (input_in s.now) }
 {
@@ -176,10 +168,11 @@ fn parse_records(s: &[u8]) -> Result<Input, Refusal>
 }
 
 // The program's input.
+#[tactic(auto, unfolding(crate::specs::Records::parse_input, crate::specs::Records::check_input))]
 fn parse_input(s: &[u8]) -> Result<Input, Refusal>
     ensures { result ≡ parse_input s.now }
 {
-    ask(Question::Fits, 0, s.len() <= MAX_INPUT)?;
+    mesh::ask_at(Question::Fits, 0, s.len() <= MAX_INPUT)?;
     parse_records(s)
 }
 
@@ -194,6 +187,7 @@ fn if_spread(operation: Operation, count: usize) -> usize
 }
 
 // Have lists of these lengths room for the numbers?
+#[tactic(auto, unfolding(crate::specs::Lists::has_room))]
 fn has_room(input: Input, pos: usize, h: usize, t: usize, vn: usize, flags: usize) -> bool
     ensures { result ≡ has_room input.operation input.counts.points input.counts.halfedges pos h t vn flags }
 {
@@ -208,6 +202,7 @@ fn has_room(input: Input, pos: usize, h: usize, t: usize, vn: usize, flags: usiz
 }
 
 // The positions, the halfedges and the tangents.
+#[tactic(auto, unfolding(little_endian::specs::Numbers::f64_item, little_endian::specs::Numbers::i32_item))]
 fn fill_mesh(s: &[u8], counts: Counts, pos: &mut [f64], h: &mut [i32], t: &mut [f64])
     requires { MeshRoom counts.points counts.halfedges (length s.now) (length pos.old) (length h.old) (length t.old) }
     ensures { (pos.new ≡ filled (f64_item s.now (body_at counts.points counts.halfedges Kind.Positions)) (3 * counts.points) pos.old)
@@ -256,7 +251,7 @@ pub fn read_input(
 {
     let parsed = parse_input(input)?;
     let room = has_room(parsed, pos.len(), h.len(), t.len(), vn.len(), flags.len());
-    ask(Question::Lengths, 0, room)?;
+    mesh::ask_at(Question::Lengths, 0, room)?;
     fill_mesh(input, parsed.counts, pos, h, t);
     match parsed.operation {
         Operation::Spread => fill_spread(input, parsed.counts, vn, flags),

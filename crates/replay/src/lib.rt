@@ -74,11 +74,7 @@ impl<'a> Reader<'a> {
     // As many places of a list's room as the next number says, and none where it has fewer.
     pub fn front<'b, T>(&mut self, room: &'b mut [T]) -> &'b mut [T] {
         let len = self.read::<usize>();
-        if len <= room.len() {
-            &mut room[..len]
-        } else {
-            &mut room[..0]
-        }
+        room.get_mut(..len).unwrap_or(&mut [])
     }
 
     // Reads a list to the front of its room: none of it where it is longer.

@@ -52,7 +52,8 @@ impl TryFrom<usize> for Operation {
     }
 }
 
-// The first question answered no, and its lowest place.
+// The first question answered no, by its number, and its lowest place. No `mesh::Refusal`: a question of a number would take a
+// match of 17 arms here, and an answer for a number of none, and would be compared by its number all the same.
 #[derive(Clone, Copy, PartialEq)]
 pub struct Refusal {
     pub number: usize,
@@ -111,7 +112,10 @@ fn outcome_of(number: usize, place: usize) -> Result<(), Refusal> {
     }
 }
 
-// Is this how the call of the case ends?
-pub fn same_checked(checked: Result<(), mesh::Refusal>, case: Case<'_>) -> bool {
-    checked.map_err(Refusal::from) == case.outcome
+// Does a call with this answer end so?
+pub fn ends_as<T: Copy + PartialEq>(
+    answer: Result<T, mesh::Refusal>,
+    outcome: Result<T, Refusal>,
+) -> bool {
+    answer.map_err(Refusal::from) == outcome
 }

@@ -1,6 +1,6 @@
 // What the replays of both makings share: the lists and the answer of a case, and the scratch lists.
 
-use crate::{Case, Refusal};
+use crate::{Case, Refusal, ends_as};
 use replay::{Reader, all_same};
 use std::ops::Range;
 
@@ -90,11 +90,6 @@ fn part<T>(xs: &[T], range: Range<usize>) -> &[T] {
     xs.get(range).unwrap_or(&[])
 }
 
-// Is this how the call of the case ends?
-fn same_making(making: Result<usize, mesh::Refusal>, creation: Creation<'_>) -> bool {
-    making.map_err(Refusal::from) == creation.outcome
-}
-
 // What the scratch lists hold when they are lent: what no call leaves in them. And the tangents, where there are no old ones.
 const FLAG: u8 = 7;
 
@@ -138,5 +133,5 @@ where
     let bytes = all_same(fixed, flag) && all_same(flags, flag);
     let angles = all_same(smooth, angle) && all_same(desired, angle);
     let numbers = all_same(points, number) && all_same(link, number);
-    same_making(making, creation) && bytes && angles && numbers && body.holds(t)
+    ends_as(making, creation.outcome) && bytes && angles && numbers && body.holds(t)
 }

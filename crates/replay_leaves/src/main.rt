@@ -103,12 +103,6 @@ impl From<Vec3> for Results {
     }
 }
 
-impl From<Quat> for Results {
-    fn from(q: Quat) -> Self {
-        Results([q.x, q.y, q.z, q.w])
-    }
-}
-
 impl From<Vec4> for Results {
     fn from(v: Vec4) -> Self {
         Results([v.x, v.y, v.z, v.w])

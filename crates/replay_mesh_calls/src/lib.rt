@@ -2,7 +2,7 @@
 #![tactic(auto)]
 
 use replay::all_same;
-use replay_cases::{Case, Refusal, same_checked};
+use replay_cases::{Case, ends_as};
 use sharpen::Listed;
 
 pub fn straighten(mut case: Case<'_>) -> bool {
@@ -13,12 +13,7 @@ pub fn straighten(mut case: Case<'_>) -> bool {
     let h = case.body.list(&mut h);
     let t = case.body.list(&mut t);
     let checked = linearize::linearize_flat_tangents(case.n, case.p, h, pos, t);
-    same_checked(checked, case) && case.body.holds_list(t)
-}
-
-// Is this how the call of the case ends, whose answer is this?
-fn same_validity(validity: Result<bool, mesh::Refusal>, case: Case<'_>, valid: bool) -> bool {
-    validity.map_err(Refusal::from) == case.outcome.map(|()| valid)
+    ends_as(checked, case.outcome) && case.body.holds_list(t)
 }
 
 pub fn check(mut case: Case<'_>) -> bool {
@@ -30,7 +25,7 @@ pub fn check(mut case: Case<'_>) -> bool {
     let t = case.body.list(&mut t);
     let validity = validate::valid_tangents(case.n, case.p, h, pos, t);
     let valid = case.body.read::<usize>() == 1;
-    same_validity(validity, case, valid)
+    ends_as(validity, case.outcome.map(|()| valid))
 }
 
 // What the places of the list of entries hold when they are lent.
@@ -59,10 +54,11 @@ fn same_listing(
     list: &[usize],
     smooth: &[f64],
 ) -> bool {
-    match listing {
-        Ok(listed) => case.outcome.is_ok() && same_entries(case, listed, list, smooth),
-        Err(refusal) => case.outcome == Err(refusal.into()) && all_same(list, LENT),
-    }
+    let left = match listing {
+        Ok(listed) => same_entries(case, listed, list, smooth),
+        Err(_) => all_same(list, LENT),
+    };
+    ends_as(listing.map(|_| ()), case.outcome) && left
 }
 
 // After the lists stand the angle and the smoothness of the case, as a list of two.

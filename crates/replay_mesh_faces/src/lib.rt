@@ -7,7 +7,7 @@ ghost use Rattle.replay_mesh_faces.specs.Points.{Points};
 
 use create_shared::FlatFace;
 use replay::Reader;
-use replay_cases::{Case, same_checked};
+use replay_cases::{Case, ends_as};
 
 // The Rust's number for the flat faces at a point: -1 for none, -2 for several.
 fn face_number(face: FlatFace) -> Option<i32> {
@@ -62,10 +62,10 @@ fn same_points(mut body: Reader<'_>, faces: Faces<'_>, flags: &[u8], points: &mu
 {
     create_shared::vert_flat_face(faces.h, faces.refs, flags, points);
     body.skip(4);
-    for v in 0..points.len() {
-        if face_number(create_shared::flat_face(points, v)) != Some(body.read()) {
-            return false;
-        }
+    let same = (0..points.len()).all(|v| face_number(create_shared::flat_face(points, v))
+        == Some(body.read()));
+    if !same {
+        return false;
     }
     create_shared::vert_halfedge(faces.h, points, flags.len());
     body.skip(4);
@@ -76,7 +76,7 @@ fn asked_flags(case: Case<'_>, faces: Faces<'_>, flags: &mut [u8], points: &mut 
     let lengths = mesh::has_length(faces.h.len(), flags.len(), mesh::HALFEDGE_STRIDE);
     let checked = mesh::check_mesh(faces.h, flags.len(), points.len(), lengths);
     let Ok(()) = checked else {
-        return same_checked(checked, case);
+        return ends_as(checked, case.outcome);
     };
     same_flags(case.body, faces, flags, points)
 }

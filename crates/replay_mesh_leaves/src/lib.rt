@@ -4,9 +4,8 @@
 ghost use Rattle.mesh.specs.Mesh.{as_halfedges};
 ghost use Rattle.replay_mesh_leaves.specs.Lists.{NormalLists, QuadLists};
 
-use common::both;
 use mesh::has_length;
-use replay_cases::{Case, same_checked};
+use replay_cases::{Case, ends_as};
 
 // The lists of `tangent_from_normal`: `own` holds the normal of each halfedge.
 #[derive(Clone, Copy)]
@@ -37,19 +36,13 @@ fn same_tangents(case: Case<'_>, lists: Normals<'_>) -> bool
 fn asked_normals(case: Case<'_>, lists: Normals<'_>) -> bool {
     let n = case.n;
     let p = case.p;
-    let lengths = both(
-        both(
-            has_length(lists.h.len(), n, mesh::HALFEDGE_STRIDE),
-            has_length(lists.pos.len(), p, 3),
-        ),
-        both(
-            has_length(lists.faces.len(), n, 1),
-            has_length(lists.own.len(), n, 3),
-        ),
-    );
+    let lengths = has_length(lists.h.len(), n, mesh::HALFEDGE_STRIDE)
+        & has_length(lists.pos.len(), p, 3)
+        & has_length(lists.faces.len(), n, 1)
+        & has_length(lists.own.len(), n, 3);
     let checked = mesh::check_mesh(lists.h, n, p, lengths);
     let Ok(()) = checked else {
-        return same_checked(checked, case);
+        return ends_as(checked, case.outcome);
     };
     same_tangents(case, lists)
 }
@@ -101,13 +94,11 @@ fn same_quads(case: Case<'_>, lists: Quads<'_>) -> bool
 fn asked_quads(case: Case<'_>, lists: Quads<'_>) -> bool {
     let n = case.n;
     let p = case.p;
-    let lengths = both(
-        has_length(lists.h.len(), n, mesh::HALFEDGE_STRIDE),
-        has_length(lists.t.len(), n, 4),
-    );
+    let lengths = has_length(lists.h.len(), n, mesh::HALFEDGE_STRIDE)
+        & has_length(lists.t.len(), n, 4);
     let checked = mesh::check_mesh(lists.h, n, p, lengths);
     let Ok(()) = checked else {
-        return same_checked(checked, case);
+        return ends_as(checked, case.outcome);
     };
     same_quads(case, lists)
 }

@@ -4,7 +4,7 @@
 
 use mesh::{Refusal, has_length};
 use replay::Reader;
-use replay_cases::{Case, Operation, same_checked};
+use replay_cases::{Case, Operation, ends_as};
 
 // The lengths of the lists that the case does not hold; that of the tangents only where there are old ones.
 #[derive(Clone, Copy)]
@@ -109,5 +109,5 @@ pub fn questions(mut case: Case<'_>) -> bool {
         Ok(Operation::CreateFromNormals) => lent.check_create_from_normals(),
         _ => return false,
     };
-    same_checked(checked, case)
+    ends_as(checked, case.outcome)
 }

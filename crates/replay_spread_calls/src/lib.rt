@@ -4,7 +4,7 @@
 
 use distribute::Counts;
 use replay::all_same;
-use replay_cases::{Case, Operation, ROOM, Refusal};
+use replay_cases::{Case, Operation, ROOM, ends_as};
 use std::io::Input;
 
 // The lists of a case that both calls only read.
@@ -17,13 +17,13 @@ struct Lists<'a> {
 }
 
 // Is this how the call of the case ends, whose counts looked and turned are these?
-fn same_spreading(
+fn ends_with(
     spreading: Result<Counts, mesh::Refusal>,
     case: Case<'_>,
     counts: (usize, usize),
 ) -> bool {
-    let outcome = spreading.map(|spread| (spread.looked, spread.turned));
-    outcome.map_err(Refusal::from) == case.outcome.map(|()| counts)
+    let spread = spreading.map(|spread| (spread.looked, spread.turned));
+    ends_as(spread, case.outcome.map(|()| counts))
 }
 
 // Spreading, with scratch lists of its own: zeros where it is accepted, else as they were lent. Are the answer and all lists
@@ -45,7 +45,7 @@ fn spread(mut case: Case<'_>, lists: Lists<'_>, t: &mut [f64]) -> bool {
         desired,
     );
     let angle = if case.outcome.is_ok() { 0.0 } else { 0.5 };
-    same_spreading(spreading, case, counts)
+    ends_with(spreading, case, counts)
         && all_same(current, angle)
         && all_same(desired, angle)
         && case.body.holds_list(t)
@@ -67,7 +67,7 @@ fn preview(mut case: Case<'_>, lists: Lists<'_>, t: &[f64]) -> bool {
         t,
         shown,
     );
-    same_spreading(spreading, case, counts) && case.body.holds(shown)
+    ends_with(spreading, case, counts) && case.body.holds(shown)
 }
 
 // Reads the lists of a case, and puts them to its call.

@@ -1,12 +1,10 @@
 -- The crease listing as a public call: its questions, its answer, and the lists after it. H are the halfedges, A the face normals, I and Q the two lent lists, n and p the counts.
-use Rattle.std.specs.Prelude.{ℕ, ◌+◌, ◌*◌, ◌/◌, ◌≤◌, ◌≡◌, List, Bool, true, ◌&&◌, length, Float, Result, Ok, Err}
+use Rattle.std.specs.Prelude.{ℕ, ◌*◌, ◌/◌, ◌≡◌, List, Bool, ◌&&◌, length, Float, Result, Ok, Err}
 use Rattle.common.specs.Count.{count_below}
 use Rattle.mesh.specs.Mesh.{halfedge_stride, Halfedges}
 use Rattle.mesh.specs.Questions.{has_length}
 use Rattle.mesh.specs.Check.{Checked, number_of, place_of, check_mesh, answer_of, when_accepted}
-use Rattle.mesh.specs.Sound.{Sound}
 use Rattle.mesh.specs.declared.Refusal.{Refusal}
-use Rattle.smoothing.specs.Edges.{NormalsIn}
 use Rattle.sharpen.specs.Crease.{min_radians, is_crease}
 use Rattle.sharpen.specs.Entries.{Entries, entries_in, list_edges}
 use Rattle.sharpen.specs.declared.Listed.{Listed}
@@ -37,20 +35,6 @@ lengths_fit H A I Q n =
 -- questions 1 to 7
 abbrev pub check_lists : Halfedges → List Float → List ℕ → List Float → ℕ → ℕ → Checked
 check_lists H A I Q n p = check_mesh H n p (lengths_fit H A I Q n)
-
--- what they establish
-pub record Lists (H : Halfedges) (A : List Float) (I : List ℕ) (Q : List Float) (n p : ℕ) : Type 0 where
-  pub sound : Sound H n p
-  pub whole : H.numbers ≡ n * halfedge_stride
-  pub normals : length A ≡ n / 3 * 3
-  pub halfedges : length I ≡ n
-  pub smoothness : length Q ≡ n
-
--- what one turn of the loop needs, after k entries: normals at halfedge e, and room for two entries more where its edge is listed
-pub record EdgeFits (H : Halfedges) (A : List Float) (limit : Float) (e k : ℕ) (I : List ℕ) (Q : List Float) : Type 0 where
-  pub normals : NormalsIn H A e
-  pub halfedges : is_crease H A limit e ≡ true → k + 2 ≤ length I
-  pub smoothness : is_crease H A limit e ≡ true → k + 2 ≤ length Q
 
 -- ---- the call
 

@@ -14,6 +14,10 @@ use Rattle.smoothing.specs.declared.CircularTangent.{CircularTangent}
 unfoldable pub vec3_from_vec4 : Vec4 → Vec3
 vec3_from_vec4 v = record { x = v.x; y = v.y; z = v.z }
 
+-- a vector with a weight
+abbrev pub with_weight : Vec3 → Float → Vec4
+with_weight v w = record { x = v.x; y = v.y; z = v.z; w = w }
+
 -- the test of `safe_normalize`: a vector with this squared length has no direction
 unfoldable pub is_degenerate : Float → Bool
 is_degenerate len2 = le len2 zero || not (is_finite len2)

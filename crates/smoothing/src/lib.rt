@@ -1,11 +1,12 @@
 // The leaves of src/smoothing.rs: directions, angles and circular tangents, each the Rust's, operation by operation; and
-// tangents, points and normals as values of flat lists.
+// tangents, points and normals as values of flat lists. Each function asks for its own place (`EdgeIn e`, `e * 4 + 4 ≤ length t`): it
+// differs from call to call, so no struct of the lists can hold it.
 #![tactic(auto)]
 
 ghost use Rattle.std.specs.Prelude.{◌≡◌, ◌+◌, ◌*◌, ◌≤◌, length};
 ghost use Rattle.mesh.specs.Mesh.{as_halfedges, paired_halfedge};
 ghost use Rattle.mesh.specs.Inside.{Inside};
-ghost use Rattle.smoothing.specs.Directions.{vec3_from_vec4, is_degenerate, safe_normalize, direction_of, wrap_of, angle_between, equal_normals, equal_units, circular_tangent_of};
+ghost use Rattle.smoothing.specs.Directions.{vec3_from_vec4, with_weight, is_degenerate, safe_normalize, direction_of, wrap_of, angle_between, equal_normals, equal_units, circular_tangent_of};
 ghost use Rattle.smoothing.specs.Lists.{point_at, tangent_at, put_tangent, weight_at, is_marked_inside_quad};
 ghost use Rattle.smoothing.specs.Edges.{EdgeIn, NormalsIn, FacesIn, TriangleIn, InsideQuadIn, edge_vec, bi_tangent, tangent_from_normal_of, same_face_across, no_other_neighbor, is_inside_quad};
 ghost use Rattle.smoothing.specs.Inner.{angle_of_cosine, edge_normal, direction_from_normal, EdgesIn, PairIn, tangents_from_normals};
@@ -47,6 +48,7 @@ pub struct TwoTangents {
     pub directionless: bool,
 }
 
+// By the Rust's name, and so no `From`.
 #[tactic(auto, unfolding(crate::specs::Directions::vec3_from_vec4))]
 pub fn vec3_from_vec4(v: Vec4) -> Vec3
     ensures { result ≡ vec3_from_vec4 v }
@@ -55,6 +57,18 @@ pub fn vec3_from_vec4(v: Vec4) -> Vec3
         x: v.x,
         y: v.y,
         z: v.z,
+    }
+}
+
+// A vector with a weight.
+pub fn with_weight(v: Vec3, w: f64) -> Vec4
+    ensures { result ≡ with_weight v w }
+{
+    Vec4 {
+        x: v.x,
+        y: v.y,
+        z: v.z,
+        w,
     }
 }
 
@@ -376,7 +390,8 @@ pub fn tangents_from_normals(
     }
 }
 
-// Is the triangle across halfedge e of triangle t's face?
+// Is the triangle across halfedge e of triangle t's face? The two lists stay parameters, here and below: of a struct of them each
+// clause would say `faces.now.h.now` for `h.now`.
 #[tactic(auto, unfolding(crate::specs::Edges::same_face_across))]
 fn same_face_across(h: &[i32], refs: &[i32], e: usize, t: usize) -> bool
     requires { Inside (as_halfedges h.now) e }

@@ -23,6 +23,7 @@ use distribute::Counts;
 use mesh::Refusal;
 use sharpen::Listed;
 
+// No `get_mut`: its contract says nothing of what the list ends as.
 fn put_at(answer: &mut [usize], k: usize, x: usize)
     ensures { answer.new ≡ set answer.old k x }
 {
@@ -48,7 +49,10 @@ fn put_answer<T: Copy>(
     put_at(answer, 3, second);
 }
 
-// Straightening: no further numbers.
+// Straightening: no further numbers. A function for each kind of answer, here and below: as a trait they would be five impls of
+// two methods each, and longer. One that is lent a closure was tried, `put_answer(answer, listing, |l| [l.entries, l.tally])`. Its
+// clause speaks of all that the closure may give, `(first second : T → ℕ) → ((value : T) (xs : List ℕ) → F.post numbers value xs
+// → xs ≡ first value ∷ second value ∷ []) → ..`, and each C function then needs a proof, where now none does.
 fn put_checked(answer: &mut [usize], checked: Result<(), Refusal>)
     ensures { answer.new ≡ put_checked answer.old checked }
 {

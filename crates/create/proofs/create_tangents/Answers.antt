@@ -1,5 +1,5 @@
 -- `create::create_tangents` meets its contract. Assumes nothing.
-use Prim.Native.Nat.{ℕ, ◌*◌, ◌≤◌}
+use Prim.Native.Nat.{ℕ}
 use mathlib.Core.Path.{◌≡◌, sym, subst, ◌∙◌}
 use mathlib.Core.Bool.{Bool, ◌&&◌}
 use mathlib.Core.List.{List}
@@ -7,55 +7,35 @@ use lib.ListN.{length}
 use lib.IntN.{ℤ}
 use lib.Ieee.{Float}
 use Rattle.mesh.specs.Mesh.{as_halfedges}
-use Rattle.std.proofs.Common.{Ok}
+use Rattle.std.proofs.Common.{Ok, rules}
 use Rattle.mesh.specs.Check.{Checked}
 use Rattle.create_shared.proofs.Answered.{values_of}
 use Rattle.create_smoothness.specs.Entries.{entries_of}
 use Rattle.create_smoothness.specs.EntrySmoothness.{EntriesIn}
 use Rattle.create_smoothness.proofs.Flat.{flat_entries_in}
-use Rattle.create.specs.Create.{lists_fit, scratch_fits, check_create, check_lists, tangents_after, create_answer}
+use Rattle.create.specs.Create.{lists_fit, scratch_fits, check_create, check_lists}
 use Rattle.create.proofs.Accepted.{AcceptedLists, accepted_lists, written, made}
 use Rattle.create.proofs.create_tangents.Goals as goal
-use Rattle.create.proofs.create_tangents.Goals.{After-check_create-checked, After-make_tangents-directionless}
+use Rattle.create.proofs.create_tangents.Goals.{After-check_create-checked}
 
 -- the answer of the questions, from what the calls answer
-answer : (h : List ℤ) (P N A : List Float) (R : List ℤ) (I : List ℕ) (Q T : List Float) (X F : List ℕ) (S D : List Float) (C L : List ℕ) (n p : ℕ) {lists scratch lengths : Bool} {checked : Checked}
+answer : (h : List ℤ) (P N A : List Float) (R : List ℤ) (I : List ℕ) (Q T : List Float) (X F : List ℕ) (S D : List Float) (C L : List ℕ) (n p : ℕ) {lists scratch : Bool} {checked : Checked}
     → lists ≡ lists_fit (length h) (length P) (length N) (length A) (length R) (length I) (length Q) (length T) n p
     → scratch ≡ scratch_fits (length X) (length F) (length S) (length D) (length C) (length L) n p
-    → lengths ≡ (lists && scratch)
-    → checked ≡ check_create (as_halfedges h) R I Q n p lengths
+    → checked ≡ check_create (as_halfedges h) R I Q n p (lists && scratch)
     → checked ≡ check_lists (as_halfedges h) P N A R I Q T X F S D C L n p
 unfolding as_halfedges
-answer h P N A R I Q T X F S D C L n p a b both e = rw (← a, ← b, ← both) e
+answer h P N A R I Q T X F S D C L n p a b e = rw (← a, ← b) e
 
 checked_is : (c : After-check_create-checked) → let a = c.args in c.check_create-checked.result ≡ check_lists (as_halfedges a.h.now) a.pos.now a.normals.now a.face_normals.now a.refs.now a.entries.now a.values.now a.t.now a.fixed.now a.flat.now a.smooth.now a.desired.now a.at.now a.link.now a.n a.p
 checked_is c =
     let a = c.args in
-    answer a.h.now a.pos.now a.normals.now a.face_normals.now a.refs.now a.entries.now a.values.now a.t.now a.fixed.now a.flat.now a.smooth.now a.desired.now a.at.now a.link.now a.n a.p c.lists_fit-lists.ensures c.scratch_lists_fit-scratch.ensures c.both-lengths.ensures c.check_create-checked.ensures
+    answer a.h.now a.pos.now a.normals.now a.face_normals.now a.refs.now a.entries.now a.values.now a.t.now a.fixed.now a.flat.now a.smooth.now a.desired.now a.at.now a.link.now a.n a.p c.lists_fit-lists.ensures c.scratch_fits-scratch.ensures c.check_create-checked.ensures
 
 lists : (c : After-check_create-checked) → c.check_create-checked.result ≡ Ok tt → let a = c.args in AcceptedLists (as_halfedges a.h.now) a.pos.now a.normals.now a.face_normals.now a.entries.now a.values.now a.t.now a.fixed.now a.flat.now a.smooth.now a.desired.now a.at.now a.link.now a.n a.p
 lists c e =
     let a = c.args in
     accepted_lists (as_halfedges a.h.now) a.pos.now a.normals.now a.face_normals.now a.refs.now a.entries.now a.values.now a.t.now a.fixed.now a.flat.now a.smooth.now a.desired.now a.at.now a.link.now a.n a.p (sym (checked_is c) ∙ e)
-
--- what an accepted call answers and leaves
-answered : (c : After-make_tangents-directionless) → let a = c.args in c.check_create-checked.result ≡ check_lists (as_halfedges a.h.now) a.pos.now a.normals.now a.face_normals.now a.refs.now a.entries.now a.values.now a.t.now a.fixed.now a.flat.now a.smooth.now a.desired.now a.at.now a.link.now a.n a.p
-    → (Ok c.make_tangents-directionless.result ≡ create_answer (as_halfedges a.h.now) a.pos.now a.normals.now a.face_normals.now a.refs.now a.entries.now a.values.now a.t.now a.fixed.now a.flat.now a.smooth.now a.desired.now a.at.now a.link.now a.old a.n a.p)
-    × (c.make_tangents-directionless.new.t ≡ tangents_after (Ok tt) (as_halfedges a.h.now) a.pos.now a.normals.now a.face_normals.now a.refs.now (entries_of a.entries.now a.values.now) a.t.now a.old a.n a.p)
-    × (c.make_tangents-directionless.result ≤ 2 * a.n)
-answered c is =
-    let a = c.args in
-    let m = c.make_tangents-directionless in
-    made (as_halfedges a.h.now) a.pos.now a.normals.now a.face_normals.now a.refs.now a.entries.now a.values.now a.t.now a.fixed.now a.flat.now a.smooth.now a.desired.now a.at.now a.link.now a.n a.p (entries_of a.entries.now a.values.now) a.old is (λ w. flat_entries_in a.entries.now a.values.now a.n w.values w.named w.clear)
-    c.in-Ok.is c.entry_smoothness.ensures m.ensures.tangents m.ensures.directionless
-
-pub returns-in_default-clause-answer : goal.returns-in_default-clause-answer
-returns-in_default-clause-answer c =
-    rw (checked_is (goal.at.returns-in_default-clause-answer c).After-check_create-checked) at c.refused.ensures.answer _
-
-pub returns-in_default-clause-values : goal.returns-in_default-clause-values
-returns-in_default-clause-values c =
-    values_of _ _ (rw (checked_is (goal.at.returns-in_default-clause-values c).After-check_create-checked) at c.refused.ensures.answer _)
 
 pub entry_smoothness-requires : goal.entry_smoothness-requires
 entry_smoothness-requires c =
@@ -73,22 +53,22 @@ pub make_tangents-directionless-requires : goal.make_tangents-directionless-requ
 make_tangents-directionless-requires c =
     written (lists (goal.at.make_tangents-directionless-requires c).After-check_create-checked c.in-Ok.is) c.entry_smoothness.auto.smooth
 
-pub returns-clause-answer : goal.returns-clause-answer
-returns-clause-answer c =
-    let k = goal.at.returns-clause-answer c in
-    (answered k.After-make_tangents-directionless (checked_is k.After-check_create-checked)).0
-
-pub returns-clause-tangents : goal.returns-clause-tangents
-returns-clause-tangents c =
-    let k = goal.at.returns-clause-tangents c in
-    (answered k.After-make_tangents-directionless (checked_is k.After-check_create-checked)).1
-
-pub returns-clause-bound : goal.returns-clause-bound
-returns-clause-bound c =
-    let k = goal.at.returns-clause-bound c in
-    (answered k.After-make_tangents-directionless (checked_is k.After-check_create-checked)).2
-
-pub returns-clause-values : goal.returns-clause-values
-returns-clause-values c =
-    let k = goal.at.returns-clause-values c in
-    values_of _ _ (answered k.After-make_tangents-directionless (checked_is k.After-check_create-checked)).0
+-- what an accepted call answers and leaves
+pub returns : goal.returns
+returns c =
+    let a = c.args in
+    let m = c.make_tangents-directionless in
+    let r = made (as_halfedges a.h.now) a.pos.now a.normals.now a.face_normals.now a.refs.now a.entries.now a.values.now a.t.now a.fixed.now a.flat.now a.smooth.now a.desired.now a.at.now a.link.now a.n a.p (entries_of a.entries.now a.values.now) a.old (checked_is (goal.at.returns c).After-check_create-checked)
+    (λ w. flat_entries_in a.entries.now a.values.now a.n w.values w.named w.clear) c.in-Ok.is c.entry_smoothness.ensures m.ensures.tangents m.ensures.directionless in
+    record {
+      answer = r.0;
+      tangents = r.1;
+      fixed = search rules;
+      flat = search rules;
+      smooth = search rules;
+      desired = search rules;
+      at = search rules;
+      link = search rules;
+      bound = r.2;
+      values = values_of _ _ r.0;
+    }

@@ -1,6 +1,5 @@
 -- `create_core::make_tangents` meets its contract: three calls in a row. Assumes nothing.
 use Rattle.mesh.specs.Mesh.{as_halfedges}
-use Rattle.create_core.specs.Filled.{filled_directionless}
 use Rattle.create_core.proofs.Core.{created}
 use Rattle.create_core.proofs.make_tangents.Goals as goal
 
@@ -9,8 +8,3 @@ returns-clause-tangents c =
     let a = c.args in
     let m = a.mesh in
     created (as_halfedges m.h.now) m.pos.now m.normals.now m.face_normals.now m.refs.now a.smooth.now a.t.now a.old m.n m.p c.shape_tangents-directionless.ensures.tangents c.finish_tangents.ensures.tangents
-
-pub returns-clause-directionless : goal.returns-clause-directionless
-unfolding filled_directionless
-returns-clause-directionless c =
-    c.shape_tangents-directionless.ensures.directionless

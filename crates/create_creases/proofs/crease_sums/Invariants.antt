@@ -2,14 +2,13 @@
 use lib.ListN.{length}
 use Rattle.create_shared.specs.Faces.{vert_halfedge}
 use Rattle.mesh.specs.Mesh.{as_halfedges}
-use Rattle.create_edges.specs.Smoothness.{pair_at}
 use Rattle.create_creases.specs.Creases.{add_sides, sums_of}
-use Rattle.create_creases.specs.Linked.{pairs_at}
+use Rattle.create_creases.specs.Lists.{pair_by, pairs_by}
 use Rattle.create_creases.proofs.Linked.{left_of, Walking}
 use Rattle.create_creases.proofs.crease_sums.Given as goal
 
-abbrev pub invariant-loop-code : goal.invariant-loop-code
-invariant-loop-code l = Walking l.n l.link (vert_halfedge (as_halfedges l.h) l.n l.v) (λ s e. add_sides s (pair_at (as_halfedges l.h) l.smooth e)) (sums_of (pairs_at (as_halfedges l.h) l.smooth l.n l.v)) l.code l.sums
+abbrev pub invariant-loop-e : goal.invariant-loop-e
+invariant-loop-e l = Walking l.creases.n l.creases.link.now (vert_halfedge (as_halfedges l.creases.h.now) l.creases.n l.v) (λ s e. add_sides s (pair_by l.creases e)) (sums_of (pairs_by l.creases l.v)) l.code l.sums
 
-abbrev pub decreases-loop-code : goal.decreases-loop-code
-decreases-loop-code l = length (left_of l.n l.link l.n l.code)
+abbrev pub decreases-loop-e : goal.decreases-loop-e
+decreases-loop-e l = length (left_of l.creases.n l.creases.link.now l.creases.n l.code)

@@ -1,16 +1,15 @@
 -- `create_entries::create_entries` meets its contract. Assumes nothing.
-use Rattle.std.proofs.Common.{◌*◌, ◌≤◌, ◌≡◌, sym, subst, ◌∙◌, Ok}
+use Rattle.std.proofs.Common.{◌≡◌, sym, subst, ◌∙◌, Ok, rules}
 use Rattle.mesh.specs.Mesh.{as_halfedges}
 use Rattle.create_shared.proofs.Answered.{values_of}
 use Rattle.create_smoothness.specs.Entries.{halfedges_of, smoothness_of}
 use Rattle.create_smoothness.specs.EntrySmoothness.{EntriesIn}
 use Rattle.create_smoothness.proofs.Flat.{entries_in}
-use Rattle.create.specs.Create.{tangents_after}
 use Rattle.create.proofs.Accepted.{AcceptedLists, accepted_lists, written, made}
-use Rattle.create_entries.specs.CreateEntries.{check_lists, create_answer}
+use Rattle.create_entries.specs.CreateEntries.{check_lists}
 use Rattle.create_entries.proofs.Answer.{is_answer}
 use Rattle.create_entries.proofs.create_entries.Goals as goal
-use Rattle.create_entries.proofs.create_entries.Goals.{After-check_lists-checked, After-make_tangents-directionless}
+use Rattle.create_entries.proofs.create_entries.Goals.{After-check_lists-checked}
 
 checked_is : (c : After-check_lists-checked) → let a = c.args in c.check_lists-checked.result ≡ check_lists (as_halfedges a.h.now) a.pos.now a.normals.now a.face_normals.now a.refs.now a.sharp.now a.t.now a.fixed.now a.flat.now a.smooth.now a.desired.now a.at.now a.link.now a.n a.p
 checked_is c =
@@ -22,17 +21,6 @@ lists : (c : After-check_lists-checked) → c.check_lists-checked.result ≡ Ok 
 lists c e =
     let a = c.args in
     accepted_lists (as_halfedges a.h.now) a.pos.now a.normals.now a.face_normals.now a.refs.now (halfedges_of a.sharp.now) (smoothness_of a.sharp.now) a.t.now a.fixed.now a.flat.now a.smooth.now a.desired.now a.at.now a.link.now a.n a.p (sym (checked_is c) ∙ e)
-
--- what an accepted call answers and leaves
-answered : (c : After-make_tangents-directionless) → let a = c.args in c.check_lists-checked.result ≡ check_lists (as_halfedges a.h.now) a.pos.now a.normals.now a.face_normals.now a.refs.now a.sharp.now a.t.now a.fixed.now a.flat.now a.smooth.now a.desired.now a.at.now a.link.now a.n a.p
-    → (Ok c.make_tangents-directionless.result ≡ create_answer (as_halfedges a.h.now) a.pos.now a.normals.now a.face_normals.now a.refs.now a.sharp.now a.t.now a.fixed.now a.flat.now a.smooth.now a.desired.now a.at.now a.link.now a.old a.n a.p)
-    × (c.make_tangents-directionless.new.t ≡ tangents_after (Ok tt) (as_halfedges a.h.now) a.pos.now a.normals.now a.face_normals.now a.refs.now a.sharp.now a.t.now a.old a.n a.p)
-    × (c.make_tangents-directionless.result ≤ 2 * a.n)
-answered c is =
-    let a = c.args in
-    let m = c.make_tangents-directionless in
-    made (as_halfedges a.h.now) a.pos.now a.normals.now a.face_normals.now a.refs.now (halfedges_of a.sharp.now) (smoothness_of a.sharp.now) a.t.now a.fixed.now a.flat.now a.smooth.now a.desired.now a.at.now a.link.now a.n a.p a.sharp.now a.old is
-    (λ w. entries_in a.sharp.now a.n w.named w.clear) c.in-Ok.is c.sharp_smoothness.ensures m.ensures.tangents m.ensures.directionless
 
 pub returns-in_default-clause-answer : goal.returns-in_default-clause-answer
 returns-in_default-clause-answer c =
@@ -58,22 +46,22 @@ pub make_tangents-directionless-requires : goal.make_tangents-directionless-requ
 make_tangents-directionless-requires c =
     written (lists (goal.at.make_tangents-directionless-requires c).After-check_lists-checked c.in-Ok.is) c.sharp_smoothness.auto.smooth
 
-pub returns-clause-answer : goal.returns-clause-answer
-returns-clause-answer c =
-    let k = goal.at.returns-clause-answer c in
-    (answered k.After-make_tangents-directionless (checked_is k.After-check_lists-checked)).0
-
-pub returns-clause-tangents : goal.returns-clause-tangents
-returns-clause-tangents c =
-    let k = goal.at.returns-clause-tangents c in
-    (answered k.After-make_tangents-directionless (checked_is k.After-check_lists-checked)).1
-
-pub returns-clause-bound : goal.returns-clause-bound
-returns-clause-bound c =
-    let k = goal.at.returns-clause-bound c in
-    (answered k.After-make_tangents-directionless (checked_is k.After-check_lists-checked)).2
-
-pub returns-clause-values : goal.returns-clause-values
-returns-clause-values c =
-    let k = goal.at.returns-clause-values c in
-    values_of _ _ (answered k.After-make_tangents-directionless (checked_is k.After-check_lists-checked)).0
+-- what an accepted call answers and leaves
+pub returns : goal.returns
+returns c =
+    let a = c.args in
+    let m = c.make_tangents-directionless in
+    let r = made (as_halfedges a.h.now) a.pos.now a.normals.now a.face_normals.now a.refs.now (halfedges_of a.sharp.now) (smoothness_of a.sharp.now) a.t.now a.fixed.now a.flat.now a.smooth.now a.desired.now a.at.now a.link.now a.n a.p a.sharp.now a.old (checked_is (goal.at.returns c).After-check_lists-checked)
+    (λ w. entries_in a.sharp.now a.n w.named w.clear) c.in-Ok.is c.sharp_smoothness.ensures m.ensures.tangents m.ensures.directionless in
+    record {
+      answer = r.0;
+      tangents = r.1;
+      fixed = search rules;
+      flat = search rules;
+      smooth = search rules;
+      desired = search rules;
+      at = search rules;
+      link = search rules;
+      bound = r.2;
+      values = values_of _ _ r.0;
+    }

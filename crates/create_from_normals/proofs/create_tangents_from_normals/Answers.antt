@@ -11,18 +11,17 @@ lists : (c : After-check_normals-checked) → c.check_normals-checked.result ≡
 lists c e =
     let a = c.args in
     lists_of a.h.now a.pos.now a.normals.now a.face_normals.now a.refs.now a.rows.now a.t.now a.fixed.now a.inside.now a.current.now a.desired.now a.first.now a.n a.p
-    (rw (← c.lists_fit-lists.ensures, ← c.scratch_fits-scratch.ensures, ← c.both-lengths.ensures, ← c.check_normals-checked.ensures) e)
+    (rw (← c.lists_fit-lists.ensures, ← c.scratch_fits-scratch.ensures, ← c.check_normals-checked.ensures) e)
+
+pub invariant_of-mesh : goal.invariant_of-mesh
+invariant_of-mesh c =
+    let w = lists (goal.at.invariant_of-mesh c).After-check_normals-checked c.in-Ok.is in
+    record { sound = w.sound; whole = w.whole; positions = w.positions; point_normals = w.point_normals; triangle_normals = w.triangle_normals }
 
 pub invariant_of-read : goal.invariant_of-read
 invariant_of-read c =
-    let w = lists (goal.at.invariant_of-read c).After-check_normals-checked c.in-Ok.is in record {
-      sound = w.sound;
-      whole = w.whole;
-      positions = w.positions;
-      point_normals = w.point_normals;
-      triangle_normals = w.triangle_normals;
-      halfedge_normals = w.halfedge_normals;
-    }
+    let w = lists (goal.at.invariant_of-read c).After-check_normals-checked c.in-Ok.is in
+    record { halfedge_normals = w.halfedge_normals }
 
 pub make_tangents-directionless-requires : goal.make_tangents-directionless-requires
 make_tangents-directionless-requires c =

@@ -4,16 +4,16 @@ use Rattle.mesh.specs.Mesh.{as_halfedges}
 use Rattle.create_shared.specs.Faces.{is_flat}
 use Rattle.create_shared.specs.Lent.{flat_flags}
 use Rattle.create_shared.proofs.Flat.{flags_same}
-use Rattle.create_initial.proofs.First.{faces_at, first_is}
+use Rattle.create_initial.proofs.First.{faces_in, first_is}
 use Rattle.create_initial.proofs.first_tangents.Goals as goal
 
-pub put_first_tangents-requires : goal.put_first_tangents-requires
-put_first_tangents-requires c =
+pub invariant_of-lists : goal.invariant_of-lists
+invariant_of-lists c =
     let a = c.args in
     let r = c.requires in
     record {
-      at = faces_at a.mesh c.flat_faces.new.flat a.at.now c.vert_flat_face.new.at (c.flat_faces.auto.flat ∙ r.1) r.2 c.vert_flat_face.auto.at c.vert_flat_face.ensures;
-      tangents = r.0;
+      points = c.vert_flat_face.auto.at ∙ r.2;
+      faces = faces_in a.mesh c.flat_faces.new.flat a.at.now c.vert_flat_face.new.at (c.flat_faces.auto.flat ∙ r.1) r.2 c.vert_flat_face.auto.at c.vert_flat_face.ensures;
     }
 
 pub returns-clause-tangents : goal.returns-clause-tangents

@@ -10,7 +10,7 @@ use Rattle.create_initial.proofs.put_each.Given as goal
 
 abbrev pub invariant-loop-e : goal.invariant-loop-e
 invariant-loop-e l = record {
-  tangents : l.t ≡ fold_to (put_first l.mesh l.at l.initial.t true) l.initial.t l.e;
+  tangents : l.t ≡ fold_to (put_first l.lists l.initial.t true) l.initial.t l.e;
   weights : (x : ℕ) → l.e ≤ x → weight_at l.t x ≡ weight_at l.initial.t x;
-  directionless : l.directionless ≡ count_below (counts_first l.mesh l.initial.t true) l.e;
+  directionless : l.directionless ≡ count_below (counts_first l.lists.mesh l.initial.t true) l.e;
 }

@@ -11,6 +11,6 @@ use Rattle.create_initial.proofs.put_edges.Given as goal
 
 abbrev pub invariant-loop-e : goal.invariant-loop-e
 invariant-loop-e l = record {
-  tangents : l.t ≡ fold_to (put_edge put_tangent (as_halfedges l.mesh.h.now) (first_at l.mesh l.at l.initial.t false)) l.initial.t l.e;
-  directionless : l.directionless ≡ sum l.e (edge_directionless l.mesh l.initial.t);
+  tangents : l.t ≡ fold_to (put_edge put_tangent (as_halfedges l.lists.mesh.h.now) (first_at l.lists l.initial.t false)) l.initial.t l.e;
+  directionless : l.directionless ≡ sum l.e (edge_directionless l.lists.mesh l.initial.t);
 }

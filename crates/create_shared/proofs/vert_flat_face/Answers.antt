@@ -1,9 +1,8 @@
 -- `create_shared::vert_flat_face` meets its contract. The invariant: each place holds the fold over the halfedges passed. Assumes nothing.
 use native.Mathlib.Omega.{arith}
-use mathlib.Core.Path.{sym, ap, ◌∙◌, ◌≡◌}
+use mathlib.Core.Path.{sym, ap, ◌∙◌}
 use lib.ListN.{length}
 use Rattle.common.proofs.Fold.{fold_none, fold_turn}
-use Rattle.create_shared.specs.Faces.{vert_flat_face}
 use Rattle.create_shared.specs.Lent.{face_of}
 use Rattle.create_shared.specs.declared.FlatFace.TheVariants.{NoFace}
 use Rattle.common.proofs.Filled.{filled_at}
@@ -18,11 +17,3 @@ pub loop-e-preserved : goal.loop-e-preserved
 loop-e-preserved c =
     let l = c.loop-e in
     λ v h. fold_turn _ NoFace _ _ l.e (l.invariant v h) (c.vert_face_at.ensures v (omega arith))
-
-pub returns : goal.returns
-unfolding vert_flat_face
-returns c =
-    λ v h.
-    let l = c.loop-e in
-    let n : l.e ≡ length c.args.flat.now = omega arith in
-    rw (← n) (l.invariant v (omega arith))

@@ -1,5 +1,5 @@
 -- `create_sharpen::sharpen_meeting` meets its contract: a walk once round a vertex cycle. The invariant: what is left of the fold gives the whole. Assumes nothing.
-use Rattle.mesh.specs.Mesh.{as_halfedges}
+use Rattle.create_sharpen.specs.Lent.{mesh_of}
 use Rattle.create_sharpen.specs.Sharpen.{sharpen_meeting_at}
 use Rattle.cycles.proofs.Loops.{Walking}
 use Rattle.cycles.proofs.Paths.{is_at, steps_left}
@@ -13,8 +13,8 @@ use Rattle.create_sharpen.proofs.sharpen_meeting.Given as goal
 
 abbrev pub invariant-loop-current : goal.invariant-loop-current
 invariant-loop-current l =
-    Walking (next_around (as_halfedges l.h)) l.n (is_at l.first) l.n l.first l.current × (length l.t ≡ length l.initial.t)
-    × (foldl (sharpen_meeting_at (as_halfedges l.h) (is_flat l.flat) l.mean) l.t (cycle_from (next_around (as_halfedges l.h)) l.n l.first l.current) ≡ foldl (sharpen_meeting_at (as_halfedges l.h) (is_flat l.flat) l.mean) l.initial.t (vertex_cycle (as_halfedges l.h) l.n l.first))
+    Walking (next_around (mesh_of l.lists)) l.lists.creases.n (is_at l.first) l.lists.creases.n l.first l.current × (length l.t ≡ length l.initial.t)
+    × (foldl (sharpen_meeting_at (mesh_of l.lists) (is_flat l.lists.flat.now) l.mean) l.t (cycle_from (next_around (mesh_of l.lists)) l.lists.creases.n l.first l.current) ≡ foldl (sharpen_meeting_at (mesh_of l.lists) (is_flat l.lists.flat.now) l.mean) l.initial.t (vertex_cycle (mesh_of l.lists) l.lists.creases.n l.first))
 
 abbrev pub decreases-loop-current : goal.decreases-loop-current
-decreases-loop-current l = steps_left (next_around (as_halfedges l.h)) (is_at l.first) l.n l.current
+decreases-loop-current l = steps_left (next_around (mesh_of l.lists)) (is_at l.first) l.lists.creases.n l.current

@@ -5,20 +5,8 @@ use Rattle.std.specs.Float.{nan}
 use Rattle.mesh.specs.Questions.{names_halfedge, has_clear_sign}
 use Rattle.mesh.specs.Check.{check_entries}
 use Rattle.create_smoothness.specs.Entries.{halfedges_of, smoothness_of}
-use Rattle.create_smoothness.proofs.Counting.{no_entry}
+use Rattle.create_smoothness.proofs.Adding.{no_entry}
 use Rattle.create_smoothness.proofs.check_sharp.Goals as goal
-
-pub returns-in_err-sofar : goal.returns-in_err-sofar
-unfolding check_entries
-returns-in_err-sofar c =
-    search rules
-
-pub returns-in_err-ask : goal.returns-in_err-ask
-unfolding check_entries
-returns-in_err-ask c =
-    let a = c.args in
-    let named = c.ask.ensures (names_halfedge (halfedges_of a.sharp.now) a.n) (λ k b h post. rw (get_or-map (λ e. e.halfedge) a.sharp.now k no_entry 0 h) (search rules)) in
-    rw (length-map, c.in_ok-sofar.was, sym named) (search rules)
 
 pub returns : goal.returns
 unfolding check_entries

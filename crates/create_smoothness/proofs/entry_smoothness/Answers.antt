@@ -11,9 +11,8 @@ use Rattle.std.proofs.lemmas.List.{length_push}
 use Rattle.std.proofs.lemmas.Slice.Zip.{zip_turn, zip_end}
 use Rattle.create_smoothness.specs.Entries.{entries_of}
 use Rattle.create_smoothness.specs.declared.Smoothness.{Smoothness}
-use Rattle.create_smoothness.proofs.Counting.{no_entry}
 use Rattle.create_smoothness.proofs.Flat.{entries_length, entry_at}
-use Rattle.create_smoothness.proofs.Adding.{added, add_more, all_added, named_at}
+use Rattle.create_smoothness.proofs.Adding.{no_entry, add_more, all_added, named_at}
 use Rattle.create_smoothness.proofs.entry_smoothness.Goals as goal
 use Rattle.create_smoothness.proofs.entry_smoothness.Goals.{In-Some}
 
@@ -32,14 +31,14 @@ turn c =
 pub add_entry-requires : goal.add_entry-requires
 add_entry-requires c =
     let t = turn (goal.at.add_entry-requires c).In-Some in
-    omega (arith, c.fill.ensures.len, ap (λ (x : Smoothness). x.halfedge) t.1, named_at c.requires.1 no_entry _ t.0)
+    omega (arith, c.fill.ensures.len, ap (λ (x : Smoothness). x.halfedge) t.1, named_at c.requires.1 _ t.0)
 
 pub loop-e-preserved : goal.loop-e-preserved
 loop-e-preserved c =
     let E = entries_of c.args.entries.now c.args.values.now in
     let l = c.loop-e in
     let t = turn (goal.at.loop-e-preserved c).In-Some in
-    rw (length_push l.yielded (c.in-Some.e, c.in-Some.s), add_more c.fill.new.self E no_entry _ t.0, t.1, ← l.invariant) c.add_entry.ensures
+    rw (length_push l.yielded (c.in-Some.e, c.in-Some.s), add_more c.fill.new.self E _ t.0, t.1, ← l.invariant) c.add_entry.ensures
 
 pub returns : goal.returns
 returns c =
@@ -50,5 +49,4 @@ returns c =
     let first : iter_rest (zip_first start) ≡ I = search rules in
     let second : iter_rest (zip_second start) ≡ Q = search rules in
     let e = zip_end I Q c.loop-e.yielded start c.loop-e.e-iterator c.next.new.self c.next.result first second c.loop-e.yielded_by c.in-None.is c.next.ensures.steps in
-    let all : length c.loop-e.yielded ≡ length E = omega (arith, e, entries_length I Q c.requires.0) in
-    c.loop-e.invariant ∙ ap (added c.fill.new.self E) all ∙ all_added _ E _ (c.fill.ensures.after (λ y e. e))
+    c.loop-e.invariant ∙ all_added _ E _ _ (omega (arith, e, entries_length I Q c.requires.0)) (c.fill.ensures.after (λ y e. e))

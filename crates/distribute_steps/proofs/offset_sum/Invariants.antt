@@ -1,7 +1,8 @@
--- `distribute_steps::offset_sum` meets its contract: after i turns the sum is the fold over the angles below i.
+-- `distribute_steps::offset_sum` meets its contract: the sum is the fold over the angles passed.
 use mathlib.Core.Path.{◌≡◌}
+use lib.ListN.{length}
 use Rattle.distribute_steps.specs.FloatSteps.{offset_sum}
 use Rattle.distribute_steps.proofs.offset_sum.Given as goal
 
-abbrev pub invariant-loop-i : goal.invariant-loop-i
-invariant-loop-i l = l.sum ≡ offset_sum l.scale l.current l.desired l.i
+abbrev pub invariant-loop-current : goal.invariant-loop-current
+invariant-loop-current l = l.sum ≡ offset_sum l.scale l.angles.current.now l.angles.desired.now (length l.yielded)

@@ -10,8 +10,8 @@ use Rattle.distribute_steps.proofs.Angles.{begin_directions}
 use Rattle.distribute_walks.proofs.Lawful.{laws}
 use Rattle.distribute_walks.proofs.first_walk.Goals as goal
 
-pub loop-approx-init : goal.loop-approx-init
-loop-approx-init c =
+pub loop-lists-init : goal.loop-lists-init
+loop-lists-init c =
     let p = c.requires in
     let lists = c.args.lists.now in
     first_going (laws lists) p.start_lt_n.0 p.start_lt_n.1
@@ -19,45 +19,42 @@ loop-approx-init c =
 
 pub overflow_add-looked : goal.overflow_add-looked
 overflow_add-looked c =
-    omega (arith, (first_room (laws c.args.lists.now) c.loop-approx.invariant).1, c.requires.start_lt_n.2.looked_fits)
+    omega (arith, first_room (laws c.args.lists.now) c.loop-lists.invariant)
 
 pub gather_at-g-requires : goal.gather_at-g-requires
 gather_at-g-requires c =
     let p = c.requires in
     let lists = c.args.lists.now in
-    let inv = c.loop-approx.invariant in
+    let inv = c.loop-lists.invariant in
     let room = (first_room (laws lists) inv).0 in
     record {
-      look = record {
-        start_below = p.start_lt_n.0;
-        below = first_below (laws lists) inv.at c.next_around-here.ensures;
-        tangents = p.written.tangents;
-        first_is = begin_directions (as_halfedges lists.h.now) lists.pos.now c.args.t.now [] [] c.args.start c.begin-g.result (rw c.tangent_at-v.ensures at (c.begin-g.ensures.result_value [] []));
-      };
-      current_in = omega (arith, room, c.loop-approx.auto.current, p.written.current);
-      desired_in = omega (arith, room, c.loop-approx.auto.desired, p.written.desired);
+      below = first_below (laws lists) inv.at c.next_around-here.ensures;
+      current_in = omega arith;
+      desired_in = omega arith;
     }
+
+pub invariant_of-walk-clause-first_is : goal.invariant_of-walk-clause-first_is
+invariant_of-walk-clause-first_is c =
+    let lists = c.args.lists.now in
+    begin_directions (as_halfedges lists.h.now) lists.pos.now c.args.t.now [] [] c.args.start c.begin-g.result (rw c.tangent_at-v.ensures at (c.begin-g.ensures.result_value [] []))
 
 pub is_start-requires : goal.is_start-requires
 is_start-requires c =
     let lists = c.args.lists.now in
-    let below = first_below (laws lists) c.loop-approx.invariant.at c.next_around-here.ensures in
-    (omega (arith, lists.flags, below), omega (arith, c.requires.written.tangents, below))
+    let below = first_below (laws lists) c.loop-lists.invariant.at c.next_around-here.ensures in
+    (omega arith, omega arith)
 
-pub loop-approx-smaller : goal.loop-approx-smaller
-loop-approx-smaller c =
-    first_less (laws c.args.lists.now) c.loop-approx.invariant c.next_around-here.ensures
-    (rw (c.point_at-approx.ensures, c.start_vert.ensures) at c.gather_at-g.ensures.result_after) c.gather_at-g.ensures.count_value (sym c.is_start.ensures ∙ c.if-is_start.false)
+pub loop-lists-smaller : goal.loop-lists-smaller
+loop-lists-smaller c =
+    first_less (laws c.args.lists.now) c.loop-lists.invariant c.next_around-here.ensures c.gather_at-g.ensures.result_after c.gather_at-g.ensures.count_value (sym c.is_start.ensures ∙ c.if-is_start.false)
 
-pub loop-approx-preserved : goal.loop-approx-preserved
-loop-approx-preserved c =
+pub loop-lists-preserved : goal.loop-lists-preserved
+loop-lists-preserved c =
     let g = c.gather_at-g in
-    first_next (laws c.args.lists.now) c.loop-approx.invariant c.next_around-here.ensures
-    (rw (c.point_at-approx.ensures, c.start_vert.ensures) at g.ensures.result_after) g.ensures.count_value (sym c.is_start.ensures ∙ c.if-is_start.false)
+    first_next (laws c.args.lists.now) c.loop-lists.invariant c.next_around-here.ensures g.ensures.result_after g.ensures.count_value (sym c.is_start.ensures ∙ c.if-is_start.false)
 
 pub returns : goal.returns
 returns c =
     let g = c.gather_at-g in
-    let over = first_over (laws c.args.lists.now) c.loop-approx.invariant c.next_around-here.ensures
-    (rw (c.point_at-approx.ensures, c.start_vert.ensures) at g.ensures.result_after) g.ensures.count_value (sym c.is_start.ensures ∙ c.if-is_start.true) in
+    let over = first_over (laws c.args.lists.now) c.loop-lists.invariant c.next_around-here.ensures g.ensures.result_after g.ensures.count_value (sym c.is_start.ensures ∙ c.if-is_start.true) in
     record { result_after = over.found; looked_bound = (over.few, over.room) }

@@ -8,9 +8,9 @@ use Rattle.distribute_steps.specs.Scratch.{gathered_of}
 use Rattle.distribute_walks.specs.Walks.{steps_of}
 use Rattle.distribute_walks.proofs.first_walk.Given as goal
 
-abbrev pub invariant-loop-approx : goal.invariant-loop-approx
-invariant-loop-approx l =
+abbrev pub invariant-loop-lists : goal.invariant-loop-lists
+invariant-loop-lists l =
     FirstGoing (steps_of l.lists) l.t l.start l.initial.looked (begin (as_halfedges l.lists.h.now) l.lists.pos.now l.start (tangent_at l.t l.start)) l.here l.looked l.g.count (gathered_of l.current l.desired l.g)
 
-abbrev pub decreases-loop-approx : goal.decreases-loop-approx
-decreases-loop-approx l = first_left (steps_of l.lists) l.t l.here
+abbrev pub decreases-loop-lists : goal.decreases-loop-lists
+decreases-loop-lists l = first_left (steps_of l.lists) l.t l.here

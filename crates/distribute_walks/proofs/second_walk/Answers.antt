@@ -26,17 +26,17 @@ next_around-here-requires c =
 
 pub leaves-requires : goal.leaves-requires
 leaves-requires c =
-    omega (arith, c.args.lists.now.flags, second_below (laws c.args.lists.now) (c.walk.invariant none []).going.at c.next_around-here.ensures)
+    omega (arith, second_below (laws c.args.lists.now) (c.walk.invariant none []).going.at c.next_around-here.ensures)
 
 pub turn_unmarked-i-requires : goal.turn_unmarked-i-requires
 turn_unmarked-i-requires c =
     let p = c.requires in
     let w = (c.walk.invariant none []).going.at in
     record {
-      tangent_in = omega (arith, w.whole, second_below (laws c.args.lists.now) w c.next_around-here.ensures);
+      tangent_in = omega (arith, second_below (laws c.args.lists.now) w c.next_around-here.ensures);
       current_in = p.current_in;
-      desired_in = omega (arith, p.desired_in, c.walk.auto.desired);
-      angle_in = omega (arith, w.index);
+      desired_in = omega arith;
+      angle_in = omega arith;
       angle_below = index_below (laws c.args.lists.now) w c.next_around-here.ensures;
     }
 

@@ -4,24 +4,6 @@ use Rattle.linearize.specs.Linearize.{linearize_at}
 use Rattle.linearize.proofs.Laws.{end_unflat, other_end}
 use Rattle.linearize.proofs.linearize_at.Goals as goal
 
-pub returns-then-not-is_forward : goal.returns-then-not-is_forward
-unfolding linearize_at
-returns-then-not-is_forward c =
-    simp (← c.is_forward.ensures, c.if-not-is_forward.true)
-
-pub returns-then-is_flat : goal.returns-then-is_flat
-unfolding linearize_at
-returns-then-is_flat c =
-    simp (
-      ← c.is_forward.ensures,
-      c.if-not-is_forward.false,
-      ← c.paired_halfedge-pair.ensures,
-      ← c.tangent_at-tangent.ensures,
-      ← c.tangent_at-other.ensures,
-      ← c.edge_vec-edge.ensures,
-    )
-    c.linearize_edge.ensures
-
 pub returns-then-not-is_flat : goal.returns-then-not-is_flat
 unfolding linearize_at
 returns-then-not-is_flat c =

@@ -6,4 +6,4 @@ use Rattle.little_endian.proofs.fill.Given as goal
 abbrev pub invariant-loop-i : goal.invariant-loop-i
 invariant-loop-i g l =
     let number = g.T.LittleEndian.number in
-    l.xs ≡ filled (λ i. number l.s (l.at + g.T.LittleEndian.BYTES * i)) l.i l.initial.xs
+    l.front ≡ filled (λ i. number l.s (l.at + g.T.LittleEndian.BYTES * i)) l.i l.initial.front

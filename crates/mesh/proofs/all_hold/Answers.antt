@@ -1,25 +1,16 @@
--- `mesh::all_hold` meets its contract: what is left to be searched from a triangle on gives what all gives.
-use Rattle.std.proofs.Common.{◌≡◌, ◌/◌, sym, ◌∙◌, length, true}
-use Rattle.mesh.specs.Mesh.{halfedge_stride}
+-- `mesh::all_hold` meets its contract: a test of all triangles is what the search for the lowest one finds.
+use Rattle.std.proofs.Common.{ℕ, ◌≡◌, ◌*◌, ◌/◌, refl, sym, ◌∙◌, length, arith, true, rules, tests}
+use Rattle.std.proofs.lemmas.Iterator.{YieldsList-from_range}
+use Rattle.std.proofs.lemmas.Iterator.Search.{all_from_yields_List}
+use Rattle.mesh.specs.Mesh.{halfedge_stride, as_halfedges}
+use Rattle.mesh.specs.All.{triangle_holds}
 use Rattle.mesh.specs.Questions.{has_length}
-use Rattle.mesh.proofs.Search.{search_start, search_on, search_no, search_all}
+use Rattle.mesh.proofs.Search.{all_lowest}
 use Rattle.mesh.proofs.all_hold.Goals as goal
-
-pub loop-t-init : goal.loop-t-init
-loop-t-init c =
-    search_start _ (c.args.n / 3)
-
-pub returns-then-not-triangle_holds : goal.returns-then-not-triangle_holds
-returns-then-not-triangle_holds c =
-    let fits : has_length (length c.args.h.now) c.args.n halfedge_stride ≡ true = sym c.has_length.ensures ∙ c.if-not-has_length.false in
-    rw fits (search_no _ _ c.loop-t.t c.loop-t.invariant c.loop-t-test.true c.if-not-triangle_holds.ensures)
-
-pub loop-t-preserved : goal.loop-t-preserved
-loop-t-preserved c =
-    let l = c.loop-t in
-    search_on _ _ l.t c.loop-t-test.true c.if-not-triangle_holds.ensures l.invariant
 
 pub returns : goal.returns
 returns c =
-    let fits : has_length (length c.args.h.now) c.args.n halfedge_stride ≡ true = sym c.has_length.ensures ∙ c.if-not-has_length.false in
-    rw fits (search_all _ _ c.loop-t.t c.loop-t.invariant c.loop-t-test.false)
+    let a = c.args in
+    let t = λ (k : ℕ). triangle_holds (as_halfedges a.h.now) a.n a.p (k * 3) in
+    let fits : has_length (length a.h.now) a.n halfedge_stride ≡ true = sym c.has_length.ensures ∙ c.if-not-has_length.false in
+    rw fits (all_from_yields_List t _ _ _ c.all.ensures.ran (YieldsList-from_range 0 (a.n / 3) (a.n / 3) refl (omega arith)) (λ x b q k. search (rules, tests)) ∙ all_lowest t (a.n / 3))

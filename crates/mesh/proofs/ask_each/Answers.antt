@@ -5,14 +5,6 @@ use Rattle.mesh.specs.All.{ask_each}
 use Rattle.mesh.specs.Questions.{has_points, has_pair, is_mutual, is_opposite, is_joined}
 use Rattle.mesh.proofs.ask_each.Goals as goal
 
-pub returns-in_err-ask : goal.returns-in_err-ask
-unfolding ask_each
-returns-in_err-ask c =
-    let a = c.args in
-    let H = as_halfedges a.h.now in
-    let points = c.ask.ensures (has_points H a.p) (λ k b h post. search rules) in
-    rw (sym points) (search rules)
-
 pub returns-in_err-ask-2 : goal.returns-in_err-ask-2
 unfolding ask_each
 returns-in_err-ask-2 c =

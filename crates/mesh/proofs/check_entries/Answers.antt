@@ -4,18 +4,6 @@ use Rattle.mesh.specs.Check.{check_entries}
 use Rattle.mesh.specs.Questions.{names_halfedge, has_clear_sign}
 use Rattle.mesh.proofs.check_entries.Goals as goal
 
-pub returns-in_err-sofar : goal.returns-in_err-sofar
-unfolding check_entries
-returns-in_err-sofar c =
-    search rules
-
-pub returns-in_err-ask : goal.returns-in_err-ask
-unfolding check_entries
-returns-in_err-ask c =
-    let a = c.args in
-    let named = c.ask.ensures (names_halfedge a.halfedges.now a.n) (λ k b h post. search rules) in
-    rw (c.in_ok-sofar.was, sym named) (search rules)
-
 pub returns : goal.returns
 unfolding check_entries
 returns c =

@@ -5,27 +5,8 @@ use mathlib.Core.Path.{◌≡◌}
 use lib.ListN.{get_or}
 use lib.IntN.{pos}
 use Rattle.mesh.specs.Mesh.{halfedge_stride, number_at, field, as_halfedges}
-use Rattle.mesh.proofs.Accepted.{inside_list}
 use Rattle.mesh.proofs.Signed.{read, index_order}
 use Rattle.mesh.proofs.is_forward.Goals as goal
-
-pub overflow_mul-at : goal.overflow_mul-at
-overflow_mul-at c = omega (arith, inside_list _ _ c.requires)
-
-pub offset_bounds-h-at : goal.offset_bounds-h-at
-offset_bounds-h-at c = omega (arith, inside_list _ _ c.requires)
-
-pub bounds-h-at : goal.bounds-h-at
-bounds-h-at c = omega (arith, inside_list _ _ c.requires)
-
-pub overflow_add-result : goal.overflow_add-result
-overflow_add-result c = omega (arith, inside_list _ _ c.requires)
-
-pub offset_bounds-h-at-2 : goal.offset_bounds-h-at-2
-offset_bounds-h-at-2 c = omega (arith, inside_list _ _ c.requires)
-
-pub bounds-h-at-2 : goal.bounds-h-at-2
-bounds-h-at-2 c = omega (arith, inside_list _ _ c.requires)
 
 -- the two numbers, neither negative, stand in the order of the indices
 pub returns : goal.returns

@@ -10,8 +10,8 @@ use Rattle.normals_walks.proofs.fill_walk.Given as goal
 
 abbrev pub invariant-loop-current : goal.invariant-loop-current
 invariant-loop-current l =
-    Counting (fill_step (mesh_of l.lists) l.pos l.face_normals (normal_of l.lists) l.last) (λ (m : Fill). fill_directionless (mesh_of l.lists) l.pos m.tangents) (prev_around (mesh_of l.lists)) l.lists.n l.start (fill_of l.initial.t (normal_of l.lists (next_around (mesh_of l.lists) l.start))) (fill_of l.t l.prev) l.directionless l.current
+    Counting (fill_step (mesh_of l.lists) l.lists.mesh.pos.now l.lists.mesh.face_normals.now (normal_of l.lists) l.last) (λ (m : Fill). fill_directionless (mesh_of l.lists) l.lists.mesh.pos.now m.tangents) (prev_around (mesh_of l.lists)) l.lists.mesh.n l.start (fill_of l.initial.t (normal_of l.lists (next_around (mesh_of l.lists) l.start))) (fill_of l.t l.prev) l.directionless l.current
     × (length l.t ≡ length l.initial.t)
 
 abbrev pub decreases-loop-current : goal.decreases-loop-current
-decreases-loop-current l = steps_left (prev_around (mesh_of l.lists)) (is_at l.start) l.lists.n l.current
+decreases-loop-current l = steps_left (prev_around (mesh_of l.lists)) (is_at l.start) l.lists.mesh.n l.current

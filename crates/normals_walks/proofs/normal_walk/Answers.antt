@@ -5,7 +5,7 @@ use Rattle.normals_walks.specs.Lists.{mesh_of, normal_of}
 use Rattle.normals_walks.proofs.Lent.{making_in, next_in, here_face_in, next_face_in}
 use Rattle.normals_walks.proofs.Counting.{Counting, counting_start, counting_step, counting_less, counting_within, counting_state, counting_count}
 use Rattle.normals_steps.specs.Steps.{StateIn, Walk, walk_of, normal_step, normal_step_directionless}
-use Rattle.normals_steps.specs.Carried.{is_inside, normal_step_of, normal_step_directionless_of}
+use Rattle.normals_steps.specs.Carried.{faces_of, is_inside, normal_step_of, normal_step_directionless_of}
 use Rattle.normals_steps.proofs.Lent.{state_start, state_after}
 use Rattle.normals_steps.proofs.Carried.{normal_step_by, normal_count_by}
 use Rattle.normals_steps.proofs.Counts.{normal_step_one, normal_count_one}
@@ -16,6 +16,8 @@ use Rattle.cycles.proofs.Around.{next_permutes}
 use Rattle.cycles.specs.Cycles.{next_around}
 use Rattle.smoothing.specs.Directions.{safe_normalize}
 use Rattle.normals_state.specs.declared.HalfedgeNormal.{HalfedgeNormal}
+use Rattle.normals_state.specs.declared.NormalPair.{NormalPair}
+use Rattle.normals_steps.specs.declared.FaceLists.{FaceLists}
 use Prim.Native.Nat.{ℕ, ◌+◌, ◌*◌, ◌<◌, ◌≤◌}
 use native.Mathlib.Omega.{arith}
 use lib.ListN.{length}
@@ -30,18 +32,21 @@ unfolding halfedge_normal
 unit_is U normal e q = rw q refl
 
 -- a step at halfedge e by the carried normals, that of e and that of x
-module _ (w : WalkLists) (m : Walk) {e : ℕ} (l : e < w.lists.n) {here next : HalfedgeNormal} {x : ℕ} (h : length m.tangents ≡ w.lists.n * 4) (p : here ≡ halfedge_normal w.face_units.now (normal_of w.lists) e) (q : next ≡ halfedge_normal w.face_units.now (normal_of w.lists) x) (r : x ≡ next_around (mesh_of w.lists) e) where
+module _ (w : WalkLists) {faces : FaceLists} (f : faces ≡ faces_of w.lists.mesh) (m : Walk) {e : ℕ} (l : e < w.lists.mesh.n) {here next : HalfedgeNormal} {x : ℕ} (h : length m.tangents ≡ w.lists.mesh.n * 4) (p : here ≡ halfedge_normal w.face_units.now (normal_of w.lists) e) (q : next ≡ halfedge_normal w.face_units.now (normal_of w.lists) x) (r : x ≡ next_around (mesh_of w.lists) e) where
   within : e * 4 + 4 ≤ length m.tangents
   within = omega arith
 
-  stepped : {m' : Walk} → let k = w.lists in m' ≡ normal_step_of (mesh_of k) k.pos.now k.face_normals.now (is_inside w.inside.now) here next m e → m' ≡ normal_step (mesh_of k) k.pos.now k.face_normals.now (normal_of k) (is_inside w.inside.now) m e
+  abbrev normals : NormalPair
+  normals = record { here = here; next = next }
+
+  stepped : {m' : Walk} → let k = w.lists in m' ≡ normal_step_of faces (is_inside w.inside.now) normals m e → m' ≡ normal_step (mesh_of k) k.mesh.pos.now k.mesh.face_normals.now (normal_of k) (is_inside w.inside.now) m e
   stepped d =
       let k = w.lists in
-      d ∙ rw (p, q, r) (sym (normal_step_by (mesh_of k) k.pos.now k.face_normals.now (normal_of k) (is_inside w.inside.now) m e within w.units (here_face_in k l) (next_face_in k l refl)))
+      d ∙ rw (f, p, q, r) (sym (normal_step_by (faces_of k.mesh) (normal_of k) (is_inside w.inside.now) m e within w.units (here_face_in k l) (next_face_in k l refl)))
 
   -- and what it counts
-  counts : {j : ℕ} → let k = w.lists in j ≡ normal_step_directionless_of (mesh_of k) k.pos.now (is_inside w.inside.now) here next e → j ≡ normal_step_directionless (mesh_of k) k.pos.now k.face_normals.now (normal_of k) (is_inside w.inside.now) m e
-  counts d = let k = w.lists in d ∙ rw (p, q, r) (sym (normal_count_by (mesh_of k) k.pos.now k.face_normals.now (normal_of k) (is_inside w.inside.now) m e within w.face_units.now))
+  counts : {j : ℕ} → let k = w.lists in j ≡ normal_step_directionless_of faces (is_inside w.inside.now) normals e → j ≡ normal_step_directionless (mesh_of k) k.mesh.pos.now k.mesh.face_normals.now (normal_of k) (is_inside w.inside.now) m e
+  counts d = let k = w.lists in d ∙ rw (f, p, q, r) (sym (normal_count_by (faces_of k.mesh) (normal_of k) (is_inside w.inside.now) m e within w.face_units.now))
 
 pub loop-current-init : goal.loop-current-init
 loop-current-init c =
@@ -51,10 +56,10 @@ loop-current-init c =
     let N = normal_of k in
     let B = is_inside a.walks.now.inside.now in
     let H = mesh_of k in (
-      subst (λ (s : CycleState). Counting (normal_step H k.pos.now k.face_normals.now N B) (normal_step_directionless H k.pos.now k.face_normals.now N B) (next_around H) k.n a.e (walk_of a.t.now a.fixed.now start_state) (walk_of a.t.now a.fixed.now s) 0 a.e) (sym q) (counting_start (next_permutes k.sound) c.requires.0),
+      subst (λ (s : CycleState). Counting (normal_step H k.mesh.pos.now k.mesh.face_normals.now N B) (normal_step_directionless H k.mesh.pos.now k.mesh.face_normals.now N B) (next_around H) k.mesh.n a.e (walk_of a.t.now a.fixed.now start_state) (walk_of a.t.now a.fixed.now s) 0 a.e) (sym q) (counting_start (next_permutes k.mesh.sound) c.requires.0),
       refl,
       refl,
-      subst (StateIn k.n) (sym q) (state_start (λ (x : ℕ). x < k.n)),
+      subst (StateIn k.mesh.n) (sym q) (state_start (λ (x : ℕ). x < k.mesh.n)),
       c.halfedge_normal-here.ensures,
     )
 
@@ -69,19 +74,19 @@ pub normal_step-step-requires : goal.normal_step-step-requires
 normal_step-step-requires c =
     let l = c.loop-current in
     let w = c.args.walks.now in
-    let p = c.requires in
-    (l.invariant.0.walking.below, making_in w.lists (l.invariant.1 ∙ p.1) (l.invariant.2 ∙ p.2), w.lists.triangle_normals, w.flags)
+    let fixed = l.invariant.2 ∙ c.requires.2 in
+    rw c.from-faces.ensures (subst (λ (n : ℕ). l.current < n) (sym fixed) l.invariant.0.walking.below, making_in w.lists (l.invariant.1 ∙ c.requires.1) fixed, w.lists.mesh.triangle_normals ∙ sym fixed, w.flags ∙ sym fixed)
 
 pub overflow_add-directionless : goal.overflow_add-directionless
 overflow_add-directionless c =
     let w = c.args.walks.now in
     let k = w.lists in
-    let one = normal_step_one (mesh_of k) k.pos.now k.face_normals.now (normal_of k) (is_inside w.inside.now) in
-    omega (arith, counting_within (next_permutes k.sound) c.loop-current.invariant.0 one c.requires.0, normal_count_one _ _ _ _ _ _ c.normal_step-step.ensures.directionless, c.requires.1)
+    let one = normal_step_one (mesh_of k) k.mesh.pos.now k.mesh.face_normals.now (normal_of k) (is_inside w.inside.now) in
+    omega (arith, counting_within (next_permutes k.mesh.sound) c.loop-current.invariant.0 one c.requires.0, normal_count_one _ _ _ _ c.normal_step-step.ensures.directionless, c.requires.1)
 
 pub loop-current-smaller : goal.loop-current-smaller
 loop-current-smaller c =
-    counting_less (next_permutes c.args.walks.now.lists.sound) c.loop-current.invariant.0 c.next_around-following.ensures c.if-current-e.false
+    counting_less (next_permutes c.args.walks.now.lists.mesh.sound) c.loop-current.invariant.0 c.next_around-following.ensures c.if-current-e.false
 
 pub loop-current-preserved : goal.loop-current-preserved
 loop-current-preserved c =
@@ -95,11 +100,11 @@ loop-current-preserved c =
     let B = is_inside w.inside.now in
     let m = walk_of l.t l.fixed l.state in
     let b = i.0.walking.below in
-    let done = stepped w m b (i.1 ∙ c.requires.1) i.4 g x s.ensures.state in (
-      counting_step (next_permutes k.sound) l.invariant.0 x done (counts w m b (i.1 ∙ c.requires.1) i.4 g x s.ensures.directionless) c.if-current-e.false,
+    let done = stepped w c.from-faces.ensures m b (i.1 ∙ c.requires.1) i.4 g x s.ensures.state in (
+      counting_step (next_permutes k.mesh.sound) l.invariant.0 x done (counts w c.from-faces.ensures m b (i.1 ∙ c.requires.1) i.4 g x s.ensures.directionless) c.if-current-e.false,
       s.auto.t ∙ l.invariant.1,
       s.auto.fixed ∙ l.invariant.2,
-      state_after (λ (x : ℕ). x < k.n) b (mesh_of k) k.pos.now k.face_normals.now (normal_of k) B m done i.3,
+      state_after (λ (x : ℕ). x < k.mesh.n) b (mesh_of k) k.mesh.pos.now k.mesh.face_normals.now (normal_of k) B m done i.3,
       g,
     )
 
@@ -116,11 +121,11 @@ returns c =
     let B = is_inside w.inside.now in
     let m = walk_of l.t l.fixed l.state in
     let b = i.0.walking.below in
-    let Q = next_permutes k.sound in
-    let done = stepped w m b (i.1 ∙ c.requires.1) i.4 g x s.ensures.state in
-    let more = counts w m b (i.1 ∙ c.requires.1) i.4 g x s.ensures.directionless in
+    let Q = next_permutes k.mesh.sound in
+    let done = stepped w c.from-faces.ensures m b (i.1 ∙ c.requires.1) i.4 g x s.ensures.state in
+    let more = counts w c.from-faces.ensures m b (i.1 ∙ c.requires.1) i.4 g x s.ensures.directionless in
     record {
       state = counting_state Q l.invariant.0 x done more c.if-current-e.true;
-      state_in = state_after (λ (x : ℕ). x < k.n) b (mesh_of k) k.pos.now k.face_normals.now (normal_of k) B m done i.3;
+      state_in = state_after (λ (x : ℕ). x < k.mesh.n) b (mesh_of k) k.mesh.pos.now k.mesh.face_normals.now (normal_of k) B m done i.3;
       directionless = counting_count Q l.invariant.0 x done more c.if-current-e.true;
     }

@@ -14,9 +14,9 @@ use Rattle.normals_walks.proofs.normal_walk.Given as goal
 abbrev pub invariant-loop-current : goal.invariant-loop-current
 invariant-loop-current l =
     let k = l.walks.lists in
-    Counting (normal_step (mesh_of k) l.pos l.face_normals (normal_of k) (is_inside l.inside)) (normal_step_directionless (mesh_of k) l.pos l.face_normals (normal_of k) (is_inside l.inside)) (next_around (mesh_of k)) l.n l.e (walk_of l.initial.t l.initial.fixed start_state) (walk_of l.t l.fixed l.state) l.directionless l.current
-    × (length l.t ≡ length l.initial.t) × (length l.fixed ≡ length l.initial.fixed) × StateIn l.n l.state
-    × (l.here ≡ halfedge_normal l.face_units (normal_of k) l.current)
+    Counting (normal_step (mesh_of k) k.mesh.pos.now k.mesh.face_normals.now (normal_of k) (is_inside l.walks.inside.now)) (normal_step_directionless (mesh_of k) k.mesh.pos.now k.mesh.face_normals.now (normal_of k) (is_inside l.walks.inside.now)) (next_around (mesh_of k)) k.mesh.n l.e (walk_of l.initial.t l.initial.fixed start_state) (walk_of l.t l.fixed l.state) l.directionless l.current
+    × (length l.t ≡ length l.initial.t) × (length l.fixed ≡ length l.initial.fixed) × StateIn k.mesh.n l.state
+    × (l.here ≡ halfedge_normal l.walks.face_units.now (normal_of k) l.current)
 
 abbrev pub decreases-loop-current : goal.decreases-loop-current
-decreases-loop-current l = steps_left (next_around (mesh_of l.walks.lists)) (is_at l.e) l.n l.current
+decreases-loop-current l = steps_left (next_around (mesh_of l.walks.lists)) (is_at l.e) l.walks.lists.mesh.n l.current

@@ -10,30 +10,34 @@ use Rattle.normals_walks.proofs.vert_normal_walk.Goals as goal
 
 pub loop-current-init : goal.loop-current-init
 loop-current-init c =
-    (counting_start (next_permutes c.args.lists.now.sound) c.requires.0, refl)
+    (counting_start (next_permutes c.args.lists.now.mesh.sound) c.requires.0, refl)
 
 pub overflow_add-directionless : goal.overflow_add-directionless
 overflow_add-directionless c =
     let k = c.args.lists.now in
-    let one = vert_normal_one (mesh_of k) k.pos.now in
-    omega (arith, counting_within (next_permutes k.sound) c.loop-current.invariant.0 one c.requires.0, c.vert_normal_step-directionless.ensures.directionless, one c.loop-current.t c.loop-current.current, c.requires.1)
+    let one = vert_normal_one (mesh_of k) k.mesh.pos.now in
+    omega (arith, counting_within (next_permutes k.mesh.sound) c.loop-current.invariant.0 one c.requires.0, rw c.from-faces.ensures at c.vert_normal_step-directionless.ensures.directionless, one c.loop-current.t c.loop-current.current, c.requires.1)
 
 pub loop-current-smaller : goal.loop-current-smaller
 loop-current-smaller c =
-    counting_less (next_permutes c.args.lists.now.sound) c.loop-current.invariant.0 c.next_around-current.ensures c.if-current-e.false
+    counting_less (next_permutes c.args.lists.now.mesh.sound) c.loop-current.invariant.0 c.next_around-current.ensures c.if-current-e.false
 
 pub loop-current-preserved : goal.loop-current-preserved
 loop-current-preserved c =
     let m = c.vert_normal_step-directionless in
     let l = c.loop-current in
-    (counting_step (next_permutes c.args.lists.now.sound) l.invariant.0 c.next_around-current.ensures m.ensures.tangents m.ensures.directionless c.if-current-e.false, m.auto.t ∙ l.invariant.1)
+    let done = rw c.from-faces.ensures at m.ensures.tangents in
+    let counts = rw c.from-faces.ensures at m.ensures.directionless in
+    (counting_step (next_permutes c.args.lists.now.mesh.sound) l.invariant.0 c.next_around-current.ensures done counts c.if-current-e.false, m.auto.t ∙ l.invariant.1)
 
 pub returns : goal.returns
 unfolding vert_normal_walk vert_normal_walk_directionless
 returns c =
     let m = c.vert_normal_step-directionless in
-    let Q = next_permutes c.args.lists.now.sound in
+    let done = rw c.from-faces.ensures at m.ensures.tangents in
+    let counts = rw c.from-faces.ensures at m.ensures.directionless in
+    let Q = next_permutes c.args.lists.now.mesh.sound in
     let w = c.loop-current.invariant.0 in record {
-      tangents = counting_state Q w c.next_around-current.ensures m.ensures.tangents m.ensures.directionless c.if-current-e.true;
-      directionless = counting_count Q w c.next_around-current.ensures m.ensures.tangents m.ensures.directionless c.if-current-e.true;
+      tangents = counting_state Q w c.next_around-current.ensures done counts c.if-current-e.true;
+      directionless = counting_count Q w c.next_around-current.ensures done counts c.if-current-e.true;
     }

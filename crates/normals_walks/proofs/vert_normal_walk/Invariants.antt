@@ -10,8 +10,8 @@ use Rattle.normals_walks.proofs.vert_normal_walk.Given as goal
 
 abbrev pub invariant-loop-current : goal.invariant-loop-current
 invariant-loop-current l =
-    Counting (vert_normal_step (mesh_of l.lists) l.pos l.face_normals l.normal) (vert_normal_directionless (mesh_of l.lists) l.pos) (next_around (mesh_of l.lists)) l.lists.n l.e l.initial.t l.t l.directionless l.current
+    Counting (vert_normal_step (mesh_of l.lists) l.lists.mesh.pos.now l.lists.mesh.face_normals.now l.normal) (vert_normal_directionless (mesh_of l.lists) l.lists.mesh.pos.now) (next_around (mesh_of l.lists)) l.lists.mesh.n l.e l.initial.t l.t l.directionless l.current
     × (length l.t ≡ length l.initial.t)
 
 abbrev pub decreases-loop-current : goal.decreases-loop-current
-decreases-loop-current l = steps_left (next_around (mesh_of l.lists)) (is_at l.e) l.lists.n l.current
+decreases-loop-current l = steps_left (next_around (mesh_of l.lists)) (is_at l.e) l.lists.mesh.n l.current

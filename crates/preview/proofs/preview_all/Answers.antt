@@ -1,22 +1,15 @@
 -- `preview::preview_all` meets its contract: before each turn, the bytes and counts are those of the pass so far.
 use native.Mathlib.Omega.{arith}
 use Rattle.preview_walks.proofs.Lawful.{laws}
-use Rattle.preview.proofs.Pass.{shown_begin, shown_next, shown_end}
+use Rattle.preview.proofs.Pass.{shown_next, shown_end}
 use Rattle.preview.proofs.preview_all.Goals as goal
-
-pub loop-start-init : goal.loop-start-init
-loop-start-init c =
-    (omega arith, omega arith, λ P N. shown_begin (laws c.args.lists.now P N) _ _ _ c.requires (c.fill.ensures.after (λ y same. same)))
 
 pub loop-start-preserved : goal.loop-start-preserved
 loop-start-preserved c =
     let lists = c.args.lists.now in
     let inv = c.loop-start.invariant in
-    let s = c.preview_at-counts in (
-      omega (arith, inv.0, s.ensures.looked_bound.0, lists.sound.few_halfedges),
-      omega (arith, inv.1, s.ensures.looked_bound.1, lists.sound.few_halfedges),
-      λ P N. shown_next (laws lists P N) _ lists.tangents c.loop-start-test.true (inv.2 P N) (s.ensures.previews P N),
-    )
+    let s = c.preview_at-counts in
+    (omega arith, omega arith, λ P N. shown_next (laws lists P N) _ lists.tangents c.loop-start-test.true (inv.2 P N) (s.ensures.previews P N))
 
 pub returns : goal.returns
 returns c P N = shown_end (laws c.args.lists.now P N) _ c.args.lists.now.tangents c.loop-start-test.false (c.loop-start.invariant.2 P N)

@@ -6,8 +6,8 @@ use Rattle.preview_walks.specs.Walks.{steps_of}
 use Rattle.preview_walks.proofs.First.{Summing}
 use Rattle.preview_walks.proofs.first_walk.Given as goal
 
-abbrev pub invariant-loop-first : goal.invariant-loop-first
-invariant-loop-first l = (P N : List Float) → Summing l.lists P N l.start l.initial.looked l.here l.looked l.summed
+abbrev pub invariant-loop : goal.invariant-loop
+invariant-loop l = (P N : List Float) → Summing l.walk.lists.now P N l.walk.start l.initial.looked l.here l.looked l.summed
 
-abbrev pub decreases-loop-first : goal.decreases-loop-first
-decreases-loop-first l = first_left (steps_of l.lists [] []) l.lists.t.now l.here
+abbrev pub decreases-loop : goal.decreases-loop
+decreases-loop l = first_left (steps_of l.walk.lists.now [] []) l.walk.lists.now.t.now l.here

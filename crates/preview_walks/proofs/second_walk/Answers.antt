@@ -19,55 +19,55 @@ any = record { current_angle = []; desired_angle = []; scale = nan; offset = nan
 
 pub walk-init : goal.walk-init
 walk-init c P N by k places =
-    let p = c.requires.start_lt_n in
-    showing_begin (laws c.args.lists.now P N) _ _ _ by k places p.0 p.1 c.args.lists.now.tangents
+    let w = c.args.walk.now in
+    showing_begin (laws c.args.walk.now.lists.now P N) _ _ _ by k places w.start_below w.start_is c.args.walk.now.lists.now.tangents
 
 pub next_around-here-requires : goal.next_around-here-requires
 next_around-here-requires c =
-    let lists = c.args.lists.now in
+    let lists = c.args.walk.now.lists.now in
     inside lists.sound lists.whole _ (c.walk.invariant [] [] any none []).going.at.to_fixed.below
 
 pub leaves-requires : goal.leaves-requires
 leaves-requires c =
-    let lists = c.args.lists.now in
-    omega (arith, lists.flags, showing_below (laws lists [] []) _ _ _ any none [] (c.walk.invariant [] [] any none []) c.next_around-here.ensures)
+    let lists = c.args.walk.now.lists.now in
+    omega (arith, showing_below (laws lists [] []) _ _ _ any none [] (c.walk.invariant [] [] any none []) c.next_around-here.ensures)
 
 pub show_unmarked-i-requires : goal.show_unmarked-i-requires
 show_unmarked-i-requires c =
-    let p = c.requires in
-    let lists = c.args.lists.now in
+    let w = c.args.walk.now in
+    let lists = c.args.walk.now.lists.now in
     let inv = c.walk.invariant [] [] any none [] in
     let below = showing_below (laws lists [] []) _ _ _ any none [] inv c.next_around-here.ensures in (
-      omega (arith, lists.tangents, below),
-      omega (arith, p.bytes, c.walk.auto.bytes, below),
-      omega (arith, showing_within (laws lists [] []) _ _ _ any none [] p.start_lt_n.0 p.start_lt_n.1 inv, lists.sound.few_halfedges),
+      omega arith,
+      omega arith,
+      omega (arith, showing_within (laws lists [] []) _ _ _ any none [] w.start_below w.start_is inv, lists.sound.few_halfedges),
     )
-
-pub walk-smaller : goal.walk-smaller
-walk-smaller c =
-    showing_less (laws c.args.lists.now [] []) _ _ _ any none [] (c.walk.invariant [] [] any none []) c.next_around-here.ensures (sym c.leaves.ensures ∙ c.if-leaves.false) c.if-here-start.false
 
 pub walk-preserved : goal.walk-preserved
 walk-preserved c P N by k places =
     let u = c.show_unmarked-i in
-    showing_next (laws c.args.lists.now P N) _ _ _ by k places (c.walk.invariant P N by k places) c.next_around-here.ensures u.ensures.value u.ensures.bytes_after (sym c.leaves.ensures ∙ c.if-leaves.false) c.if-here-start.false
+    showing_next (laws c.args.walk.now.lists.now P N) _ _ _ by k places (c.walk.invariant P N by k places) c.next_around-here.ensures u.ensures.value u.ensures.bytes_after (sym c.leaves.ensures ∙ c.if-leaves.false) c.if-here-walk.false
 
 pub returns-then-leaves-clause-previews : goal.returns-then-leaves-clause-previews
 returns-then-leaves-clause-previews c P N by k places =
-    showing_leaves (laws c.args.lists.now P N) _ _ _ by k places (c.walk.invariant P N by k places) c.next_around-here.ensures (sym c.leaves.ensures ∙ c.if-leaves.true)
+    showing_leaves (laws c.args.walk.now.lists.now P N) _ _ _ by k places (c.walk.invariant P N by k places) c.next_around-here.ensures (sym c.leaves.ensures ∙ c.if-leaves.true)
 
 pub returns-then-leaves-clause-few : goal.returns-then-leaves-clause-few
 returns-then-leaves-clause-few c =
-    let p = c.requires.start_lt_n in
-    showing_within (laws c.args.lists.now [] []) _ _ _ any none [] p.0 p.1 (c.walk.invariant [] [] any none [])
+    let w = c.args.walk.now in
+    showing_within (laws c.args.walk.now.lists.now [] []) _ _ _ any none [] w.start_below w.start_is (c.walk.invariant [] [] any none [])
 
-pub returns-then-here-start-clause-previews : goal.returns-then-here-start-clause-previews
-returns-then-here-start-clause-previews c P N by k places =
+pub returns-then-here-walk-clause-previews : goal.returns-then-here-walk-clause-previews
+returns-then-here-walk-clause-previews c P N by k places =
     let u = c.show_unmarked-i in
-    showing_over (laws c.args.lists.now P N) _ _ _ by k places (c.walk.invariant P N by k places) c.next_around-here.ensures u.ensures.value u.ensures.bytes_after c.if-here-start.true
+    showing_over (laws c.args.walk.now.lists.now P N) _ _ _ by k places (c.walk.invariant P N by k places) c.next_around-here.ensures u.ensures.value u.ensures.bytes_after c.if-here-walk.true
 
-pub returns-then-here-start-clause-few : goal.returns-then-here-start-clause-few
-returns-then-here-start-clause-few c =
-    let p = c.requires.start_lt_n in
+pub returns-then-here-walk-clause-few : goal.returns-then-here-walk-clause-few
+returns-then-here-walk-clause-few c =
+    let w = c.args.walk.now in
     let u = c.show_unmarked-i in
-    showing_few (laws c.args.lists.now [] []) _ _ _ any none [] (c.walk.invariant [] [] any none []) c.next_around-here.ensures u.ensures.value u.ensures.bytes_after p.0 p.1
+    showing_few (laws c.args.walk.now.lists.now [] []) _ _ _ any none [] (c.walk.invariant [] [] any none []) c.next_around-here.ensures u.ensures.value u.ensures.bytes_after w.start_below w.start_is
+
+pub walk-smaller : goal.walk-smaller
+walk-smaller c =
+    showing_less (laws c.args.walk.now.lists.now [] []) _ _ _ any none [] (c.walk.invariant [] [] any none []) c.next_around-here.ensures (sym c.leaves.ensures ∙ c.if-leaves.false) c.if-here-walk.false

@@ -13,7 +13,7 @@ use Rattle.preview_walks.proofs.second_walk.Given as goal
 
 abbrev pub invariant-walk : goal.invariant-walk
 invariant-walk l =
-    (P N : List Float) (by : Plan) (k : Counts) (places : List ℕ) → Showing (laws l.lists P N) l.lists.t.now l.start l.initial.bytes by k places l.here l.i l.bytes
+    (P N : List Float) (by : Plan) (k : Counts) (places : List ℕ) → Showing (laws l.walk.lists.now P N) l.walk.lists.now.t.now l.walk.start l.initial.bytes by k places l.here l.i l.bytes
 
 abbrev pub decreases-walk : goal.decreases-walk
-decreases-walk l = steps_left (next_around (as_halfedges l.lists.h.now)) (is_fixed l.lists.fixed.now) (suc l.lists.n) l.here
+decreases-walk l = steps_left (next_around (as_halfedges l.walk.lists.now.h.now)) (is_fixed l.walk.lists.now.fixed.now) (suc l.walk.lists.now.n) l.here

@@ -2,12 +2,8 @@
 use Rattle.std.proofs.Common.{◌*◌, add-one, arith}
 use Rattle.program_lines.specs.Lines.{tangent_lines}
 use Rattle.program_lines.proofs.Lengths.{tangent_lines_length}
-use Rattle.program_lines.proofs.Put.{put_none, put_then, put_within}
+use Rattle.program_lines.proofs.Put.{put_then, put_within}
 use Rattle.program_lines.proofs.put_tangent_lines.Goals as goal
-
-pub loop-e-init : goal.loop-e-init
-unfolding tangent_lines
-loop-e-init c = put_none (omega arith)
 
 pub put_tangent_line-end-requires : goal.put_tangent_line-end-requires
 put_tangent_line-end-requires c =

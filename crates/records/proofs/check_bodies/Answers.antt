@@ -5,13 +5,6 @@ use Rattle.records.specs.Records.{check_bodies}
 use Rattle.records.proofs.Parse.{within, next_body}
 use Rattle.records.proofs.check_bodies.Goals as goal
 
-pub returns-in_err-check_record : goal.returns-in_err-check_record
-returns-in_err-check_record c =
-    let a = c.args in
-    let l = c.loop-kind in
-    let y = c.body_bytes-bytes in
-    rw (← l.invariant.1, next_body a.counts.points a.counts.halfedges l.kind-index a.kinds.now _ c.loop-kind-test.true a.s.now l.place y.result y.ensures.bytes, ← c.check_record.ensures) (search rules)
-
 pub loop-kind-preserved : goal.loop-kind-preserved
 loop-kind-preserved c =
     let a = c.args in
@@ -20,7 +13,3 @@ loop-kind-preserved c =
     let passed = sym c.check_record.ensures ∙ c.in_ok-check_record.was in
     let next = next_body a.counts.points a.counts.halfedges l.kind-index a.kinds.now _ c.loop-kind-test.true a.s.now l.place y.result y.ensures.bytes in
     (omega (arith, within _ _ _ _ passed), sym (rw passed at next) ∙ l.invariant.1)
-
-pub returns : goal.returns
-unfolding check_bodies
-returns c = rw (← c.loop-kind.invariant.1, drop_all _ c.args.kinds.now c.loop-kind-test.false) c.ask.ensures

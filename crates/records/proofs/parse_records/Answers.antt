@@ -4,10 +4,6 @@ use Rattle.records.specs.Records.{check_records}
 use Rattle.records.proofs.Parse.{within, known, unknown}
 use Rattle.records.proofs.parse_records.Goals as goal
 
-pub returns-in_err-check_record : goal.returns-in_err-check_record
-unfolding check_records
-returns-in_err-check_record c = rw (← c.check_record.ensures) (search rules)
-
 pub bounds-s-6 : goal.bounds-s-6
 bounds-s-6 c = omega (arith, within _ _ _ _ (sym c.check_record.ensures ∙ c.in_ok-check_record.was))
 

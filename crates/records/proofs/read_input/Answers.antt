@@ -17,14 +17,14 @@ returns-in_err-parsed c =
     let answer = e ∙ refused_back a.input.now L _ (sym c.parse_input.ensures ∙ c.in_err-parsed.was) in
     record { answer = answer; lists = rw e; values = read_values a.input.now L _ answer }
 
-pub returns-in_err-ask : goal.returns-in_err-ask
+pub returns-in_err-ask_at : goal.returns-in_err-ask_at
 unfolding read_lists
-returns-in_err-ask c =
+returns-in_err-ask_at c =
     let a = c.args in
     let L = lists_of a.h.now a.pos.now a.vn.now a.flags.now a.t.now in
     let i = c.in_ok-parsed.parsed in
-    let e : c.from_residual-in_err-ask.result ≡ Err c.in_err-ask.field-0.0 = search rules in
-    let short = short_lists a.input.now L i (sym c.parse_input.ensures ∙ c.in_ok-parsed.was) c.has_room-room.result _ c.has_room-room.ensures (sym c.ask.ensures ∙ c.in_err-ask.was) in
+    let e : c.from_residual-in_err-ask_at.result ≡ Err c.in_err-ask_at.field-0.0 = search rules in
+    let short = short_lists a.input.now L i (sym c.parse_input.ensures ∙ c.in_ok-parsed.was) c.has_room-room.result _ c.has_room-room.ensures (sym c.ask_at.ensures ∙ c.in_err-ask_at.was) in
     record { answer = e ∙ short; lists = rw e; values = read_values a.input.now L _ (e ∙ short) }
 
 pub fill_mesh-requires : goal.fill_mesh-requires
@@ -33,7 +33,7 @@ fill_mesh-requires c =
     let L = lists_of a.h.now a.pos.now a.vn.now a.flags.now a.t.now in
     let i = c.in_ok-parsed.parsed in
     let p = sym c.parse_input.ensures ∙ c.in_ok-parsed.was in
-    mesh_room a.input.now L i p (read a.input.now L i p c.has_room-room.result c.has_room-room.ensures (sym c.ask.ensures ∙ c.in_ok-ask.was)).0
+    mesh_room a.input.now L i p (read a.input.now L i p c.has_room-room.result c.has_room-room.ensures (sym c.ask_at.ensures ∙ c.in_ok-ask_at.was)).0
 
 pub fill_spread-requires : goal.fill_spread-requires
 fill_spread-requires c =
@@ -41,7 +41,7 @@ fill_spread-requires c =
     let L = lists_of a.h.now a.pos.now a.vn.now a.flags.now a.t.now in
     let i = c.in_ok-parsed.parsed in
     let p = sym c.parse_input.ensures ∙ c.in_ok-parsed.was in
-    spread_room a.input.now L i p (read a.input.now L i p c.has_room-room.result c.has_room-room.ensures (sym c.ask.ensures ∙ c.in_ok-ask.was)).0 c.in-Spread.is
+    spread_room a.input.now L i p (read a.input.now L i p c.has_room-room.result c.has_room-room.ensures (sym c.ask_at.ensures ∙ c.in_ok-ask_at.was)).0 c.in-Spread.is
 
 pub returns-in-Spread : goal.returns-in-Spread
 unfolding read_lists
@@ -50,7 +50,7 @@ returns-in-Spread c =
     let L = lists_of a.h.now a.pos.now a.vn.now a.flags.now a.t.now in
     let i = c.in_ok-parsed.parsed in
     let p = sym c.parse_input.ensures ∙ c.in_ok-parsed.was in
-    let answer = (read a.input.now L i p c.has_room-room.result c.has_room-room.ensures (sym c.ask.ensures ∙ c.in_ok-ask.was)).1 in
+    let answer = (read a.input.now L i p c.has_room-room.result c.has_room-room.ensures (sym c.ask_at.ensures ∙ c.in_ok-ask_at.was)).1 in
     let mesh = c.fill_mesh.ensures in
     let spread = c.fill_spread.ensures in
     record { answer = answer; lists = rw (c.in-Spread.is, mesh.0, mesh.1, mesh.2, spread.0, spread.1); values = read_values a.input.now L _ answer }
@@ -63,7 +63,7 @@ returns-in-Straighten c =
     let i = c.in_ok-parsed.parsed in
     let n = i.counts in
     let p = sym c.parse_input.ensures ∙ c.in_ok-parsed.was in
-    let answer = (read a.input.now L i p c.has_room-room.result c.has_room-room.ensures (sym c.ask.ensures ∙ c.in_ok-ask.was)).1 in
+    let answer = (read a.input.now L i p c.has_room-room.result c.has_room-room.ensures (sym c.ask_at.ensures ∙ c.in_ok-ask_at.was)).1 in
     let mesh = c.fill_mesh.ensures in
     let none = λ (count : ℕ). none_due i.operation count c.in-Straighten.is in
     record {
