@@ -60,7 +60,8 @@ pub fn scratch_fits(
     angles & mesh::has_length(at, p, 1) & mesh::has_length(link, n, 1)
 }
 
-// The questions 1 to 10; `lengths` is the answer to question 2.
+// The questions 1 to 10; `lengths` is the answer to question 2. For the two flat lists, as `create_entries::check_lists` is for the
+// structs: document 01's core, and its thin entry point.
 #[tactic(auto, unfolding(crate::specs::Create::check_create))]
 fn check_create(
     n: usize,

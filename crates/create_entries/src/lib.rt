@@ -16,7 +16,7 @@ use create_shared::MeshLists;
 use create_smoothness::Smoothness;
 use mesh::Refusal;
 
-// The questions 1 to 10. Of the lists that are written only the lengths are asked. No struct of the lengths: its fields would be
+// The questions 1 to 10, as `create::check_create` puts them to two flat lists. Of the lists that are written only the lengths are asked. No struct of the lengths: its fields would be
 // these by the same names, and the caller would write each twice.
 #[tactic(auto, unfolding(mesh::specs::Mesh::as_halfedges))]
 fn check_lists(

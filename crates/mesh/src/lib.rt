@@ -280,7 +280,8 @@ pub fn check_mesh(h: &[i32], n: usize, p: usize, lengths: bool) -> Result<(), Re
 }
 
 // Question 8, after earlier answers: the face references of the triangles. Here and below the earlier answer is a parameter and not the
-// caller's `?`: the contract of a public function says what it answers after any of them.
+// caller's `?`: the contract of a public function says what it answers after any of them. Its names differ so that each must-fail edit
+// finds its line.
 #[tactic(auto, unfolding(crate::specs::Check::check_refs))]
 pub fn check_refs(sofar: Result<(), Refusal>, refs: &[i32], n: usize) -> Result<(), Refusal>
     ensures { result ≡ check_refs sofar refs.now n }

@@ -1,6 +1,6 @@
 // The questions 3 to 7 put to the three halfedges of a triangle at once, by comparisons of the list's own numbers, with an exit at
-// the first no. The list and the counts stay parameters, with their facts as clauses of two functions: of a struct of them each clause
-// would say `mesh.now.h.now` for `h.now`.
+// the first no. The list and the counts stay parameters, with their facts as clauses of two functions, and the limits of `all_hold` too:
+// of a struct of them each clause would say `mesh.now.h.now` for `h.now`.
 ghost use Rattle.std.specs.Prelude.{◌≡◌, ◌+◌, ◌*◌, ◌<◌, ◌≤◌, ◌^◌, ◌&&◌, ltb, length};
 ghost use Rattle.mesh.specs.Mesh.{max_halfedges, max_points, halfedge_stride, number_at, index_of, as_halfedges, no_index};
 ghost use Rattle.mesh.specs.All.{halfedge_holds, triangle_holds};

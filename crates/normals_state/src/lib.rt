@@ -129,8 +129,8 @@ fn put_unit(face_normals: &[f64], units: &mut [f64], t: usize)
     units[at + 2] = unit.z;
 }
 
-// The unit vectors of all triangles' normals, three numbers each, whatever the list held. By number and not by chunks: once an
-// iterator's borrow of `units` is over, a proof knows the list's length and not its numbers.
+// The unit vectors of all triangles' normals, three numbers each, whatever the list held. By number: chunks of both lists were tried,
+// and that a chunk has the three numbers which `point_at` asks for did not close.
 #[tactic(auto, using(common::proofs::Fold::fold_next), unfolding(crate::specs::Units::put_units, common::specs::Fold::fold_to))]
 pub fn put_units(face_normals: &[f64], units: &mut [f64])
     requires { length face_normals.now ≡ length units.old }

@@ -14,7 +14,8 @@ use distribute_walks::Counts;
 use mesh::Refusal;
 use preview_walks::PreviewLists;
 
-// The loop over the halfedges of an accepted mesh, after zeros in all bytes.
+// The loop over the halfedges of an accepted mesh, after zeros in all bytes. The bytes are written, and so their length is a clause: of
+// a struct that lends them each clause would say `lists.new.bytes.now` for `bytes.new`.
 #[tactic(auto, using(crate::proofs::Pass::shown_begin))]
 fn preview_all(lists: &PreviewLists, bytes: &mut [u8]) -> Counts
     requires { length bytes.old ≡ lists.now.n }

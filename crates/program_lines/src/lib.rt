@@ -1,5 +1,6 @@
 // Renders the output of the program `tangents` (document 01) into a lent buffer. Each function asks for its own places
-// (`4 * n ≤ length t`, `at + 96 ≤ length out`): they differ from call to call, so no struct of the lists can hold them.
+// (`at + 96 ≤ length out`): they differ from call to call, so no struct of the lists can hold them. `4 * n ≤ length t` is handed down
+// with n and t: of a struct of the two each clause would say `tangents.now.t.now` for `t.now`.
 #![tactic(auto)]
 
 ghost use Rattle.std.specs.Prelude.{◌≡◌, ◌+◌, ◌*◌, ◌<◌, ◌≤◌, length};
