@@ -10,6 +10,7 @@ ghost use Rattle.stl_file.specs.Points.{point_count};
 ghost use Rattle.stl_file.specs.Lists.{point_item, halfedge_item};
 ghost use Rattle.stl.specs.Questions.{has_room, finite, finite_corner, triangle_fits, check_file};
 ghost use Rattle.stl.specs.Stl.{halfedges_of, points_of, counts_of, check_lists, read_stl, points_after, halfedges_after, normals_after, Values, IsMesh};
+ghost use Rattle.stl.specs.Pairing.{PairedExactly};
 
 use mesh::{Question, Refusal};
 use stl_file::{Corner, File, Triangle};
@@ -123,6 +124,7 @@ fn write_lists(
 // each triangle keeps its place, and its first halfedge starts at its first corner; each directed edge is paired with its reverse, and
 // a halfedge's row is its own number. `points` and `normals` take three numbers for each point and triangle, `halfedges` four for
 // each halfedge; places beyond stay as lent.
+#[tactic(auto, using(crate::proofs::Pairing::exactly_of))]
 pub fn read_stl(
     file: &[u8],
     points: &mut [f64],
@@ -135,6 +137,7 @@ pub fn read_stl(
     ensures normals_filled { normals.new ≡ normals_after file.now points.old halfedges.old normals.old }
     ensures values { Values (check_lists file.now points.old halfedges.old normals.old) file.now result }
     ensures mesh { IsMesh result points.new halfedges.new normals.new }
+    ensures paired { PairedExactly file.now result }
 {
     let sized = mesh::ask_at(Question::Size, 0, stl_file::length_fits(file));
     // Document 01's form by place: the check's answer is opened by `let .. else`.

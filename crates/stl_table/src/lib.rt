@@ -7,7 +7,7 @@
 
 mod block;
 
-ghost use Rattle.std.specs.Prelude.{◌≡◌, ◌+◌, ◌*◌, ◌<◌, ◌≤◌, length, get_or};
+ghost use Rattle.std.specs.Prelude.{◌≡◌, min, ◌+◌, ◌*◌, ◌<◌, ◌≤◌, length, get_or};
 ghost use Rattle.stl_table.specs.Size.{block_size};
 ghost use Rattle.stl_table.specs.Keys.{key_at, has_key, first_at};
 ghost use Rattle.stl_table.specs.Tree.{hash_of, root_of, tag_of, tag_at, word_of, child_of, Indexed, Ends};
@@ -24,7 +24,7 @@ const ROOTS: usize = 131072;
 pub const SLOTS: usize = ROOTS + 2 * BLOCK;
 
 // What the places are looked for by: a corner by its point, or a halfedge by its directed edge.
-#[derive(Clone, Copy, PartialEq, Eq)]
+#[derive(Clone, Copy)]
 pub enum Keys {
     Points,
     Edges,
@@ -47,10 +47,7 @@ pub struct Path {
 
 // How many places the next block has, where so many are left.
 pub fn block_count(left: usize) -> usize
-    requires { 0 < left }
-    ensures some { 0 < result }
-    ensures within { result ≤ left }
-    ensures small { result ≤ block_size }
+    ensures { result ≡ min left block_size }
 {
     left.min(BLOCK)
 }

@@ -9,7 +9,7 @@ loop-lo-init c = (omega arith, written_none c.args.file.now c.args.points.now c.
 
 pub write_block-written-requires : goal.write_block-written-requires
 write_block-written-requires c =
-    can_block refl c.firsts.ensures (omega arith) c.block_count-count.ensures.some c.loop-lo.invariant.1 (omega arith) (omega arith)
+    can_block refl c.firsts.ensures (omega arith) (omega (arith, c.block_count-count.ensures)) c.loop-lo.invariant.1 (omega arith) (omega arith)
 
 pub loop-lo-preserved : goal.loop-lo-preserved
 loop-lo-preserved c =
