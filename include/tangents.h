@@ -5,9 +5,9 @@
  * (4 n); making from normals alone reads the row, in other calls it may be any number. pos has three numbers for each point
  * (3 p), t the tangents (4 n: x, y, z and the weight).
  *
- * Every call answers through `answer`, four numbers: the number of the first question of documents 01 and 02 that the mesh does
- * not meet (0 if it is accepted), its lowest place, and the two numbers of an accepted call, 0 where nothing is said of them
- * below. A refused call has 0 for both, and writes nothing else. A shorter list gets as many as it holds. */
+ * Every call answers through `answer`, four numbers: the number of the first question of documents 01 and 02 that the mesh, or
+ * the file, does not meet (0 if it is accepted), its lowest place, and the two numbers of an accepted call, 0 where nothing is
+ * said of them below. A refused call has 0 for both, and writes nothing else. A shorter list gets as many as it holds. */
 #ifndef TANGENTS_H
 #define TANGENTS_H
 
@@ -70,6 +70,14 @@ void tangents_create_tangents_from_normals(size_t n, size_t p, const int32_t *h,
                                            size_t t_len, uint8_t *fixed, size_t fixed_len, uint8_t *inside, size_t inside_len,
                                            double *current, size_t current_len, double *desired, size_t desired_len,
                                            size_t *first, size_t first_len, size_t *answer, size_t answer_len);
+
+/* Taking a binary STL file: file has its bytes, points takes three numbers for each point, halfedges four for each halfedge as
+ * in h, and normals three for each triangle, the stored ones. The lists must have room for three points, three halfedges and one
+ * normal for each triangle; spare places stay as lent. answer[2] is the number of halfedges and answer[3] the number of points.
+ * Refused with 30 for the length or a count, 2 for the room, 31 with the lowest triangle that has a corner not finite or equal to
+ * another, and 32 with the lowest halfedge whose directed edge occurs twice or has no reverse. Takes some 860 KB of the stack. */
+void tangents_read_stl(const uint8_t *file, size_t file_len, double *points, size_t points_len, int32_t *halfedges,
+                       size_t halfedges_len, double *normals, size_t normals_len, size_t *answer, size_t answer_len);
 
 #ifdef __cplusplus
 }

@@ -1,7 +1,7 @@
 //! The oracle's text format: cases, answers, and the unit's answer to a case, written as the oracle writes it.
 
-use crate::{create_tangents, create_tangents_from_normals, distribute_tangents, linearize_flat_tangents, preview_tangents, sharpen_edges};
-use crate::{valid_tangents, Counts, CreateScratch, Made, NormalsScratch, Refused};
+use crate::{create_tangents, create_tangents_from_normals, distribute_tangents, linearize_flat_tangents, preview_tangents, read_stl};
+use crate::{sharpen_edges, valid_tangents, Counts, CreateScratch, Made, NormalsScratch, Refused};
 use std::fmt::{Display, Write as _};
 use std::hint::black_box;
 use std::io::BufRead;
@@ -107,6 +107,23 @@ impl Block {
             rows.push(1.0);
         }
         rows
+    }
+
+    /// The bytes of the file that the case holds.
+    pub fn file(&self) -> Vec<u8> {
+        let digits = self.after("bytes").unwrap_or("").as_bytes();
+        let byte = |two: &[u8]| std::str::from_utf8(two).ok().and_then(|two| u8::from_str_radix(two, 16).ok());
+        digits.chunks(2).map(|two| byte(two).expect("a byte")).collect()
+    }
+
+    /// Room for points, halfedges and normals, in whole ones; where the case does not say, it is enough for the triangles of a file of so many bytes. Below 0,
+    /// which the oracle does not make here, it would be none.
+    fn file_room(&self, bytes: usize) -> [usize; 3] {
+        let triangles = bytes.saturating_sub(84) / 50;
+        match self.signed("room")[..] {
+            [points, halfedges, normals] => [points, halfedges, normals].map(|room| usize::try_from(room).unwrap_or(0)),
+            _ => [3 * triangles, 3 * triangles, triangles],
+        }
     }
 }
 
@@ -214,8 +231,54 @@ fn preview(c: &Block, h: &[i32], pos: &[f64], t: &[f64]) -> Result<Vec<String>, 
     answer.map(|k| vec![decimal("bytes", &bytes), format!("looked {} turned {}", k.looked, k.turned)])
 }
 
+/// Lists lent for an STL file. Each place has a number of its own, and one that is never read from a file.
+#[derive(Clone)]
+struct FileLists {
+    points: Vec<f64>,
+    halfedges: Vec<i32>,
+    normals: Vec<f64>,
+}
+
+impl FileLists {
+    /// For so many points, halfedges and normals, with part of a further one, whose size goes by `more`.
+    fn new([points, halfedges, normals]: [usize; 3], more: usize) -> Self {
+        let floats = |n: usize| (0..n as u64).map(|i| f64::from_bits(f64::MAX.to_bits() - i)).collect();
+        let numbers = |n: usize| (0..n as i32).map(|i| !i).collect();
+        FileLists { points: floats(3 * points + more % 3), halfedges: numbers(4 * halfedges + more % 4), normals: floats(3 * normals + more % 3) }
+    }
+
+    /// Are the places from these on the same in both?
+    fn same_from(&self, other: &Self, [points, halfedges, normals]: [usize; 3]) -> bool {
+        same_bits(&self.points[points..], &other.points[points..])
+            && self.halfedges[halfedges..] == other.halfedges[halfedges..]
+            && same_bits(&self.normals[normals..], &other.normals[normals..])
+    }
+}
+
+/// The reading of an STL file. Places past the mesh, and all of them where the file is refused, have to be as they were lent.
+fn stl(c: &Block) -> Result<Vec<String>, Refused> {
+    let file = c.file();
+    let lent = FileLists::new(c.file_room(file.len()), file.len() / 50);
+    let mut lists = lent.clone();
+    let answer = read_stl(&file, &mut lists.points, &mut lists.halfedges, &mut lists.normals);
+    let written = answer.map_or([0; 3], |counts| [3 * counts.points, 4 * counts.halfedges, counts.halfedges]);
+    assert!(lists.same_from(&lent, written), "a place past the mesh, or of a refused file, was written");
+    let [points, halfedges, normals] = written;
+    answer.map(|counts| {
+        vec![
+            format!("counts {} {}", counts.points, counts.halfedges),
+            hex("pos", &lists.points[..points]),
+            decimal("he4", &lists.halfedges[..halfedges]),
+            hex("fn", &lists.normals[..normals]),
+        ]
+    })
+}
+
 /// The unit's answer to a case, line by line as the oracle writes it, or `None` for an operation that the unit has no call for.
 pub fn answer(c: &Block) -> Option<Result<Vec<String>, Refused>> {
+    if c.op() == "stl" {
+        return Some(stl(c));
+    }
     let (n, p) = c.counts();
     let (h, pos) = (c.halfedges(), c.floats("pos"));
     let mut t = c.floats("tan");

@@ -4,6 +4,10 @@
 //! lengths and contents, so nothing is tested here.
 
 pub mod case;
+mod refused;
+pub mod solid;
+
+pub use refused::Refused;
 
 mod raw {
     extern "C" {
@@ -45,14 +49,11 @@ mod raw {
             fixed: *mut u8, fixed_len: usize, inside: *mut u8, inside_len: usize, current: *mut f64, current_len: usize,
             desired: *mut f64, desired_len: usize, first: *mut usize, first_len: usize, answer: *mut usize, answer_len: usize,
         );
+        pub fn tangents_read_stl(
+            file: *const u8, file_len: usize, points: *mut f64, points_len: usize, halfedges: *mut i32, halfedges_len: usize,
+            normals: *mut f64, normals_len: usize, answer: *mut usize, answer_len: usize,
+        );
     }
-}
-
-/// Why a call was refused: the number of the question in documents 01 and 02, and the lowest place that breaks it.
-#[derive(Clone, Copy, Debug, PartialEq, Eq)]
-pub struct Refused {
-    pub number: usize,
-    pub place: usize,
 }
 
 /// The two numbers of an accepted call, or the refusal.
@@ -236,4 +237,25 @@ pub fn create_tangents_from_normals(
         );
     }
     outcome(answer).map(|[directionless, _]| Made { directionless })
+}
+
+/// The counts of a mesh that was read.
+#[derive(Clone, Copy, Debug, PartialEq, Eq)]
+pub struct MeshCounts {
+    pub halfedges: usize,
+    pub points: usize,
+}
+
+/// Taking binary STL, request 5 of document 02: three numbers per point, four per halfedge and the stored normal of each triangle. The lists
+/// need room for three points, three halfedges and one normal per triangle; places past the mesh stay as lent, all of them where the file is
+/// refused. The call takes some 860 KB of the stack.
+pub fn read_stl(file: &[u8], points: &mut [f64], halfedges: &mut [i32], normals: &mut [f64]) -> Result<MeshCounts, Refused> {
+    let mut answer = [0; 4];
+    unsafe {
+        raw::tangents_read_stl(
+            file.as_ptr(), file.len(), points.as_mut_ptr(), points.len(), halfedges.as_mut_ptr(), halfedges.len(),
+            normals.as_mut_ptr(), normals.len(), answer.as_mut_ptr(), 4,
+        );
+    }
+    outcome(answer).map(|[halfedges, points]| MeshCounts { halfedges, points })
 }

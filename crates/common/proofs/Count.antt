@@ -1,8 +1,9 @@
 -- Laws of `count_below`, up to a count by an injection. Assumes nothing.
 use Prim.Native.Nat.{ℕ, zero, suc, ◌+◌, ◌*◌, ◌≤◌, ◌<◌}
-use native.Mathlib.Decide.{ℕ_discrete, dec_lt}
+use native.Mathlib.Decide.{ℕ_discrete, dec_lt, dec_le}
 use native.Mathlib.Omega.{arith}
 use mathlib.Core.Path.{◌≡◌, refl, sym, ap, ◌∙◌}
+use mathlib.Core.Logic.{◌≢◌}
 use mathlib.Core.Bool.{Bool, true, false, cond, not, ◌&&◌}
 use borrow.Author.Tests.{eq-eqb, ne_eqb}
 use lib.Dec.{eqb}
@@ -15,21 +16,50 @@ one_at_most true = omega arith
 one_at_most false = omega arith
 
 module _ (t : ℕ → Bool) where
-  count_yes : (k : ℕ) → t k ≡ true → count_below t (suc k) ≡ count_below t k + 1
+  pub count_yes : (k : ℕ) → t k ≡ true → count_below t (suc k) ≡ count_below t k + 1
   unfolding sum count_below
   count_yes k e = rw e
 
-  count_no : (k : ℕ) → t k ≡ false → count_below t (suc k) ≡ count_below t k
+  pub count_no : (k : ℕ) → t k ≡ false → count_below t (suc k) ≡ count_below t k
   unfolding sum count_below
   count_no k e = rw e (omega arith)
 
-  count_mono : (k n : ℕ) → k ≤ n → count_below t k ≤ count_below t n
+  pub count_mono : (k n : ℕ) → k ≤ n → count_below t k ≤ count_below t n
   unfolding count_below
   count_mono = sum_mono (λ k. cond (t k) 1 0)
 
   pub count_within : (n : ℕ) → count_below t n ≤ n
   unfolding count_below
   count_within n = sum_le_n n (λ k. cond (t k) 1 0) (λ k l. one_at_most (t k))
+
+  pub count_start : 0 ≡ count_below t 0
+  unfolding sum count_below
+  count_start = refl
+
+  -- a number that passes is counted above it
+  pub count_above : (a b : ℕ) → t a ≡ true → a < b → count_below t a < count_below t b
+  count_above a b e h = omega (arith, count_yes a e, count_mono (suc a) b h)
+
+  -- two numbers that pass, with the same count below them, are one
+  pub count_injective : (a b : ℕ) → t a ≡ true → t b ≡ true → count_below t a ≡ count_below t b → a ≡ b
+  count_injective a b ea eb q = go (dec_le a b) (dec_le b a)
+    where
+      go : Dec (a ≤ b) → Dec (b ≤ a) → a ≡ b
+      go (yes h) (yes k) = omega arith
+      go (yes h) (no k) = let l = count_above a b ea (omega arith) in absurd (omega arith)
+      go (no h) k = let l = count_above b a eb (omega arith) in absurd (omega arith)
+
+  -- where one number passes, any two that do are one
+  pub count_one : (n a b : ℕ) → count_below t n ≡ 1 → t a ≡ true → t b ≡ true → a < n → b < n → a ≡ b
+  count_one n a b q ea eb la lb =
+      let ca = count_above a n ea la in
+      let cb = count_above b n eb lb in
+      count_injective a b ea eb (omega arith)
+
+  -- where a alone passes, the count is 1
+  pub count_only : (n a : ℕ) → a < n → t a ≡ true → ((b : ℕ) → b < n → b ≢ a → t b ≡ false) → count_below t n ≡ 1
+  unfolding count_below
+  count_only n a h e f = sum_one n (λ k. cond (t k) 1 0) a h (λ b l d. rw (f b l d)) ∙ rw e
 
 pub count_same : (s t : ℕ → Bool) (n : ℕ) → ((k : ℕ) → k < n → s k ≡ t k) → count_below s n ≡ count_below t n
 unfolding count_below

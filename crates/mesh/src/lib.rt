@@ -35,7 +35,8 @@ pub const REF_STRIDE: usize = 3;
 // opened in each of them to answer the same no.
 const NO_INDEX: usize = 4294967296;
 
-// The questions that a call puts to its mesh and its lists, 1 to 12, and the program to its records, 20 to 24: each with its number.
+// The questions that a call puts to its mesh and its lists, 1 to 12, the program to its records, 20 to 24, and the reading of STL to
+// its file, 30 to 32: each with its number.
 #[derive(Clone, Copy, PartialEq, Eq)]
 pub enum Question {
     Counts = 1,
@@ -55,6 +56,9 @@ pub enum Question {
     Body = 22,
     Operation = 23,
     End = 24,
+    Size = 30,
+    Corners = 31,
+    Pairing = 32,
 }
 
 // The first question that is answered no, and the lowest place that breaks it.

@@ -4,6 +4,7 @@ use Rattle.mesh.specs.Check.{Checked, number_of, place_of}
 use Rattle.validate.specs.Validate.{Validity, value_of}
 use Rattle.sharpen.specs.Sharpen.{Listing, entries_of, tally_of}
 use Rattle.create_shared.specs.Answer.{Making, directionless_of}
+use Rattle.stl.specs.Stl.{Reading, halfedges_of, points_of}
 use Rattle.distribute.specs.Distribute.{Spreading, looked_of, turned_of}
 
 unfoldable pub put : List ℕ → ℕ → ℕ → ℕ → ℕ → List ℕ
@@ -28,3 +29,7 @@ put_spreading answer r = put answer (number_of r) (place_of r) (looked_of r) (tu
 -- the makings: how many circular tangents were computed on an edge without direction
 abbrev pub put_making : List ℕ → Making → List ℕ
 put_making answer r = put answer (number_of r) (place_of r) (directionless_of r) 0
+
+-- the reading of STL: the numbers of halfedges and of points
+abbrev pub put_reading : List ℕ → Reading → List ℕ
+put_reading answer r = put answer (number_of r) (place_of r) (halfedges_of r) (points_of r)

@@ -17,11 +17,13 @@ ghost use Rattle.create_smoothness.specs.Entries.{entries_of};
 ghost use Rattle.create_shared.specs.Answer.{checked_of};
 ghost use Rattle.create.specs.Create.{create_answer, tangents_after as created_tangents};
 ghost use Rattle.create_from_normals.specs.FromNormals.{create_answer as from_normals_answer, tangents_after as tangents_from_normals};
-ghost use Rattle.tangents_c.specs.Answers.{put, put_checked, put_validity, put_listing, put_spreading, put_making};
+ghost use Rattle.stl.specs.Stl.{read_stl, points_after, halfedges_after, normals_after};
+ghost use Rattle.tangents_c.specs.Answers.{put, put_checked, put_validity, put_listing, put_spreading, put_making, put_reading};
 
 use distribute::Counts;
 use mesh::Refusal;
 use sharpen::Listed;
+use stl::MeshCounts;
 
 // No `get_mut`: its contract says nothing of what the list ends as.
 fn put_at(answer: &mut [usize], k: usize, x: usize)
@@ -90,6 +92,15 @@ fn put_making(answer: &mut [usize], making: Result<usize, Refusal>)
 {
     let count = create_shared::directionless_of(making);
     put_answer(answer, making, count, 0);
+}
+
+// The reading of STL: the numbers of halfedges and of points.
+fn put_reading(answer: &mut [usize], reading: Result<MeshCounts, Refusal>)
+    ensures { answer.new ≡ put_reading answer.old reading }
+{
+    let halfedges = stl::halfedges_of(reading);
+    let points = stl::points_of(reading);
+    put_answer(answer, reading, halfedges, points);
 }
 
 // Straightening.
@@ -279,4 +290,22 @@ pub extern "C" fn tangents_create_tangents_from_normals(
         first,
     );
     put_making(answer, making);
+}
+
+// The reading of a binary STL file, with the answer's two counts.
+#[unsafe(no_mangle)]
+pub extern "C" fn tangents_read_stl(
+    file: &[u8],
+    points: &mut [f64],
+    halfedges: &mut [i32],
+    normals: &mut [f64],
+    answer: &mut [usize],
+)
+    ensures points_after { points.new ≡ points_after file.now points.old halfedges.old normals.old }
+    ensures halfedges_after { halfedges.new ≡ halfedges_after file.now points.old halfedges.old normals.old }
+    ensures normals_after { normals.new ≡ normals_after file.now points.old halfedges.old normals.old }
+    ensures answer_after { answer.new ≡ put_reading answer.old (read_stl file.now points.old halfedges.old normals.old) }
+{
+    let reading = stl::read_stl(file, points, halfedges, normals);
+    put_reading(answer, reading);
 }

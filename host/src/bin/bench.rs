@@ -7,8 +7,11 @@
 //! repeats, of the Rust and then of the unit; the table has the least of all runs, and of the runs' ratios the least, the median and the greatest.
 //! `normals` has a row for each halfedge; `rows`, on the torus only, one for the halfedges that share a normal. `preview` has the mesh of `spread`, and the
 //! Rust has no such call: it is timed beside the unit's own spreading, whose time stands in the Rust's column as `spread`.
+//! `stl` and `apart`, on the torus only, read an STL file: of that torus, and of triangles that share no corner, which is refused at the last question. The Rust
+//! has no such call: its column has, as `maps`, a plain reader over two hash maps.
 //! The unit asks its questions in every call; the Rust asks none.
 
+use std::collections::HashMap;
 use std::process::Command;
 use std::time::Instant;
 use tangents_host::case::{blocks, Block};
@@ -50,6 +53,104 @@ fn unit(c: &Block, op: &str, repeats: usize) -> f64 {
     least
 }
 
+/// What is taken from an STL file: points, halfedges and normals as `read_stl` gives them.
+#[derive(PartialEq)]
+struct Taken {
+    points: Vec<f64>,
+    halfedges: Vec<i32>,
+    normals: Vec<f64>,
+}
+
+/// The u32 at an offset of a file.
+fn u32_at(file: &[u8], at: usize) -> u32 {
+    u32::from_le_bytes([file[at], file[at + 1], file[at + 2], file[at + 3]])
+}
+
+/// Three f32 numbers at an offset, by their bits.
+fn three_at(file: &[u8], at: usize) -> [u32; 3] {
+    [0, 4, 8].map(|i| u32_at(file, at + i))
+}
+
+fn widened(three: [u32; 3]) -> [f64; 3] {
+    three.map(|bits| f64::from(f32::from_bits(bits)))
+}
+
+/// The corners of a file's triangles, -0 taken as 0. Nothing where a length, a count or a corner is not as it should be.
+fn corners(file: &[u8]) -> Option<Vec<[u32; 3]>> {
+    if file.len() < 84 || u32_at(file, 80) > 21_845 || file.len() != 84 + 50 * u32_at(file, 80) as usize {
+        return None;
+    }
+    let mut corners = Vec::with_capacity(file.len() / 50 * 3);
+    for triangle in file[84..].chunks_exact(50) {
+        let three = [12, 24, 36].map(|at| three_at(triangle, at).map(|bits| if bits == 1 << 31 { 0 } else { bits }));
+        let [a, b, c] = three;
+        if a == b || b == c || c == a || three.iter().flatten().any(|&bits| !f32::from_bits(bits).is_finite()) {
+            return None;
+        }
+        corners.extend(three);
+    }
+    Some(corners)
+}
+
+/// The plain reader that `read_stl` is timed beside. Nothing where the file is refused.
+fn taken_by_maps(file: &[u8]) -> Option<Taken> {
+    let corners = corners(file)?;
+    let (mut points, mut numbers) = (Vec::new(), HashMap::new());
+    let number = |corner: &[u32; 3]| {
+        *numbers.entry(*corner).or_insert_with(|| {
+            points.extend(widened(*corner));
+            points.len() as i32 / 3 - 1
+        })
+    };
+    let starts: Vec<i32> = corners.iter().map(number).collect();
+    let halfedges = paired_by_map(&starts)?;
+    let normals = file[84..].chunks_exact(50).flat_map(|triangle| widened(three_at(triangle, 0))).collect();
+    Some(Taken { points, halfedges, normals })
+}
+
+/// Start, end, pair and row of each halfedge, by where it starts. Nothing where a directed edge occurs twice or has no reverse.
+fn paired_by_map(starts: &[i32]) -> Option<Vec<i32>> {
+    let mut edges = HashMap::new();
+    let end = |e: usize| starts[if e % 3 == 2 { e - 2 } else { e + 1 }];
+    for (e, &start) in starts.iter().enumerate() {
+        if edges.insert((start, end(e)), e as i32).is_some() {
+            return None;
+        }
+    }
+    let mut halfedges = Vec::with_capacity(4 * starts.len());
+    for (e, &start) in starts.iter().enumerate() {
+        halfedges.extend([start, end(e), *edges.get(&(end(e), start))?, e as i32]);
+    }
+    Some(halfedges)
+}
+
+fn taken_by_unit(file: &[u8], lists: &mut Taken) -> Option<MeshCounts> {
+    read_stl(file, &mut lists.points, &mut lists.halfedges, &mut lists.normals).ok()
+}
+
+/// The least time of a job, in ns for each of n halfedges.
+fn least<T>(n: usize, repeats: usize, mut job: impl FnMut() -> T) -> f64 {
+    let times = (0..repeats).map(|_| {
+        let start = Instant::now();
+        std::hint::black_box(job());
+        start.elapsed().as_nanos() as f64 / n as f64
+    });
+    times.fold(f64::MAX, f64::min)
+}
+
+/// The halfedges of a file, and for each run the least time of the plain reader and that of the unit. Both have to take the same from it.
+fn file_times(file: &[u8], repeats: usize, runs: usize) -> (usize, Vec<(f64, f64)>) {
+    let n = (file.len() - 84) / 50 * 3;
+    let mut lists = Taken { points: vec![0.0; 3 * n], halfedges: vec![0; 4 * n], normals: vec![0.0; n] };
+    let times = (0..runs).map(|_| (least(n, repeats, || taken_by_maps(file)), least(n, repeats, || taken_by_unit(file, &mut lists)))).collect();
+    let taken = taken_by_unit(file, &mut lists).map(|counts| {
+        lists.points.truncate(3 * counts.points);
+        lists
+    });
+    assert!(taken == taken_by_maps(file), "unit and plain reader differ");
+    (n, times)
+}
+
 fn run(path: &str, words: &[&str]) -> String {
     let out = Command::new(path).args(words).output().unwrap_or_else(|e| panic!("{path}: {e}"));
     assert!(out.status.success(), "the oracle failed");
@@ -62,10 +163,25 @@ fn rust(line: &str) -> f64 {
     words.nth(1).and_then(|w| w.parse().ok()).expect("a timing")
 }
 
+/// The halfedges of a mesh, and for each run the least time of the Rust (for a preview, of the unit's spreading) and that of the unit.
+fn mesh_times(oracle: &str, kind: &str, text: &str, repeats: usize, runs: usize) -> (usize, Vec<(f64, f64)>) {
+    let file = std::env::temp_dir().join(format!("tangents-bench-{}.txt", std::process::id()));
+    std::fs::write(&file, text).expect("a temporary file");
+    let case = &blocks(text.as_bytes()).next().expect("a case");
+    let beside = || match kind {
+        "preview" => unit(case, "spread", repeats),
+        _ => rust(&run(oracle, &["bench", file.to_str().unwrap(), &repeats.to_string()])),
+    };
+    let op = if kind == "preview" { kind } else { case.op() };
+    let times = (0..runs).map(|_| (beside(), unit(case, op, repeats))).collect();
+    let _ = std::fs::remove_file(&file);
+    (case.counts().0, times)
+}
+
 fn main() {
     let args: Vec<String> = std::env::args().skip(1).collect();
     assert!(args.len() >= 5, "bench ORACLE MESH HALFEDGES REPEATS RUNS [KIND..]");
-    let all = ["straighten", "check", "crease", "spread", "preview", "sharp", "normals", "rows"].map(String::from);
+    let all = ["straighten", "check", "crease", "spread", "preview", "sharp", "normals", "rows", "stl", "apart"].map(String::from);
     let (job, all) = match args[1].as_str() {
         "torus" => ("big", &all[..]),
         "mixed" => ("mixed", &all[..7]),
@@ -73,25 +189,22 @@ fn main() {
     };
     let (repeats, runs): (usize, usize) = (args[3].parse().expect("repeats"), args[4].parse().expect("runs"));
     let kinds = if args.len() > 5 { &args[5..] } else { all };
-    let file = std::env::temp_dir().join(format!("tangents-bench-{}.txt", std::process::id()));
     println!("| call | halfedges | unit | Rust | ratio | least to greatest |");
     println!("|---|---|---|---|---|---|");
     for kind in kinds {
-        let preview = kind == "preview";
-        let text = run(&args[0], &[job, if preview { "spread" } else { kind }, &args[2], "1"]);
-        std::fs::write(&file, &text).expect("a temporary file");
-        let case = &blocks(text.as_bytes()).next().expect("a case");
-        let beside = || match preview {
-            true => unit(case, "spread", repeats),
-            false => rust(&run(&args[0], &["bench", file.to_str().unwrap(), &args[3]])),
+        let (of, mesh) = match kind.as_str() {
+            "preview" => ("spread ", "spread"),
+            "stl" | "apart" => ("maps ", kind.as_str()),
+            _ => ("", kind.as_str()),
         };
-        let op = if preview { kind } else { case.op() };
-        let times: Vec<(f64, f64)> = (0..runs).map(|_| (beside(), unit(case, op, repeats))).collect();
+        let text = run(&args[0], &[job, mesh, &args[2], "1"]);
+        let (n, times) = match kind.as_str() {
+            "stl" | "apart" => file_times(&blocks(text.as_bytes()).next().expect("a case").file(), repeats, runs),
+            _ => mesh_times(&args[0], kind, &text, repeats, runs),
+        };
         let mut ratios: Vec<f64> = times.iter().map(|(r, u)| u / r).collect();
         ratios.sort_by(f64::total_cmp);
         let (r, u) = times.iter().fold((f64::MAX, f64::MAX), |(r, u), t| (r.min(t.0), u.min(t.1)));
-        let of = if preview { "spread " } else { "" };
-        println!("| {kind} | {} | {u:.2} | {of}{r:.2} | {:.2} | {:.2} to {:.2} |", case.counts().0, ratios[runs / 2], ratios[0], ratios[runs - 1]);
+        println!("| {kind} | {n} | {u:.2} | {of}{r:.2} | {:.2} | {:.2} to {:.2} |", ratios[runs / 2], ratios[0], ratios[runs - 1]);
     }
-    let _ = std::fs::remove_file(&file);
 }

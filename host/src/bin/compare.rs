@@ -6,7 +6,7 @@
 //! KIND is a call, for random accepted cases of it, or `any`, for those of any call of document 01; or it is `refuse`, for damaged cases of these calls.
 //! `rows` and `refuse-rows` are making from normals with a row list; in `normals` each halfedge has a row of its own. `preview` and `refuse-preview` are
 //! the preview of spreading, which is also held against the unit's own spreading of copies. `count` is both makings with the count of edges without
-//! direction, which the other kinds do not compare.
+//! direction, which the other kinds do not compare. `stl` and `refuse-stl` are the reading of binary STL files.
 //! The status is 0 after a whole run in which nothing differs, 1 after one in which something does, and another where the run ends early.
 
 use std::collections::BTreeMap;
@@ -17,8 +17,9 @@ use std::process::{Child, ChildStdin, Command, ExitCode, ExitStatus, Stdio};
 use std::sync::mpsc::{sync_channel, Receiver, SyncSender};
 use tangents_host::case::{answer, blocks, Block};
 
-const KINDS: [&str; 13] = [
-    "straighten", "spread", "preview", "check", "crease", "sharp", "normals", "rows", "count", "any", "refuse", "refuse-rows", "refuse-preview",
+const KINDS: [&str; 15] = [
+    "straighten", "spread", "preview", "check", "crease", "sharp", "normals", "rows", "count", "stl", "any", "refuse", "refuse-rows", "refuse-preview",
+    "refuse-stl",
 ];
 
 /// The most cases that wait for their answers. The oracle writes answers some KB at a time, hundreds of the shortest: with room for fewer

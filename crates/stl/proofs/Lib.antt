@@ -1,0 +1,4 @@
+-- The laws of `stl`.
+pub mod Sound
+pub mod Pairing
+pub mod Example

@@ -1,0 +1,160 @@
+// The reading of binary STL: a file's triangles become a mesh, in lists with room for it. Nothing else is lent: what the questions take
+// is the call's own, on its stack, and the lists are written only when the file is accepted.
+#![tactic(auto)]
+
+ghost use Rattle.std.specs.Prelude.{◌≡◌, Ok, ◌*◌, ◌<◌, ◌≤◌, length};
+ghost use Rattle.mesh.specs.Mesh.{halfedge_stride};
+ghost use Rattle.little_endian.specs.Filled.{filled};
+ghost use Rattle.stl_file.specs.File.{triangle_count, halfedge_count, normal_item};
+ghost use Rattle.stl_file.specs.Points.{point_count};
+ghost use Rattle.stl_file.specs.Lists.{point_item, halfedge_item};
+ghost use Rattle.stl.specs.Questions.{has_room, finite, finite_corner, triangle_fits, check_file};
+ghost use Rattle.stl.specs.Stl.{halfedges_of, points_of, counts_of, check_lists, read_stl, points_after, halfedges_after, normals_after, Values, IsMesh};
+ghost use Rattle.stl.specs.Pairing.{PairedExactly};
+
+use mesh::{Question, Refusal};
+use stl_file::{Corner, File, Triangle};
+
+// How many halfedges and points the lists have.
+#[derive(Clone, Copy)]
+pub struct MeshCounts {
+    pub halfedges: usize,
+    pub points: usize,
+}
+
+// The number of halfedges; 0 where the file is refused.
+pub fn halfedges_of(reading: Result<MeshCounts, Refusal>) -> usize
+    ensures { result ≡ halfedges_of reading }
+{
+    reading.map_or(0, |counts| counts.halfedges)
+}
+
+// The number of points; 0 where the file is refused.
+pub fn points_of(reading: Result<MeshCounts, Refusal>) -> usize
+    ensures { result ≡ points_of reading }
+{
+    reading.map_or(0, |counts| counts.points)
+}
+
+// Question 2: have the lists room for three points, three halfedges and one normal for each triangle?
+fn has_room(file: &File<'_>, points: usize, halfedges: usize, normals: usize) -> bool
+    ensures { result ≡ has_room file.now.bytes.now points halfedges normals }
+{
+    let triangles = file.triangles;
+    (9 * triangles <= points) & (12 * triangles <= halfedges) & (3 * triangles <= normals)
+}
+
+// Are these the bits of a finite f32?
+#[tactic(auto, unfolding(crate::specs::Questions::finite))]
+fn is_finite(bits: u32) -> bool
+    ensures { result ≡ finite bits }
+{
+    bits % 0x8000_0000 < 0x7f80_0000
+}
+
+fn finite_corner(a: Corner) -> bool
+    ensures { result ≡ finite_corner a }
+{
+    is_finite(a.x) & is_finite(a.y) & is_finite(a.z)
+}
+
+// Question 31 of triangle t.
+#[tactic(auto, unfolding(crate::specs::Questions::triangle_fits, stl_file::specs::File::triangle_at, stl_file::specs::Points::same_point, stl_file::specs::Points::same_corner))]
+fn triangle_fits(file: &File<'_>, t: usize) -> bool
+    requires { t < file.now.triangles }
+    ensures { result ≡ triangle_fits file.now.bytes.now t }
+{
+    let Triangle { a, b, c } = stl_file::triangle_at(file, t);
+    if !(finite_corner(a) & finite_corner(b) & finite_corner(c)) {
+        return false;
+    }
+    (a != b) & (b != c) & (c != a)
+}
+
+// The questions 2, 31, 30 of the points, and 32, of a file whose length fits. `room` is the answer to question 2.
+#[tactic(auto, unfolding(crate::specs::Questions::check_file))]
+fn check_file(file: &File<'_>, room: bool) -> Result<(), Refusal>
+    ensures { result ≡ check_file file.now.bytes.now room }
+{
+    mesh::ask_at(Question::Lengths, 0, room)?;
+    mesh::ask(
+        Question::Corners,
+        file.triangles,
+        |t| triangle_fits(file, t),
+    )?;
+    mesh::ask_at(Question::Size, 0, stl_points::points_fit(file))?;
+    let unpaired = stl_pairs::lowest_unpaired(file);
+    mesh::ask_at(Question::Pairing, unpaired, unpaired >= 3 * file.triangles)
+}
+
+// The stored normals, widened.
+#[tactic(auto, using(little_endian::proofs::Filled::filled_none, little_endian::proofs::Filled::filled_again))]
+fn write_normals(file: &File<'_>, normals: &mut [f64])
+    requires { 3 * file.now.triangles ≤ length normals.old }
+    ensures { normals.new ≡ filled (normal_item file.now.bytes.now) (3 * file.now.triangles) normals.old }
+{
+    for i in 0..3 * file.triangles {
+        normals[i] = stl_file::normal_number(file, i);
+    }
+}
+
+// The three lists of a file whose questions are all answered yes.
+fn write_lists(
+    file: &File<'_>,
+    points: &mut [f64],
+    halfedges: &mut [i32],
+    normals: &mut [f64],
+) -> MeshCounts
+    requires { check_file file.now.bytes.now (has_room file.now.bytes.now (length points.old) (length halfedges.old) (length normals.old)) ≡ Ok tt }
+    ensures counts { result ≡ counts_of file.now.bytes.now }
+    ensures points { points.new ≡ filled (point_item file.now.bytes.now) (3 * point_count file.now.bytes.now) points.old }
+    ensures halfedges { halfedges.new ≡ filled (halfedge_item file.now.bytes.now) (halfedge_count file.now.bytes.now * halfedge_stride) halfedges.old }
+    ensures normals { normals.new ≡ filled (normal_item file.now.bytes.now) (3 * triangle_count file.now.bytes.now) normals.old }
+{
+    let written = stl_points::write_points(file, points, halfedges);
+    stl_pairs::write_pairs(file, halfedges);
+    write_normals(file, normals);
+    MeshCounts {
+        halfedges: 3 * file.triangles,
+        points: written,
+    }
+}
+
+// Takes the triangles of a binary STL file. Corners with equal bits become one point (-0 is taken as 0), numbered by first appearance;
+// each triangle keeps its place, and its first halfedge starts at its first corner; each directed edge is paired with its reverse, and
+// a halfedge's row is its own number. `points` and `normals` take three numbers for each point and triangle, `halfedges` four for
+// each halfedge; places beyond stay as lent.
+#[tactic(auto, using(crate::proofs::Pairing::exactly_of))]
+pub fn read_stl(
+    file: &[u8],
+    points: &mut [f64],
+    halfedges: &mut [i32],
+    normals: &mut [f64],
+) -> Result<MeshCounts, Refusal>
+    ensures answer { result ≡ read_stl file.now points.old halfedges.old normals.old }
+    ensures points_filled { points.new ≡ points_after file.now points.old halfedges.old normals.old }
+    ensures halfedges_filled { halfedges.new ≡ halfedges_after file.now points.old halfedges.old normals.old }
+    ensures normals_filled { normals.new ≡ normals_after file.now points.old halfedges.old normals.old }
+    ensures values { Values (check_lists file.now points.old halfedges.old normals.old) file.now result }
+    ensures mesh { IsMesh result points.new halfedges.new normals.new }
+    ensures paired { PairedExactly file.now result }
+{
+    let sized = mesh::ask_at(Question::Size, 0, stl_file::length_fits(file));
+    // Document 01's form by place: the check's answer is opened by `let .. else`.
+    let Ok(()) = sized else {
+        return mesh::refused(sized);
+    };
+    let triangles = stl_file::triangle_count(file);
+    let file = File {
+        bytes: file,
+        triangles,
+    };
+    let checked = check_file(
+        &file,
+        has_room(&file, points.len(), halfedges.len(), normals.len()),
+    );
+    let Ok(()) = checked else {
+        return mesh::refused(checked);
+    };
+    Ok(write_lists(&file, points, halfedges, normals))
+}

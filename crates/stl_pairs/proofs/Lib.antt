@@ -1,0 +1,5 @@
+-- The laws of `stl_pairs`.
+mod Backs
+mod Scans
+mod Covers
+mod Written

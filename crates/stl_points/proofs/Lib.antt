@@ -1,0 +1,4 @@
+-- The laws of `stl_points`.
+mod Marks
+mod Counts
+mod Writing

@@ -1,0 +1,100 @@
+//! Reads a binary STL file, lists its creases and makes its tangents, each by the unit. `stl --help` says more.
+
+use std::error::Error;
+use std::ffi::OsString;
+use std::io::{self, BufWriter, Write};
+use std::process::ExitCode;
+use tangents_host::solid::{Creases, Solid};
+use tangents_host::Made;
+
+const USAGE: &str = "stl FILE [ANGLE] [--tangents]";
+
+const HELP: &str = "
+Reads a binary STL file, takes it as a mesh, lists its creases and makes its tangents from these as sharp
+edges, all by the unit. ANGLE, in degrees, is how far the normals of two triangles must differ for their
+edge to be a crease: 30 if it is left out. Each crease is sharp altogether (smoothness 0).
+
+It prints the counts of triangles, points and halfedges; how many normals are the stored ones, and how
+many are worked out from the corners, as the stored ones are zero, not finite or not of length 1; how many
+faces there are, a face being triangles that share edges and lie in one plane; how many edges are creases,
+and the entries of the listing, two for each; and how many tangents were computed on an edge without
+direction.
+
+--tangents prints the tangents below, as document 01's program does: the line `tangents` with the count
+of halfedges, and for each halfedge its number and the bits of x, y, z and the weight in 16 hex digits.
+
+A file that is refused gives the line `refused NUMBER PLACE: ` and its meaning on standard error, and
+status 1. Status 1 with another line says that the file cannot be read, or that it looks like ASCII STL;
+status 2 that the arguments are wrong.
+";
+
+struct Arguments {
+    file: OsString,
+    angle: f64,
+    tangents: bool,
+}
+
+/// The arguments, or `None` where they are wrong.
+fn arguments(words: impl Iterator<Item = OsString>) -> Option<Arguments> {
+    let (options, others): (Vec<_>, Vec<_>) = words.partition(|word| word.to_string_lossy().starts_with("--"));
+    let mut others = others.into_iter();
+    let (file, angle) = (others.next()?, others.next());
+    let angle = angle.map_or(Some(30.0), |word| word.to_str()?.parse().ok()).filter(|angle: &f64| angle.is_finite())?;
+    let known = others.next().is_none() && options.iter().all(|option| option == "--tangents");
+    known.then_some(Arguments { file, angle, tangents: !options.is_empty() })
+}
+
+fn write_counts(out: &mut impl Write, solid: &Solid, creases: &Creases, made: Made) -> io::Result<()> {
+    let triangles = solid.mesh.triangles();
+    writeln!(out, "triangles {triangles}")?;
+    writeln!(out, "points {}", solid.mesh.counts.points)?;
+    writeln!(out, "halfedges {}", solid.mesh.counts.halfedges)?;
+    writeln!(out, "normals {} stored, {} from the corners", triangles - solid.replaced, solid.replaced)?;
+    writeln!(out, "faces {}", solid.faces)?;
+    writeln!(out, "creases {} edges, {} entries", creases.listed.tally, creases.listed.entries)?;
+    writeln!(out, "edges without direction {}", made.directionless)
+}
+
+fn write_tangents(out: &mut impl Write, tangents: &[f64]) -> io::Result<()> {
+    writeln!(out, "tangents {}", tangents.len() / 4)?;
+    for (e, tangent) in tangents.chunks_exact(4).enumerate() {
+        write!(out, "{e}")?;
+        for x in tangent {
+            let bits = if x.is_nan() { 0x7ff8_0000_0000_0000 } else { x.to_bits() };
+            write!(out, " {bits:016x}")?;
+        }
+        writeln!(out)?;
+    }
+    Ok(())
+}
+
+fn run(arguments: &Arguments) -> Result<(), Box<dyn Error>> {
+    let solid = Solid::read(&arguments.file)?;
+    let creases = solid.creases(arguments.angle)?;
+    let (tangents, made) = solid.tangents(&creases)?;
+    let mut out = BufWriter::new(io::stdout().lock());
+    write_counts(&mut out, &solid, &creases, made)?;
+    if arguments.tangents {
+        write_tangents(&mut out, &tangents)?;
+    }
+    Ok(out.flush()?)
+}
+
+fn main() -> ExitCode {
+    let words: Vec<OsString> = std::env::args_os().skip(1).collect();
+    if words == ["--help"] {
+        print!("{USAGE}\n{HELP}");
+        return ExitCode::SUCCESS;
+    }
+    let Some(arguments) = arguments(words.into_iter()) else {
+        eprintln!("{USAGE}, where ANGLE is a number of degrees; stl --help says more");
+        return ExitCode::from(2);
+    };
+    match run(&arguments) {
+        Ok(()) => ExitCode::SUCCESS,
+        Err(failure) => {
+            eprintln!("{failure}");
+            ExitCode::from(1)
+        }
+    }
+}
