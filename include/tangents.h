@@ -27,10 +27,17 @@ void tangents_valid_tangents(size_t n, size_t p, const int32_t *h, size_t h_len,
                              const double *t, size_t t_len, size_t *answer, size_t answer_len);
 
 /* The crease listing: normals has three numbers for each triangle, angle is in degrees. Writes the entries into halfedges and
- * smoothness, n places each; answer[2] is the number of entries and answer[3] the number of edges. */
+ * smoothness, n places each; answer[2] is the number of entries. answer[3] is the crease tally: the number of edges that the
+ * clean listing below names, half of its entries. */
 void tangents_sharpen_edges(size_t n, size_t p, const int32_t *h, size_t h_len, const double *normals, size_t normals_len,
                             double angle, double smooth, size_t *halfedges, size_t halfedges_len, double *smoothness,
                             size_t smoothness_len, size_t *answer, size_t answer_len);
+
+/* The clean crease listing: the same, without the edges that touch a triangle whose three normal numbers are all zero, of either
+ * sign. answer[2] is its own number of entries, answer[3] the same tally. */
+void tangents_sharpen_edges_clean(size_t n, size_t p, const int32_t *h, size_t h_len, const double *normals, size_t normals_len,
+                                  double angle, double smooth, size_t *halfedges, size_t halfedges_len, double *smoothness,
+                                  size_t smoothness_len, size_t *answer, size_t answer_len);
 
 /* Spreading: normals has three numbers for each point, flags one of 0 and 1 for each halfedge, and the scratch lists current
  * and desired a place for each halfedge; they hold zeros afterwards. Writes t; answer[2] is looked and answer[3] turned. */

@@ -6,7 +6,7 @@ i32 and counts in 4, flags in 1.
 """
 import collections, math, struct, subprocess, sys
 
-OPERATIONS = {"straighten": 1, "check": 2, "crease": 3, "tfn": 4, "quad": 5, "flat": 6, "spread": 7, "sharp": 8, "normals": 9, "preview": 10}
+OPERATIONS = {"straighten": 1, "check": 2, "crease": 3, "crease2": 3, "tfn": 4, "quad": 5, "flat": 6, "spread": 7, "sharp": 8, "normals": 9, "preview": 10, "clean": 11}
 LISTS = ("pos", "he", "row", "tan", "vn", "fn", "nrm", "prop", "fl", "ref", "sh", "ss")
 
 
@@ -84,6 +84,13 @@ def spread_lists(case):
     """The lists that spreading and its preview are lent."""
     get = lambda k: case.get(k, [])
     return floats(get("pos")) + signed(halfedges(case)) + floats(get("vn")) + small(get("fl")) + floats(get("tan"))
+
+
+def crease_lists(case, answer):
+    """The lists that a crease listing is lent, its limits and room, and what the oracle answered."""
+    get = case.get
+    listed = counts(answer["list"]) + floats(answer["smooth"]) + u32(int(answer["tally"][0])) if answer else counts([]) + floats([]) + u32(0)
+    return signed(halfedges(case)) + floats(get("fn")) + floats(get("ang")) + u32(int(get("room")[0])) + listed
 
 
 def answered(text, largest):

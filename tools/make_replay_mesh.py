@@ -8,7 +8,7 @@ oracle's own random meshes, the smaller ones, and its damaged ones with the refu
 
 A case (tools/cases.py) has the operation's lists and answers: see `packed`.
 """
-from cases import answered, counts, floats, halfedges, one_nan, oracle, record, refusal, refused, signed, small, u32, write
+from cases import answered, counts, crease_lists, floats, halfedges, one_nan, oracle, record, refusal, refused, signed, small, u32, write
 
 LARGEST = 24  # halfedges of a mesh that is taken
 ACCEPTED = 510  # cases of each operation
@@ -23,10 +23,8 @@ def packed(case, answer):
         return floats(get("pos")) + signed(halfedges(case)) + floats(get("tan")) + floats(after)
     if op == "check":
         return floats(get("pos")) + signed(halfedges(case)) + floats(get("tan")) + u32(int(answer["valid"][0]) if answer else 0)
-    if op == "crease":
-        angle, smooth = get("ang")
-        listed = counts(answer["list"]) + floats(answer["smooth"]) + u32(int(answer["tally"][0])) if answer else counts([]) + floats([]) + u32(0)
-        return signed(halfedges(case)) + floats(get("fn")) + floats([angle, smooth]) + u32(int(get("room")[0])) + listed
+    if op in ("crease", "crease2"):
+        return crease_lists(case, answer)
     if op == "tfn":
         return floats(get("pos")) + signed(halfedges(case)) + floats(get("fn")) + floats(get("nrm")) + floats(answer["tan"])
     if op == "quad":
@@ -43,7 +41,8 @@ def packed(case, answer):
 def main():
     accepted = []
     for kind in ("straighten", "check", "crease", "tfn", "quad", "flat"):
-        pairs = answered(oracle(["gen", kind, "3", "2000"]), LARGEST)
+        # a crease listing is asked as `crease2`, whose tally is half of the clean listing's entries
+        pairs = answered(oracle(["gen", kind, "3", "2000"]).replace("case crease ", "case crease2 "), LARGEST)
         accepted += [record(c, packed(c, a)) for c, a in pairs[:ACCEPTED]]
     write(accepted, [record(c, packed(c, None), *refusal(c)) for c in refused("5", 4 * 18)[:REFUSED]])
 

@@ -1,7 +1,7 @@
 //! The oracle's text format: cases, answers, and the unit's answer to a case, written as the oracle writes it.
 
 use crate::{create_tangents, create_tangents_from_normals, distribute_tangents, linearize_flat_tangents, preview_tangents, read_stl};
-use crate::{sharpen_edges, valid_tangents, Counts, CreateScratch, Made, NormalsScratch, Refused};
+use crate::{sharpen_edges, sharpen_edges_clean, valid_tangents, Counts, CreateScratch, Made, NormalsScratch, Refused};
 use std::fmt::{Display, Write as _};
 use std::hint::black_box;
 use std::io::BufRead;
@@ -193,6 +193,26 @@ fn signaling(t: &[f64]) -> Vec<f64> {
     t
 }
 
+/// A crease listing. Places past the entries, and all of them where the call is refused, have to be as they were lent.
+fn creases(c: &Block, h: &[i32]) -> Result<Vec<String>, Refused> {
+    let (n, p) = c.counts();
+    let (limits, room) = (c.floats("ang"), c.room(n));
+    let (mut halfedges, mut smoothness) = (vec![usize::MAX; room], vec![f64::from_bits(SIGNALING); room]);
+    let list = if c.op() == "clean" { sharpen_edges_clean } else { sharpen_edges };
+    let answer = list(n, p, h, &c.floats("fn"), limits[0], limits[1], &mut halfedges, &mut smoothness);
+    let entries = answer.map_or(0, |listed| listed.entries);
+    assert!(halfedges[entries..].iter().all(|&e| e == usize::MAX), "a place past the entries, or of a refused call, was written");
+    assert!(smoothness[entries..].iter().all(|x| x.to_bits() == SIGNALING), "a smoothness past the entries, or of a refused call, was written");
+    answer.map(|listed| {
+        let mut lines = vec![decimal("list", &halfedges[..entries]), hex("smooth", &smoothness[..entries])];
+        // the tally of the oracle's `crease` counts the edges of the Rust's listing
+        if c.op() != "crease" {
+            lines.push(format!("tally {}", listed.tally));
+        }
+        lines
+    })
+}
+
 /// Do a preview's answer and bytes agree with the unit's own spreading, which was lent these tangents and left them as `after`? Both answers have to be equal;
 /// each byte 0 or 1, with as many of 1 as tangents were turned; the byte 1 where a tangent's bits changed; and a signaling not-a-number changed where the byte
 /// is 1, as a write always changes it.
@@ -285,15 +305,7 @@ pub fn answer(c: &Block) -> Option<Result<Vec<String>, Refused>> {
     Some(match c.op() {
         "straighten" => linearize_flat_tangents(n, p, &h, &pos, &mut t).map(|()| vec![hex("tan", &t)]),
         "check" => valid_tangents(n, p, &h, &pos, &t).map(|v| vec![format!("valid {}", v as u8)]),
-        "crease" => {
-            let limits = c.floats("ang");
-            let room = c.room(n);
-            let (mut halfedges, mut smoothness) = (vec![usize::MAX; room], vec![f64::NAN; room]);
-            sharpen_edges(n, p, &h, &c.floats("fn"), limits[0], limits[1], &mut halfedges, &mut smoothness).map(|l| {
-                assert!(halfedges[l.entries..].iter().all(|&e| e == usize::MAX), "a place past the entries was written");
-                vec![decimal("list", &halfedges[..l.entries]), hex("smooth", &smoothness[..l.entries]), format!("tally {}", l.tally)]
-            })
-        }
+        "crease" | "crease2" | "clean" => creases(c, &h),
         "spread" => {
             // the scratch is handed in full, and has to come back all zeros
             let (mut current, mut desired) = (vec![f64::NAN; n.min(1 << 20)], vec![1.5; n.min(1 << 20)]);

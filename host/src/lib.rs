@@ -24,6 +24,11 @@ mod raw {
             halfedges: *mut usize, halfedges_len: usize, smoothness: *mut f64, smoothness_len: usize,
             answer: *mut usize, answer_len: usize,
         );
+        pub fn tangents_sharpen_edges_clean(
+            n: usize, p: usize, h: *const i32, h_len: usize, normals: *const f64, normals_len: usize, angle: f64, smooth: f64,
+            halfedges: *mut usize, halfedges_len: usize, smoothness: *mut f64, smoothness_len: usize,
+            answer: *mut usize, answer_len: usize,
+        );
         pub fn tangents_distribute_tangents(
             n: usize, p: usize, h: *const i32, h_len: usize, pos: *const f64, pos_len: usize, normals: *const f64, normals_len: usize,
             flags: *const u8, flags_len: usize, t: *mut f64, t_len: usize, current: *mut f64, current_len: usize,
@@ -84,26 +89,45 @@ pub fn valid_tangents(n: usize, p: usize, h: &[i32], pos: &[f64], t: &[f64]) -> 
     outcome(answer).map(|[valid, _]| valid == 1)
 }
 
-/// What the crease listing wrote: the number of entries, and the tally of edges.
+/// What a crease listing answers: the number of its own entries, and the tally, which for either listing is half of the clean one's entries.
 #[derive(Clone, Copy, Debug, PartialEq, Eq)]
 pub struct Listed {
     pub entries: usize,
     pub tally: usize,
 }
 
-/// The crease listing: the Rust's `sharpen_edges`, with the angle in degrees.
+/// A crease listing of the unit.
+type RawListing =
+    unsafe extern "C" fn(usize, usize, *const i32, usize, *const f64, usize, f64, f64, *mut usize, usize, *mut f64, usize, *mut usize, usize);
+
 #[allow(clippy::too_many_arguments)]
-pub fn sharpen_edges(
-    n: usize, p: usize, h: &[i32], normals: &[f64], angle: f64, smooth: f64, halfedges: &mut [usize], smoothness: &mut [f64],
+fn listed_by(
+    raw: RawListing, n: usize, p: usize, h: &[i32], normals: &[f64], angle: f64, smooth: f64, halfedges: &mut [usize], smoothness: &mut [f64],
 ) -> Result<Listed, Refused> {
     let mut answer = [0; 4];
     unsafe {
-        raw::tangents_sharpen_edges(
+        raw(
             n, p, h.as_ptr(), h.len(), normals.as_ptr(), normals.len(), angle, smooth, halfedges.as_mut_ptr(), halfedges.len(),
             smoothness.as_mut_ptr(), smoothness.len(), answer.as_mut_ptr(), 4,
         );
     }
     outcome(answer).map(|[entries, tally]| Listed { entries, tally })
+}
+
+/// The ported crease listing: the Rust's `sharpen_edges`, with the angle in degrees.
+#[allow(clippy::too_many_arguments)]
+pub fn sharpen_edges(
+    n: usize, p: usize, h: &[i32], normals: &[f64], angle: f64, smooth: f64, halfedges: &mut [usize], smoothness: &mut [f64],
+) -> Result<Listed, Refused> {
+    listed_by(raw::tangents_sharpen_edges, n, p, h, normals, angle, smooth, halfedges, smoothness)
+}
+
+/// The clean crease listing, request 6 of document 02: the ported one without the edges that touch a face normal whose numbers are all zero.
+#[allow(clippy::too_many_arguments)]
+pub fn sharpen_edges_clean(
+    n: usize, p: usize, h: &[i32], normals: &[f64], angle: f64, smooth: f64, halfedges: &mut [usize], smoothness: &mut [f64],
+) -> Result<Listed, Refused> {
+    listed_by(raw::tangents_sharpen_edges_clean, n, p, h, normals, angle, smooth, halfedges, smoothness)
 }
 
 /// The two counts of spreading and of its preview.

@@ -1,10 +1,10 @@
 //! A binary STL file as a solid: the mesh that the unit takes from it, and what the makings are lent beside a mesh, which the unit leaves to its caller.
 //!
 //! The normal of a triangle is the stored one if its length is 1, to a thousandth; where that is zero, not finite or of another length, it is worked out
-//! from the corners. Triangles that share an edge and lie in one plane are one face. The normal of a point is the sum of those of its triangles, each times
-//! the angle that the triangle has there, scaled to length 1.
+//! from the corners, and is zero where these lie on one line: such a triangle is called a sliver here. Triangles that share an edge and lie in one plane are one
+//! face. The normal of a point is the sum of those of its triangles, each times the angle that the triangle has there, scaled to length 1.
 
-use crate::{create_tangents, read_stl, sharpen_edges, CreateScratch, Listed, Made, MeshCounts, Refused};
+use crate::{create_tangents, read_stl, sharpen_edges, sharpen_edges_clean, CreateScratch, Listed, Made, MeshCounts, Refused};
 use std::fmt;
 use std::io;
 use std::path::Path;
@@ -31,11 +31,26 @@ pub struct Solid {
     pub point_normals: Vec<f64>,
 }
 
-/// The crease listing of a solid: each entry's halfedge and smoothness, and the counts.
+/// A crease listing of a solid: each entry's halfedge and smoothness, and the counts.
 pub struct Creases {
     pub halfedges: Vec<usize>,
     pub smoothness: Vec<f64>,
     pub listed: Listed,
+}
+
+impl Creases {
+    /// How many of the listed edges are creases only by a sliver. The clean listing has none.
+    pub fn by_slivers(&self) -> usize {
+        self.listed.entries / 2 - self.listed.tally
+    }
+}
+
+/// Which edges are listed.
+#[derive(Clone, Copy, Debug, PartialEq, Eq)]
+pub enum Rule {
+    Ported,
+    /// Without those at a sliver.
+    Clean,
 }
 
 /// Why a file gives no solid.
@@ -89,11 +104,12 @@ impl Solid {
         Ok(Solid { mesh, face_normals, replaced, refs, faces, point_normals })
     }
 
-    /// The edges whose triangles' normals differ by more than the angle, in degrees, with smoothness 0.
-    pub fn creases(&self, angle: f64) -> Result<Creases, Refused> {
+    /// The edges whose triangles' normals differ by more than the angle, in degrees, with smoothness 0. The normal zero is at ninety degrees to any other.
+    pub fn creases(&self, angle: f64, rule: Rule) -> Result<Creases, Refused> {
         let MeshCounts { halfedges: n, points: p } = self.mesh.counts;
         let (mut halfedges, mut smoothness) = (vec![0; n], vec![0.0; n]);
-        let listed = sharpen_edges(n, p, &self.mesh.halfedges, &self.face_normals, angle, 0.0, &mut halfedges, &mut smoothness)?;
+        let list = if rule == Rule::Clean { sharpen_edges_clean } else { sharpen_edges };
+        let listed = list(n, p, &self.mesh.halfedges, &self.face_normals, angle, 0.0, &mut halfedges, &mut smoothness)?;
         halfedges.truncate(listed.entries);
         smoothness.truncate(listed.entries);
         Ok(Creases { halfedges, smoothness, listed })

@@ -1,7 +1,7 @@
 //! The sample letter, examples/letter.stl, and damaged copies of it, by the library and by the program `stl`.
 
 use std::process::Command;
-use tangents_host::solid::Solid;
+use tangents_host::solid::{Rule, Solid};
 use tangents_host::{read_stl, valid_tangents, Listed, MeshCounts, Refused};
 
 const LETTER: &str = concat!(env!("CARGO_MANIFEST_DIR"), "/../examples/letter.stl");
@@ -29,14 +29,14 @@ fn letter_has_its_creases() {
     let solid = Solid::read(LETTER).expect("accepted");
     // every edge between two faces; those of 60 and 90 degrees; none
     for (angle, tally) in [(30.0, 40), (50.0, 24), (90.5, 0)] {
-        assert_eq!(solid.creases(angle).expect("accepted").listed, Listed { entries: 2 * tally, tally });
+        assert_eq!(solid.creases(angle, Rule::Ported).expect("accepted").listed, Listed { entries: 2 * tally, tally });
     }
 }
 
 #[test]
 fn letter_has_tangents() {
     let solid = Solid::read(LETTER).expect("accepted");
-    let (tangents, made) = solid.tangents(&solid.creases(30.0).expect("accepted")).expect("accepted");
+    let (tangents, made) = solid.tangents(&solid.creases(30.0, Rule::Ported).expect("accepted")).expect("accepted");
     assert_eq!(made.directionless, 0);
     assert_eq!(valid_tangents(132, 24, &solid.mesh.halfedges, &solid.mesh.positions, &tangents), Ok(true));
 }
@@ -70,7 +70,7 @@ fn program(words: &[&str]) -> (String, String, Option<i32>) {
 #[test]
 fn program_prints() {
     let counts = "triangles 44\npoints 24\nhalfedges 132\nnormals 44 stored, 0 from the corners\nfaces 18\n\
-                  creases 24 edges, 48 entries\nedges without direction 0\n";
+                  creases 24 edges, 48 entries\nedges listed only for a sliver 0\nedges without direction 0\n";
     let (short, long) = (program(&[LETTER, "50"]), program(&["--tangents", LETTER, "50"]));
     assert_eq!(short, (counts.into(), String::new(), Some(0)));
     let lines: Vec<&str> = long.0.strip_prefix(counts).expect("the counts").lines().collect();

@@ -26,6 +26,7 @@ pub enum Operation {
     Create,
     CreateFromNormals,
     Preview,
+    CreaseClean,
 }
 
 // A number of no operation.
@@ -47,6 +48,7 @@ impl TryFrom<usize> for Operation {
             8 => Ok(Operation::Create),
             9 => Ok(Operation::CreateFromNormals),
             10 => Ok(Operation::Preview),
+            11 => Ok(Operation::CreaseClean),
             _ => Err(UnknownOperation),
         }
     }

@@ -7,6 +7,7 @@ use Rattle.smoothing.specs.Lists.{point_at}
 use Rattle.linearize.specs.Linearize as Linearize
 use Rattle.validate.specs.Validate as Validate
 use Rattle.sharpen.specs.Sharpen as Sharpen
+use Rattle.sharpen.specs.declared.edge.Rule.{Rule}
 use Rattle.distribute.specs.Distribute as Distribute
 use Rattle.preview.specs.Preview as Preview
 use Rattle.create_smoothness.specs.declared.Smoothness.{Smoothness}
@@ -28,8 +29,8 @@ pub record RowUnread (list other : List ℤ) : Type 0 where
   pub straighten_answer : (P T : List Float) (n p : ℕ) → Same list other (λ H. Linearize.linearize_answer H P T n p)
   pub straighten_tangents : (P T : List Float) (n p : ℕ) → Same list other (λ H. Linearize.tangents_after H P T n p)
   pub check_answer : (P T : List Float) (n p : ℕ) → Same list other (λ H. Validate.valid_answer H P T n p)
-  pub listing_answer : (A : List Float) (angle smooth : Float) (I : List ℕ) (Q : List Float) (n p : ℕ) → Same list other (λ H. Sharpen.sharpen_edges H A angle smooth I Q n p)
-  pub listing_entries : (A : List Float) (angle smooth : Float) (I : List ℕ) (Q : List Float) (n p : ℕ) → Same list other (λ H. Sharpen.entries_after H A angle smooth I Q n p)
+  pub listing_answer : (rule : Rule) (A : List Float) (angle smooth : Float) (I : List ℕ) (Q : List Float) (n p : ℕ) → Same list other (λ H. Sharpen.sharpen_edges rule H A angle smooth I Q n p)
+  pub listing_entries : (rule : Rule) (A : List Float) (angle smooth : Float) (I : List ℕ) (Q : List Float) (n p : ℕ) → Same list other (λ H. Sharpen.entries_after rule H A angle smooth I Q n p)
   pub spread_questions : (P N : List Float) (X : List ℕ) (T C D : List Float) (n p : ℕ) → Same list other (λ H. Distribute.check_lists H P N X T C D n p)
   pub spread_answer : (P N : List Float) (X : List ℕ) (T C D : List Float) (n p : ℕ) → Same list other (λ H. Distribute.distribute_tangents H P N X T C D n p)
   pub spread_tangents : (P N : List Float) (X : List ℕ) (T C D : List Float) (n p : ℕ) → Same list other (λ H. Distribute.tangents_after H P N X T C D n p)

@@ -2,35 +2,40 @@
 use Prim.Native.Nat.{ℕ, ◌+◌, ◌*◌, ◌≤◌, ◌<◌}
 use native.Mathlib.Omega.{arith}
 use Rattle.std.proofs.lemmas.Grind.{common_steps}
-use mathlib.Core.Path.{◌≡◌, ap, ◌∙◌}
+use mathlib.Core.Path.{◌≡◌, refl, sym, ap, ◌∙◌}
 use mathlib.Core.List.{List}
-use mathlib.Core.Bool.{true, false, not}
+use mathlib.Core.Bool.{Bool, true, false, not, true≢false}
 use lib.ListN.{length}
 use lib.Ieee.{Float}
 use Rattle.mesh.specs.Mesh.{halfedge_stride, paired_halfedge, is_forward, Halfedges}
 use Rattle.mesh.specs.Sound.{Sound}
 use Rattle.std.specs.Prelude.{Ok}
 use Rattle.common.specs.Count.{count_below}
-use Rattle.std.proofs.lemmas.Bool.{and_parts}
 use Rattle.common.proofs.Count.{count_room}
 use Rattle.mesh.proofs.Accepted.{accepted}
 use Rattle.mesh.proofs.Pairs.{one_forward, paired_injective}
-use Rattle.sharpen.specs.Crease.{is_crease}
-use Rattle.sharpen.specs.Rule.{is_listed, EdgeFits}
-use Rattle.sharpen.specs.declared.crease_rule.CreaseRule.{CreaseRule}
+use Rattle.sharpen.specs.Crease.{edge_kind, is_listed}
+use Rattle.sharpen.specs.Turn.{listed_by, EdgeFits}
+use Rattle.sharpen.specs.declared.edge.Rule.{Rule}
+use Rattle.sharpen.specs.declared.crease_lists.CreaseLists.{CreaseLists}
 use Rattle.sharpen.specs.Sharpen.{lengths_fit, check_lists}
 
-module _ {H : Halfedges} {n p : ℕ} (A : List Float) (limit : Float) (s : Sound H n p) where
+module _ {H : Halfedges} {n p : ℕ} (rule : Rule) (A : List Float) (limit : Float) (s : Sound H n p) where
   -- of the two halfedges of an edge only the forward one is asked
-  other_side : (e : ℕ) → e < n → is_crease H A limit e ≡ true → is_crease H A limit (paired_halfedge H e) ≡ false
-  unfolding is_crease
+  other_side : (e : ℕ) → e < n → is_listed rule H A limit e ≡ true → is_listed rule H A limit (paired_halfedge H e) ≡ false
+  unfolding edge_kind
   other_side e h q =
-      let back : is_forward H (paired_halfedge H e) ≡ false = one_forward s e h ∙ ap not (and_parts (is_forward H e) _ q).0 in
-      rw back
+      go (is_forward H e) refl q
+    where
+      go : (b : Bool) → is_forward H e ≡ b → is_listed rule H A limit e ≡ true → is_listed rule H A limit (paired_halfedge H e) ≡ false
+      go true f r =
+          let back : is_forward H (paired_halfedge H e) ≡ false = one_forward s e h ∙ ap not f in
+          rw back
+      go false f r = absurd (true≢false (sym r ∙ rw f))
 
   -- so that the entries have room in lists with a place for each halfedge: two more where e's edge is listed
-  entries_room : (e : ℕ) → e < n → is_crease H A limit e ≡ true → 2 * count_below (is_crease H A limit) e + 2 ≤ n
-  entries_room = count_room (λ e. paired_halfedge H e) n (is_crease H A limit) s.paired_below (paired_injective s) other_side
+  pub entries_room : (e : ℕ) → e < n → is_listed rule H A limit e ≡ true → 2 * count_below (is_listed rule H A limit) e + 2 ≤ n
+  entries_room = count_room (λ e. paired_halfedge H e) n (is_listed rule H A limit) s.paired_below (paired_injective s) other_side
 
 -- what the questions establish
 pub record Lists (H : Halfedges) (A : List Float) (E : List ℕ) (S : List Float) (n p : ℕ) : Type 0 where
@@ -53,9 +58,9 @@ module _ (H : Halfedges) (A : List Float) (E : List ℕ) (S : List Float) (n p :
       }
 
 -- one turn of the loop, on lists of the same lengths with k entries
-pub edge_fits : (rule : CreaseRule) (e : ℕ) → e < rule.n → {k : ℕ} {E : List ℕ} {S : List Float} → k ≡ 2 * count_below (is_listed rule) e → length E ≡ rule.n → length S ≡ rule.n → EdgeFits rule e k E S
-edge_fits rule e h q le ls = record {
+pub edge_fits : (lists : CreaseLists) (e : ℕ) → e < lists.n → {k : ℕ} {E : List ℕ} {S : List Float} → k ≡ 2 * count_below (listed_by lists.rule lists) e → length E ≡ lists.n → length S ≡ lists.n → EdgeFits lists e k E S
+edge_fits lists e h q le ls = record {
   below = h;
-  halfedges = λ crease. omega (arith, entries_room rule.normals.now rule.limit rule.sound e h crease);
-  smoothness = λ crease. omega (arith, entries_room rule.normals.now rule.limit rule.sound e h crease);
+  halfedges = λ crease. omega (arith, entries_room lists.rule lists.normals.now lists.limit lists.sound e h crease);
+  smoothness = λ crease. omega (arith, entries_room lists.rule lists.normals.now lists.limit lists.sound e h crease);
 }

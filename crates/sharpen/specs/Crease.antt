@@ -1,22 +1,56 @@
--- The rule by which `sharpen_edges` of src/smoothing_tangents.rs lists an edge. H are the halfedges, A the face normals.
-use Rattle.std.specs.Prelude.{ℕ, ◌/◌, List, Bool, ◌&&◌, Float}
-use Rattle.std.specs.Float.Ieee.{lt, neg}
-use Rattle.float.specs.Ops.{lit, one}
+-- The rule for one edge: that of `sharpen_edges` of src/smoothing_tangents.rs, and what request 6 of document 02 adds. H are the halfedges, A the face normals.
+use Rattle.std.specs.Prelude.{ℕ, ◌/◌, List, Bool, true, false, cond, ◌&&◌, ◌||◌, Float}
+use Rattle.std.specs.Float.Ieee.{eq, lt, neg}
+use Rattle.float.specs.Ops.{lit, zero, one}
 use Rattle.float.specs.F64.{max_of, clamp_of}
 use Rattle.math.specs.Acos.{acos_of}
 use Rattle.linalg.specs.Vec.{dot_of}
+use Rattle.linalg.specs.declared.Vec3.{Vec3}
 use Rattle.mesh.specs.Mesh.{paired_halfedge, is_forward, Halfedges}
 use Rattle.mesh.specs.Scalar.{radians_of}
 use Rattle.smoothing.specs.Lists.{point_at}
+use Rattle.sharpen.specs.declared.edge.EdgeKind.{EdgeKind}
+use Rattle.sharpen.specs.declared.edge.EdgeKind.TheVariants.{NoCrease, Crease, SliverCrease}
+use Rattle.sharpen.specs.declared.edge.Rule.{Rule}
+use Rattle.sharpen.specs.declared.edge.Rule.TheVariants.{Ported, Clean}
 
 -- `min_radians`: `radians(min_sharp_angle.max(1e-4))`
 unfoldable pub min_radians : Float → Float
 min_radians angle = radians_of (max_of angle (lit 0x3f1a_36e2_eb1c_432d))
 
--- `dihedral`: the angle between the normals of the two triangles at halfedge e
-unfoldable pub dihedral_of : Halfedges → List Float → ℕ → Float
-dihedral_of H A e = acos_of (clamp_of (dot_of (point_at A (e / 3)) (point_at A (paired_halfedge H e / 3))) (neg one) one)
+-- `dihedral`: the angle between two face normals with the dot product d
+unfoldable pub dihedral_of : Float → Float
+dihedral_of d = acos_of (clamp_of d (neg one) one)
 
--- the rule for one edge, which its forward halfedge e stands for: `dihedral > min_radians`
-unfoldable pub is_crease : Halfedges → List Float → Float → ℕ → Bool
-is_crease H A limit e = is_forward H e && lt limit (dihedral_of H A e)
+-- "an all-zero face normal (either sign of zero)"
+unfoldable pub is_zero : Vec3 → Bool
+is_zero a = eq a.x zero && eq a.y zero && eq a.z zero
+
+-- the face normals of the two triangles at halfedge e: its own, and its pair's
+abbrev pub own_normal : List Float → ℕ → Vec3
+own_normal A e = point_at A (e / 3)
+
+abbrev pub other_normal : Halfedges → List Float → ℕ → Vec3
+other_normal H A e = point_at A (paired_halfedge H e / 3)
+
+-- does the edge of halfedge e touch such a normal?
+abbrev pub touches_zero : Halfedges → List Float → ℕ → Bool
+touches_zero H A e = is_zero (own_normal A e) || is_zero (other_normal H A e)
+
+-- what the edge of halfedge e is: `dihedral > min_radians` makes it a crease, and its forward halfedge stands for it
+unfoldable pub edge_kind : Halfedges → List Float → Float → ℕ → EdgeKind
+edge_kind H A limit e =
+    cond (is_forward H e && lt limit (dihedral_of (dot_of (own_normal A e) (other_normal H A e))))
+    (cond (touches_zero H A e) SliverCrease Crease)
+    NoCrease
+
+-- is an edge of this kind a crease by the rule?
+abbrev pub is_crease : Rule → EdgeKind → Bool
+is_crease rule NoCrease = false
+is_crease rule Crease = true
+is_crease Ported SliverCrease = true
+is_crease Clean SliverCrease = false
+
+-- does the listing by the rule name the edge of halfedge e?
+abbrev pub is_listed : Rule → Halfedges → List Float → Float → ℕ → Bool
+is_listed rule H A limit e = is_crease rule (edge_kind H A limit e)

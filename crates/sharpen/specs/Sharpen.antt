@@ -1,13 +1,15 @@
--- The crease listing as a public call: its questions, its answer, and the lists after it. H are the halfedges, A the face normals, I and Q the two lent lists, n and p the counts.
+-- Both crease listings as public calls: the questions, the answer, and the lists after it. Each definition is handed the rule: `Ported` for `sharpen_edges`, `Clean` for `sharpen_edges_clean`. H are the halfedges, A the face normals, I and Q the two lent lists, n and p the counts.
 use Rattle.std.specs.Prelude.{ℕ, ◌*◌, ◌/◌, ◌≡◌, List, Bool, ◌&&◌, length, Float, Result, Ok, Err}
 use Rattle.common.specs.Count.{count_below}
 use Rattle.mesh.specs.Mesh.{halfedge_stride, Halfedges}
 use Rattle.mesh.specs.Questions.{has_length}
 use Rattle.mesh.specs.Check.{Checked, number_of, place_of, check_mesh, answer_of, when_accepted}
 use Rattle.mesh.specs.declared.Refusal.{Refusal}
-use Rattle.sharpen.specs.Crease.{min_radians, is_crease}
+use Rattle.sharpen.specs.Crease.{min_radians, is_listed}
 use Rattle.sharpen.specs.Entries.{Entries, entries_in, list_edges}
 use Rattle.sharpen.specs.declared.Listed.{Listed}
+use Rattle.sharpen.specs.declared.edge.Rule.{Rule}
+use Rattle.sharpen.specs.declared.edge.Rule.TheVariants.{Clean}
 
 -- ---- document 01's values of an answer
 
@@ -39,29 +41,29 @@ check_lists H A I Q n p = check_mesh H n p (lengths_fit H A I Q n)
 -- ---- the call
 
 -- the lists with the entries of an accepted mesh
-abbrev pub creases : Halfedges → List Float → Float → Float → List ℕ → List Float → ℕ → Entries
-creases H A angle smooth I Q n = list_edges H (is_crease H A (min_radians angle)) smooth (entries_in I Q 0) n
+abbrev pub creases : Rule → Halfedges → List Float → Float → Float → List ℕ → List Float → ℕ → Entries
+creases rule H A angle smooth I Q n = list_edges H (is_listed rule H A (min_radians angle)) smooth (entries_in I Q 0) n
 
--- the crease tally: the number of edges that are listed
+-- the crease tally of either call: the number of edges that the clean listing names
 abbrev pub crease_tally : Halfedges → List Float → Float → ℕ → ℕ
-crease_tally H A angle n = count_below (is_crease H A (min_radians angle)) n
+crease_tally H A angle n = count_below (is_listed Clean H A (min_radians angle)) n
 
--- so many entries, and their tally
+-- so many entries, and the tally
 abbrev pub listed_of : ℕ → ℕ → Listed
 listed_of entries tally = record { entries = entries; tally = tally }
 
--- the answer of `sharpen_edges`
-abbrev pub sharpen_edges : Halfedges → List Float → Float → Float → List ℕ → List Float → ℕ → ℕ → Listing
-sharpen_edges H A angle smooth I Q n p = answer_of (check_lists H A I Q n p) (listed_of (creases H A angle smooth I Q n).count (crease_tally H A angle n))
+-- the answer
+abbrev pub sharpen_edges : Rule → Halfedges → List Float → Float → Float → List ℕ → List Float → ℕ → ℕ → Listing
+sharpen_edges rule H A angle smooth I Q n p = answer_of (check_lists H A I Q n p) (listed_of (creases rule H A angle smooth I Q n).count (crease_tally H A angle n))
 
 -- the lists after it: as lent where it refuses
-abbrev pub entries_after : Halfedges → List Float → Float → Float → List ℕ → List Float → ℕ → ℕ → Entries
-entries_after H A angle smooth I Q n p = when_accepted (check_lists H A I Q n p) (creases H A angle smooth I Q n) (entries_in I Q 0)
+abbrev pub entries_after : Rule → Halfedges → List Float → Float → Float → List ℕ → List Float → ℕ → ℕ → Entries
+entries_after rule H A angle smooth I Q n p = when_accepted (check_lists H A I Q n p) (creases rule H A angle smooth I Q n) (entries_in I Q 0)
 
--- what the definitions give of an answer `r`, after the answer `checked` of the questions, where `listed` are the entries of the listing and `edges` is its tally: number, place, entries and tally; and that the tally is half of the entries
-pub record Values (checked : Checked) (listed : Entries) (edges : ℕ) (r : Listing) : Type 0 where
-  pub number : number_of r ≡ number_of checked
-  pub place : place_of r ≡ place_of checked
-  pub entries : entries_of r ≡ when_accepted checked listed.count 0
-  pub tally : tally_of r ≡ when_accepted checked edges 0
-  pub half : entries_of r ≡ 2 * tally_of r
+-- what the definitions give of the answer `r`: number, place, entries and tally; and that the tally is half of the clean listing's entries on the same lists
+pub record Values (rule : Rule) (H : Halfedges) (A : List Float) (angle smooth : Float) (I : List ℕ) (Q : List Float) (n p : ℕ) (r : Listing) : Type 0 where
+  pub number : number_of r ≡ number_of (check_lists H A I Q n p)
+  pub place : place_of r ≡ place_of (check_lists H A I Q n p)
+  pub entries : entries_of r ≡ (entries_after rule H A angle smooth I Q n p).count
+  pub tally : tally_of r ≡ when_accepted (check_lists H A I Q n p) (crease_tally H A angle n) 0
+  pub half : (entries_after Clean H A angle smooth I Q n p).count ≡ 2 * tally_of r

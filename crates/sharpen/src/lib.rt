@@ -1,23 +1,27 @@
-// The crease listing: `sharpen_edges` of src/smoothing_tangents.rs, over lent lists. `is_crease` is the rule for one edge;
-// what lists an edge stands apart from it.
+// The crease listings: `sharpen_edges` of src/smoothing_tangents.rs over lent lists, and the clean one of document 02's request 6.
+// `edge` has the rule for one edge; what lists an edge stands apart from it.
 // Each function asks for its own place (`e < n`, room for two entries more): the place differs from call to call, so no struct of
 // the lists can hold it. The two lists that are written stay parameters, with the number of their entries: the C interface lends
 // them flat, and of a struct that lends them a clause would say `entries.new.halfedges.now` for `halfedges.new`.
 #![tactic(auto)]
 
-ghost use Rattle.std.specs.Prelude.{◌≡◌, ◌+◌, ◌≤◌, ◌<◌, length};
+ghost use Rattle.std.specs.Prelude.{◌≡◌, ◌+◌, ◌≤◌, ◌<◌, length, cond};
+ghost use Rattle.common.specs.Count.{count_below};
 ghost use Rattle.mesh.specs.Mesh.{as_halfedges};
-ghost use Rattle.sharpen.specs.Crease.{min_radians, dihedral_of};
+ghost use Rattle.sharpen.specs.declared.edge.Rule.TheVariants.{Ported, Clean};
 ghost use Rattle.sharpen.specs.Entries.{entries_in, push_edge, list_edge, list_edges};
-ghost use Rattle.sharpen.specs.Rule.{is_listed, EdgeFits};
-ghost use Rattle.sharpen.specs.Sharpen.{lengths_fit, check_lists, Values, entries_of, tally_of, creases, crease_tally, sharpen_edges, entries_after};
+ghost use Rattle.sharpen.specs.Turn.{listed_by, EdgeFits};
+ghost use Rattle.sharpen.specs.Sharpen.{entries_of, tally_of, lengths_fit, sharpen_edges, entries_after, Values};
+ghost use Rattle.sharpen.specs.Edges.{HoldEdges, edges_after};
 
-mod crease_rule;
+mod crease_lists;
+mod edge;
 
-use crease_rule::CreaseRule;
+use crease_lists::CreaseLists;
+use edge::{Rule, edge_kind, is_crease, min_radians};
 use mesh::Refusal;
 
-// The entries of the lists, and the edges that they name.
+// How many entries the lists have, and the crease tally: how many edges the clean listing names.
 #[derive(Clone, Copy)]
 pub struct Listed {
     pub entries: usize,
@@ -32,96 +36,71 @@ pub fn entries_of(listing: Result<Listed, Refusal>) -> usize
     listing.map_or(0, |listed| listed.entries)
 }
 
-// How many edges they name; 0 where the call is refused.
+// The tally; 0 where the call is refused.
 pub fn tally_of(listing: Result<Listed, Refusal>) -> usize
     ensures { result ≡ tally_of listing }
 {
     listing.map_or(0, |listed| listed.tally)
 }
 
-// The limit of the rule; a limit that is not a number acts as 1e-4.
-#[tactic(auto, unfolding(crate::specs::Crease::min_radians))]
-fn min_radians(angle: f64) -> f64
-    ensures { result ≡ min_radians angle }
-{
-    mesh::radians(float::max(angle, 1e-4))
-}
-
-// The angle between the normals of the two triangles at halfedge e.
-#[tactic(auto, unfolding(crate::specs::Crease::dihedral_of))]
-fn dihedral(rule: &CreaseRule<'_>, e: usize) -> f64
-    requires { e < rule.now.n }
-    ensures { result ≡ dihedral_of (as_halfedges rule.now.h.now) rule.now.normals.now e }
-{
-    let pair = mesh::paired_halfedge(rule.h, e);
-    let d = linalg::dot(
-        smoothing::point_at(rule.normals, e / 3),
-        smoothing::point_at(rule.normals, pair / 3),
-    );
-    math::acos(float::clamp(d, -1.0, 1.0))
-}
-
-// Is the edge of halfedge e listed, with e before its pair? Of its two halfedges the forward one says so.
-#[tactic(auto, unfolding(crate::specs::Crease::is_crease))]
-fn is_crease(rule: &CreaseRule<'_>, e: usize) -> bool
-    requires { e < rule.now.n }
-    ensures { result ≡ is_listed rule.now e }
-{
-    if !mesh::is_forward(rule.h, e) {
-        return false;
-    }
-    dihedral(rule, e) > rule.limit
-}
-
 // Entries for halfedge e and its pair at the next two places; the number of entries then.
 #[tactic(auto, unfolding(crate::specs::Entries::push_edge, crate::specs::Entries::push_entry))]
 fn push_edge(
-    rule: &CreaseRule<'_>,
+    lists: &CreaseLists<'_>,
     e: usize,
     entries: usize,
     halfedges: &mut [usize],
     smoothness: &mut [f64],
 ) -> usize
-    requires { (e < rule.now.n) × (entries + 2 ≤ length halfedges.old) × (entries + 2 ≤ length smoothness.old) }
-    ensures { entries_in halfedges.new smoothness.new result ≡ push_edge (as_halfedges rule.now.h.now) rule.now.smooth (entries_in halfedges.old smoothness.old entries) e }
+    requires { (e < lists.now.n) × (entries + 2 ≤ length halfedges.old) × (entries + 2 ≤ length smoothness.old) }
+    ensures { entries_in halfedges.new smoothness.new result ≡ push_edge (as_halfedges lists.now.h.now) lists.now.smooth (entries_in halfedges.old smoothness.old entries) e }
 {
-    let pair = mesh::paired_halfedge(rule.h, e);
+    let pair = mesh::paired_halfedge(lists.h, e);
     halfedges[entries] = e;
-    smoothness[entries] = rule.smooth;
+    smoothness[entries] = lists.smooth;
     halfedges[entries + 1] = pair;
-    smoothness[entries + 1] = rule.smooth;
+    smoothness[entries + 1] = lists.smooth;
     entries + 2
 }
 
-// One turn of the loop: halfedge e, after so many entries.
+// One turn of the loop: halfedge e, after what was listed before it.
 #[tactic(auto, unfolding(crate::specs::Entries::list_edge))]
 fn list_edge(
-    rule: &CreaseRule<'_>,
+    lists: &CreaseLists<'_>,
     e: usize,
-    entries: usize,
+    listed: Listed,
     halfedges: &mut [usize],
     smoothness: &mut [f64],
-) -> usize
-    requires { EdgeFits rule.now e entries halfedges.old smoothness.old }
-    ensures { entries_in halfedges.new smoothness.new result ≡ list_edge (as_halfedges rule.now.h.now) (is_listed rule.now) rule.now.smooth (entries_in halfedges.old smoothness.old entries) e }
+) -> Listed
+    requires fits { EdgeFits lists.now e listed.entries halfedges.old smoothness.old }
+    requires below { listed.tally < lists.now.n }
+    ensures entries { entries_in halfedges.new smoothness.new result.entries ≡ list_edge (as_halfedges lists.now.h.now) (listed_by lists.now.rule lists.now) lists.now.smooth (entries_in halfedges.old smoothness.old listed.entries) e }
+    ensures tally { result.tally ≡ listed.tally + cond (listed_by Clean lists.now e) 1 0 }
 {
-    if !is_crease(rule, e) {
-        return entries;
+    let kind = edge_kind(lists, e);
+    if !is_crease(lists.rule, kind) {
+        return listed;
     }
-    push_edge(rule, e, entries, halfedges, smoothness)
+    let tally = listed.tally + usize::from(is_crease(Rule::Clean, kind));
+    let entries = push_edge(lists, e, listed.entries, halfedges, smoothness);
+    Listed { entries, tally }
 }
 
-// The loop over the halfedges; the number of entries.
-#[tactic(auto, using(common::proofs::Fold::fold_none, common::proofs::Fold::fold_turn))]
-fn list_edges(rule: &CreaseRule<'_>, halfedges: &mut [usize], smoothness: &mut [f64]) -> usize
-    requires { (length halfedges.old ≡ rule.now.n) × (length smoothness.old ≡ rule.now.n) }
-    ensures { entries_in halfedges.new smoothness.new result ≡ list_edges (as_halfedges rule.now.h.now) (is_listed rule.now) rule.now.smooth (entries_in halfedges.old smoothness.old 0) rule.now.n }
+// The loop over the halfedges; what it lists.
+#[tactic(auto, using(common::proofs::Fold::fold_none, common::proofs::Fold::fold_turn, common::proofs::Count::count_start, common::proofs::Sums::sum_turn), unfolding(common::specs::Count::count_below))]
+fn list_edges(lists: &CreaseLists<'_>, halfedges: &mut [usize], smoothness: &mut [f64]) -> Listed
+    requires { (length halfedges.old ≡ lists.now.n) × (length smoothness.old ≡ lists.now.n) }
+    ensures entries { entries_in halfedges.new smoothness.new result.entries ≡ list_edges (as_halfedges lists.now.h.now) (listed_by lists.now.rule lists.now) lists.now.smooth (entries_in halfedges.old smoothness.old 0) lists.now.n }
+    ensures tally { result.tally ≡ count_below (listed_by Clean lists.now) lists.now.n }
 {
-    let mut entries: usize = 0;
-    for e in 0..rule.n {
-        entries = list_edge(rule, e, entries, halfedges, smoothness);
+    let mut listed = Listed {
+        entries: 0,
+        tally: 0,
+    };
+    for e in 0..lists.n {
+        listed = list_edge(lists, e, listed, halfedges, smoothness);
     }
-    entries
+    listed
 }
 
 // Question 2 of the lists that the call is lent.
@@ -140,12 +119,49 @@ fn lengths_fit(
         & (mesh::has_length(halfedges.len(), n, 1) & mesh::has_length(smoothness.len(), n, 1))
 }
 
+// The listing by a rule: what both calls do.
+#[tactic(auto, using(crate::proofs::Room::lists_checked, crate::proofs::Values::values_of, crate::proofs::Values::parts_of))]
+fn sharpen_by(
+    rule: Rule,
+    n: usize,
+    p: usize,
+    h: &[i32],
+    normals: &[f64],
+    angle: f64,
+    smooth: f64,
+    halfedges: &mut [usize],
+    smoothness: &mut [f64],
+) -> Result<Listed, Refusal>
+    ensures answer { result ≡ sharpen_edges rule (as_halfedges h.now) normals.now angle smooth halfedges.old smoothness.old n p }
+    ensures listed { halfedges.new ≡ (entries_after rule (as_halfedges h.now) normals.now angle smooth halfedges.old smoothness.old n p).halfedges }
+    ensures copied { smoothness.new ≡ (entries_after rule (as_halfedges h.now) normals.now angle smooth halfedges.old smoothness.old n p).smoothness }
+    ensures values { Values rule (as_halfedges h.now) normals.now angle smooth halfedges.old smoothness.old n p result }
+    ensures edges { HoldEdges (as_halfedges h.now) smooth halfedges.old smoothness.old (edges_after rule (as_halfedges h.now) normals.now angle halfedges.old smoothness.old n p) (entries_in halfedges.new smoothness.new (entries_of result)) }
+    ensures counted { tally_of result ≡ length (edges_after Clean (as_halfedges h.now) normals.now angle halfedges.old smoothness.old n p) }
+{
+    let checked = mesh::check_mesh(h, n, p, lengths_fit(n, h, normals, halfedges, smoothness));
+    // Document 01's form by place: the check's answer is opened by `let .. else`.
+    let Ok(()) = checked else {
+        return mesh::refused(checked);
+    };
+    let limit = min_radians(angle);
+    let lists = CreaseLists {
+        n,
+        p,
+        h,
+        normals,
+        limit,
+        smooth,
+        rule,
+    };
+    Ok(list_edges(&lists, halfedges, smoothness))
+}
+
 // The edges at which the two triangles' normals make an angle above `angle` (the Rust's `min_sharp_angle`, in degrees):
 // each with its forward halfedge first, both with the smoothness `smooth` (the Rust's `min_smoothness`, copied
 // unchecked). `normals` has three numbers for each triangle; `halfedges` and `smoothness` take the entries, and have a
 // place for each halfedge.
 // The signature stays flat, as the C interface lends: counts, lists read, lists written, scratch.
-#[tactic(auto, using(crate::proofs::Room::lists_checked, crate::proofs::Values::values_of, crate::proofs::Values::parts_of))]
 pub fn sharpen_edges(
     n: usize,
     p: usize,
@@ -156,28 +172,53 @@ pub fn sharpen_edges(
     halfedges: &mut [usize],
     smoothness: &mut [f64],
 ) -> Result<Listed, Refusal>
-    ensures answer { result ≡ sharpen_edges (as_halfedges h.now) normals.now angle smooth halfedges.old smoothness.old n p }
-    ensures listed { halfedges.new ≡ (entries_after (as_halfedges h.now) normals.now angle smooth halfedges.old smoothness.old n p).halfedges }
-    ensures copied { smoothness.new ≡ (entries_after (as_halfedges h.now) normals.now angle smooth halfedges.old smoothness.old n p).smoothness }
-    ensures values { Values (check_lists (as_halfedges h.now) normals.now halfedges.old smoothness.old n p) (creases (as_halfedges h.now) normals.now angle smooth halfedges.old smoothness.old n) (crease_tally (as_halfedges h.now) normals.now angle n) result }
+    ensures answer { result ≡ sharpen_edges Ported (as_halfedges h.now) normals.now angle smooth halfedges.old smoothness.old n p }
+    ensures listed { halfedges.new ≡ (entries_after Ported (as_halfedges h.now) normals.now angle smooth halfedges.old smoothness.old n p).halfedges }
+    ensures copied { smoothness.new ≡ (entries_after Ported (as_halfedges h.now) normals.now angle smooth halfedges.old smoothness.old n p).smoothness }
+    ensures values { Values Ported (as_halfedges h.now) normals.now angle smooth halfedges.old smoothness.old n p result }
+    ensures edges { HoldEdges (as_halfedges h.now) smooth halfedges.old smoothness.old (edges_after Ported (as_halfedges h.now) normals.now angle halfedges.old smoothness.old n p) (entries_in halfedges.new smoothness.new (entries_of result)) }
+    ensures counted { tally_of result ≡ length (edges_after Clean (as_halfedges h.now) normals.now angle halfedges.old smoothness.old n p) }
 {
-    let checked = mesh::check_mesh(h, n, p, lengths_fit(n, h, normals, halfedges, smoothness));
-    // Document 01's form by place: the check's answer is opened by `let .. else`.
-    let Ok(()) = checked else {
-        return mesh::refused(checked);
-    };
-    let limit = min_radians(angle);
-    let rule = CreaseRule {
+    sharpen_by(
+        Rule::Ported,
         n,
         p,
         h,
         normals,
-        limit,
+        angle,
         smooth,
-    };
-    let entries = list_edges(&rule, halfedges, smoothness);
-    Ok(Listed {
-        entries,
-        tally: entries / 2,
-    })
+        halfedges,
+        smoothness,
+    )
+}
+
+// The clean listing: the same but for the edges that touch a face normal whose three numbers are all zero, which it omits.
+pub fn sharpen_edges_clean(
+    n: usize,
+    p: usize,
+    h: &[i32],
+    normals: &[f64],
+    angle: f64,
+    smooth: f64,
+    halfedges: &mut [usize],
+    smoothness: &mut [f64],
+) -> Result<Listed, Refusal>
+    ensures answer { result ≡ sharpen_edges Clean (as_halfedges h.now) normals.now angle smooth halfedges.old smoothness.old n p }
+    ensures listed { halfedges.new ≡ (entries_after Clean (as_halfedges h.now) normals.now angle smooth halfedges.old smoothness.old n p).halfedges }
+    ensures copied { smoothness.new ≡ (entries_after Clean (as_halfedges h.now) normals.now angle smooth halfedges.old smoothness.old n p).smoothness }
+    ensures values { Values Clean (as_halfedges h.now) normals.now angle smooth halfedges.old smoothness.old n p result }
+    ensures edges { HoldEdges (as_halfedges h.now) smooth halfedges.old smoothness.old (edges_after Clean (as_halfedges h.now) normals.now angle halfedges.old smoothness.old n p) (entries_in halfedges.new smoothness.new (entries_of result)) }
+    ensures counted { tally_of result ≡ length (edges_after Clean (as_halfedges h.now) normals.now angle halfedges.old smoothness.old n p) }
+{
+    sharpen_by(
+        Rule::Clean,
+        n,
+        p,
+        h,
+        normals,
+        angle,
+        smooth,
+        halfedges,
+        smoothness,
+    )
 }

@@ -18,7 +18,7 @@ put_checked answer r = put answer (number_of r) (place_of r) 0 0
 abbrev pub put_validity : List ℕ → Validity → List ℕ
 put_validity answer r = put answer (number_of r) (place_of r) (value_of r) 0
 
--- the crease listing: the number of entries, and the tally
+-- a crease listing: the number of entries, and the tally
 abbrev pub put_listing : List ℕ → Listing → List ℕ
 put_listing answer r = put answer (number_of r) (place_of r) (entries_of r) (tally_of r)
 

@@ -7,6 +7,7 @@ ghost use Rattle.std.specs.Prelude.{◌≡◌, not, set, replicate, eqb};
 ghost use Rattle.float.specs.Ops.{zero};
 ghost use Rattle.linearize.specs.Linearize.{linearize_answer, tangents_after};
 ghost use Rattle.validate.specs.Validate.{valid_answer};
+ghost use Rattle.sharpen.specs.declared.edge.Rule.TheVariants.{Ported, Clean};
 ghost use Rattle.sharpen.specs.Sharpen.{sharpen_edges, entries_after};
 ghost use Rattle.distribute.specs.Distribute.{distribute_tangents, scratch_after, check_lists};
 ghost use Rattle.distribute.specs.Distribute.{tangents_after as spread_after};
@@ -68,7 +69,7 @@ fn put_validity(answer: &mut [usize], valid: Result<bool, Refusal>)
     put_answer(answer, valid, validate::value_of(valid), 0);
 }
 
-// The crease listing: the number of entries, and the tally.
+// A crease listing: the number of entries, and the tally.
 fn put_listing(answer: &mut [usize], listing: Result<Listed, Refusal>)
     ensures { answer.new ≡ put_listing answer.old listing }
 {
@@ -149,11 +150,34 @@ pub extern "C" fn tangents_sharpen_edges(
     smoothness: &mut [f64],
     answer: &mut [usize],
 )
-    ensures halfedges_after { halfedges.new ≡ (entries_after (as_halfedges h.now) normals.now angle smooth halfedges.old smoothness.old n p).halfedges }
-    ensures smoothness_after { smoothness.new ≡ (entries_after (as_halfedges h.now) normals.now angle smooth halfedges.old smoothness.old n p).smoothness }
-    ensures answer_after { answer.new ≡ put_listing answer.old (sharpen_edges (as_halfedges h.now) normals.now angle smooth halfedges.old smoothness.old n p) }
+    ensures halfedges_after { halfedges.new ≡ (entries_after Ported (as_halfedges h.now) normals.now angle smooth halfedges.old smoothness.old n p).halfedges }
+    ensures smoothness_after { smoothness.new ≡ (entries_after Ported (as_halfedges h.now) normals.now angle smooth halfedges.old smoothness.old n p).smoothness }
+    ensures answer_after { answer.new ≡ put_listing answer.old (sharpen_edges Ported (as_halfedges h.now) normals.now angle smooth halfedges.old smoothness.old n p) }
 {
     let listing = sharpen::sharpen_edges(n, p, h, normals, angle, smooth, halfedges, smoothness);
+    put_listing(answer, listing);
+}
+
+// The clean crease listing.
+#[unsafe(no_mangle)]
+pub extern "C" fn tangents_sharpen_edges_clean(
+    n: usize,
+    p: usize,
+    h: &[i32],
+    normals: &[f64],
+    angle: f64,
+    smooth: f64,
+    halfedges: &mut [usize],
+    smoothness: &mut [f64],
+    answer: &mut [usize],
+)
+    ensures halfedges_after { halfedges.new ≡ (entries_after Clean (as_halfedges h.now) normals.now angle smooth halfedges.old smoothness.old n p).halfedges }
+    ensures smoothness_after { smoothness.new ≡ (entries_after Clean (as_halfedges h.now) normals.now angle smooth halfedges.old smoothness.old n p).smoothness }
+    ensures answer_after { answer.new ≡ put_listing answer.old (sharpen_edges Clean (as_halfedges h.now) normals.now angle smooth halfedges.old smoothness.old n p) }
+{
+    let listing = sharpen::sharpen_edges_clean(
+        n, p, h, normals, angle, smooth, halfedges, smoothness,
+    );
     put_listing(answer, listing);
 }
 

@@ -6,7 +6,8 @@
 //! joined, with points of uneven valence, quads, creases, missing and strange normals. Each has at most so many halfedges. A run takes the least of so many
 //! repeats, of the Rust and then of the unit; the table has the least of all runs, and of the runs' ratios the least, the median and the greatest.
 //! `normals` has a row for each halfedge; `rows`, on the torus only, one for the halfedges that share a normal. `preview` has the mesh of `spread`, and the
-//! Rust has no such call: it is timed beside the unit's own spreading, whose time stands in the Rust's column as `spread`.
+//! Rust has no such call: it is timed beside the unit's own spreading, whose time stands in the Rust's column as `spread`. `clean` has the mesh of `crease`,
+//! and the Rust lacks it too: its column has the time of the Rust's listing, as `crease`.
 //! `stl` and `apart`, on the torus only, read an STL file: of that torus, and of triangles that share no corner, which is refused at the last question. The Rust
 //! has no such call: its column has, as `maps`, a plain reader over two hash maps.
 //! The unit asks its questions in every call; the Rust asks none.
@@ -37,6 +38,7 @@ fn unit(c: &Block, op: &str, repeats: usize) -> f64 {
             "straighten" => linearize_flat_tangents(n, p, &h, &pos, &mut t).expect("accepted"),
             "check" => drop(std::hint::black_box(valid_tangents(n, p, &h, &pos, &t).expect("accepted"))),
             "crease" => drop(sharpen_edges(n, p, &h, &fnm, 60.0, 0.0, &mut list, &mut smooth).expect("accepted")),
+            "clean" => drop(sharpen_edges_clean(n, p, &h, &fnm, 60.0, 0.0, &mut list, &mut smooth).expect("accepted")),
             "spread" => drop(distribute_tangents(n, p, &h, &pos, &vn, &flags, &mut t, &mut current, &mut desired).expect("accepted")),
             "preview" => drop(preview_tangents(n, p, &h, &pos, &vn, &flags, &t, &mut bytes).expect("accepted")),
             "sharp" => {
@@ -172,7 +174,7 @@ fn mesh_times(oracle: &str, kind: &str, text: &str, repeats: usize, runs: usize)
         "preview" => unit(case, "spread", repeats),
         _ => rust(&run(oracle, &["bench", file.to_str().unwrap(), &repeats.to_string()])),
     };
-    let op = if kind == "preview" { kind } else { case.op() };
+    let op = if matches!(kind, "preview" | "clean") { kind } else { case.op() };
     let times = (0..runs).map(|_| (beside(), unit(case, op, repeats))).collect();
     let _ = std::fs::remove_file(&file);
     (case.counts().0, times)
@@ -181,10 +183,10 @@ fn mesh_times(oracle: &str, kind: &str, text: &str, repeats: usize, runs: usize)
 fn main() {
     let args: Vec<String> = std::env::args().skip(1).collect();
     assert!(args.len() >= 5, "bench ORACLE MESH HALFEDGES REPEATS RUNS [KIND..]");
-    let all = ["straighten", "check", "crease", "spread", "preview", "sharp", "normals", "rows", "stl", "apart"].map(String::from);
+    let all = ["straighten", "check", "crease", "clean", "spread", "preview", "sharp", "normals", "rows", "stl", "apart"].map(String::from);
     let (job, all) = match args[1].as_str() {
         "torus" => ("big", &all[..]),
-        "mixed" => ("mixed", &all[..7]),
+        "mixed" => ("mixed", &all[..8]),
         mesh => panic!("no mesh {mesh}"),
     };
     let (repeats, runs): (usize, usize) = (args[3].parse().expect("repeats"), args[4].parse().expect("runs"));
@@ -194,6 +196,7 @@ fn main() {
     for kind in kinds {
         let (of, mesh) = match kind.as_str() {
             "preview" => ("spread ", "spread"),
+            "clean" => ("crease ", "crease"),
             "stl" | "apart" => ("maps ", kind.as_str()),
             _ => ("", kind.as_str()),
         };

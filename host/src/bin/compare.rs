@@ -6,7 +6,9 @@
 //! KIND is a call, for random accepted cases of it, or `any`, for those of any call of document 01; or it is `refuse`, for damaged cases of these calls.
 //! `rows` and `refuse-rows` are making from normals with a row list; in `normals` each halfedge has a row of its own. `preview` and `refuse-preview` are
 //! the preview of spreading, which is also held against the unit's own spreading of copies. `count` is both makings with the count of edges without
-//! direction, which the other kinds do not compare. `stl` and `refuse-stl` are the reading of binary STL files.
+//! direction, which the other kinds do not compare. `stl` and `refuse-stl` are the reading of binary STL files. `clean` is the clean crease listing and
+//! `crease2` the ported one, many of their face normals zero or nearly; `refuse-clean` is both. Of `crease` the tally is not compared, as the oracle counts
+//! the edges of the Rust's listing.
 //! The status is 0 after a whole run in which nothing differs, 1 after one in which something does, and another where the run ends early.
 
 use std::collections::BTreeMap;
@@ -17,9 +19,9 @@ use std::process::{Child, ChildStdin, Command, ExitCode, ExitStatus, Stdio};
 use std::sync::mpsc::{sync_channel, Receiver, SyncSender};
 use tangents_host::case::{answer, blocks, Block};
 
-const KINDS: [&str; 15] = [
-    "straighten", "spread", "preview", "check", "crease", "sharp", "normals", "rows", "count", "stl", "any", "refuse", "refuse-rows", "refuse-preview",
-    "refuse-stl",
+const KINDS: [&str; 18] = [
+    "straighten", "spread", "preview", "check", "crease", "clean", "crease2", "sharp", "normals", "rows", "count", "stl", "any", "refuse", "refuse-rows",
+    "refuse-preview", "refuse-stl", "refuse-clean",
 ];
 
 /// The most cases that wait for their answers. The oracle writes answers some KB at a time, hundreds of the shortest: with room for fewer

@@ -4,10 +4,10 @@ use std::error::Error;
 use std::ffi::OsString;
 use std::io::{self, BufWriter, Write};
 use std::process::ExitCode;
-use tangents_host::solid::{Creases, Solid};
+use tangents_host::solid::{Creases, Rule, Solid};
 use tangents_host::Made;
 
-const USAGE: &str = "stl FILE [ANGLE] [--tangents]";
+const USAGE: &str = "stl FILE [ANGLE] [--clean] [--tangents]";
 
 const HELP: &str = "
 Reads a binary STL file, takes it as a mesh, lists its creases and makes its tangents from these as sharp
@@ -16,9 +16,15 @@ edge to be a crease: 30 if it is left out. Each crease is sharp altogether (smoo
 
 It prints the counts of triangles, points and halfedges; how many normals are the stored ones, and how
 many are worked out from the corners, as the stored ones are zero, not finite or not of length 1; how many
-faces there are, a face being triangles that share edges and lie in one plane; how many edges are creases,
-and the entries of the listing, two for each; and how many tangents were computed on an edge without
-direction.
+faces there are, a face being triangles that share edges and lie in one plane; how many edges are creases
+that no sliver touches, and the entries of the listing, two for each edge that is listed; how many edges
+are listed only for a sliver; and how many tangents were computed on an edge without direction.
+
+A sliver is a triangle whose normal is zero: its corners lie on one line, and no normal of length 1 is
+stored for it. With an ANGLE below 90 its edges are listed as creases, also within a flat face.
+
+--clean lists no edge that touches a sliver, and makes the tangents from the others. Where a sliver lies
+along a true crease, that edge is left out too.
 
 --tangents prints the tangents below, as document 01's program does: the line `tangents` with the count
 of halfedges, and for each halfedge its number and the bits of x, y, z and the weight in 16 hex digits.
@@ -31,6 +37,7 @@ status 2 that the arguments are wrong.
 struct Arguments {
     file: OsString,
     angle: f64,
+    rule: Rule,
     tangents: bool,
 }
 
@@ -40,8 +47,10 @@ fn arguments(words: impl Iterator<Item = OsString>) -> Option<Arguments> {
     let mut others = others.into_iter();
     let (file, angle) = (others.next()?, others.next());
     let angle = angle.map_or(Some(30.0), |word| word.to_str()?.parse().ok()).filter(|angle: &f64| angle.is_finite())?;
-    let known = others.next().is_none() && options.iter().all(|option| option == "--tangents");
-    known.then_some(Arguments { file, angle, tangents: !options.is_empty() })
+    let has = |name: &str| options.iter().any(|option| option == name);
+    let known = others.next().is_none() && options.iter().all(|option| option == "--clean" || option == "--tangents");
+    let rule = if has("--clean") { Rule::Clean } else { Rule::Ported };
+    known.then_some(Arguments { file, angle, rule, tangents: has("--tangents") })
 }
 
 fn write_counts(out: &mut impl Write, solid: &Solid, creases: &Creases, made: Made) -> io::Result<()> {
@@ -52,6 +61,7 @@ fn write_counts(out: &mut impl Write, solid: &Solid, creases: &Creases, made: Ma
     writeln!(out, "normals {} stored, {} from the corners", triangles - solid.replaced, solid.replaced)?;
     writeln!(out, "faces {}", solid.faces)?;
     writeln!(out, "creases {} edges, {} entries", creases.listed.tally, creases.listed.entries)?;
+    writeln!(out, "edges listed only for a sliver {}", creases.by_slivers())?;
     writeln!(out, "edges without direction {}", made.directionless)
 }
 
@@ -70,7 +80,7 @@ fn write_tangents(out: &mut impl Write, tangents: &[f64]) -> io::Result<()> {
 
 fn run(arguments: &Arguments) -> Result<(), Box<dyn Error>> {
     let solid = Solid::read(&arguments.file)?;
-    let creases = solid.creases(arguments.angle)?;
+    let creases = solid.creases(arguments.angle, arguments.rule)?;
     let (tangents, made) = solid.tangents(&creases)?;
     let mut out = BufWriter::new(io::stdout().lock());
     write_counts(&mut out, &solid, &creases, made)?;

@@ -1,0 +1,15 @@
+// Replays the oracle's answers to both crease listings, read from standard input, and writes how many were compared and how many
+// differ. README.md beside src/ says what a case holds and how the file was made.
+#![tactic(auto)]
+
+use replay_cases::{Case, ROOM};
+use replay_mesh_calls::crease;
+
+fn main(rt: HostRuntime) {
+    let mut input = rt.stdin();
+    let mut buf = [0u8; ROOM];
+    replay::replay_all(&rt, |tally| {
+        let case = Case::read(&mut input, &mut buf)?;
+        Some(tally.counted(crease(case)))
+    });
+}
