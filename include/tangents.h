@@ -5,9 +5,10 @@
  * (4 n); making from normals alone reads the row, in other calls it may be any number. pos has three numbers for each point
  * (3 p), t the tangents (4 n: x, y, z and the weight).
  *
- * Every call answers through `answer`, four numbers: the number of the first question of documents 01 and 02 that the mesh, or
- * the file, does not meet (0 if it is accepted), its lowest place, and the two numbers of an accepted call, 0 where nothing is
- * said of them below. A refused call has 0 for both, and writes nothing else. A shorter list gets as many as it holds. */
+ * Every call answers through `answer`, four numbers: the number of the first question of documents 01 and 02 that the mesh, the
+ * file, or what is lent for a curve does not meet (0 if it is accepted), its lowest place, and the two numbers of an accepted
+ * call, 0 where nothing is said of them below. A refused call has 0 for both, and writes nothing else. A shorter list gets as
+ * many as it holds. */
 #ifndef TANGENTS_H
 #define TANGENTS_H
 
@@ -85,6 +86,19 @@ void tangents_create_tangents_from_normals(size_t n, size_t p, const int32_t *h,
  * another, and 32 with the lowest halfedge whose directed edge occurs twice or has no reverse. Takes some 860 KB of the stack. */
 void tangents_read_stl(const uint8_t *file, size_t file_len, double *points, size_t points_len, int32_t *halfedges,
                        size_t halfedges_len, double *normals, size_t normals_len, size_t *answer, size_t answer_len);
+
+/* A point of the curve of an edge. controls has four control points, four numbers each (16): x, y and z already times the weight,
+ * and the weight; x is the parameter, 0 to 1. Writes point, six numbers: the position, and the direction there, of length 1, or
+ * zero where the curve has none. Refused with 2 for another length of controls or point, and with 40 for a parameter that is not
+ * a number, below 0 or above 1; the place is 0. */
+void tangents_curve_at(const double *controls, size_t controls_len, double x, double *point, size_t point_len, size_t *answer,
+                       size_t answer_len);
+
+/* Points along the curve: controls as above. Writes points, three numbers for each of 2 to 256: point i at the parameter
+ * i / (count - 1). Refused with 2 for another length of controls, with 41 for the count, and with 42 for points of other than
+ * 3 count numbers; the place is 0. */
+void tangents_curve_points(const double *controls, size_t controls_len, size_t count, double *points, size_t points_len,
+                           size_t *answer, size_t answer_len);
 
 #ifdef __cplusplus
 }

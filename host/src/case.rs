@@ -1,12 +1,12 @@
 //! The oracle's text format: cases, answers, and the unit's answer to a case, written as the oracle writes it.
 
-use crate::{create_tangents, create_tangents_from_normals, distribute_tangents, linearize_flat_tangents, preview_tangents, read_stl};
-use crate::{sharpen_edges, sharpen_edges_clean, valid_tangents, Counts, CreateScratch, Made, NormalsScratch, Refused};
+use crate::{create_tangents, create_tangents_from_normals, curve_at, curve_points, distribute_tangents, linearize_flat_tangents, preview_tangents};
+use crate::{read_stl, sharpen_edges, sharpen_edges_clean, valid_tangents, Control, Counts, CreateScratch, Made, NormalsScratch, Refused};
 use std::fmt::{Display, Write as _};
 use std::hint::black_box;
 use std::io::BufRead;
 
-/// A case, or an answer: its text, from the line `case` or `result` to the line `end`.
+/// A case, or an answer: its text, from the line `case` or `result` to the line `end`. Or a leaf call, or the answer to one: a line outside these.
 pub struct Block {
     text: String,
 }
@@ -16,10 +16,19 @@ impl Block {
         &self.text
     }
 
-    /// Operation and number, as in `spread 12`.
+    fn is_line(&self) -> bool {
+        !has_lines(&self.text)
+    }
+
+    /// Operation and number, as in `spread 12`; for a line, all of it.
     pub fn name(&self) -> &str {
         let first = self.text.lines().next().unwrap_or("");
-        first.split_once(' ').map_or("", |(_, name)| name)
+        if self.is_line() { first } else { first.split_once(' ').map_or("", |(_, name)| name) }
+    }
+
+    /// Can this be the answer to a case? That to a leaf call does not name it.
+    pub fn answers(&self, case: &Block) -> bool {
+        self.is_line() == case.is_line() && (self.is_line() || self.name() == case.name())
     }
 
     pub fn op(&self) -> &str {
@@ -44,7 +53,7 @@ impl Block {
     }
 
     pub fn floats(&self, name: &str) -> Vec<f64> {
-        self.words(name).map(|w| f64::from_bits(u64::from_str_radix(w, 16).expect("bits"))).collect()
+        self.words(name).map(float).collect()
     }
 
     pub fn signed(&self, name: &str) -> Vec<i32> {
@@ -127,20 +136,28 @@ impl Block {
     }
 }
 
-/// The cases, or the answers, of a text, read one at a time. One that is cut off at the text's end is left out.
+/// Is a text that begins so one of several lines? Else it is a leaf call, or the answer to one.
+fn has_lines(text: &str) -> bool {
+    text.starts_with("case ") || text.starts_with("result ")
+}
+
+/// The cases, or the answers, of a text, read one at a time. One that is cut off at the text's end is left out, and so are comments and empty lines between them.
 pub fn blocks(mut source: impl BufRead) -> impl Iterator<Item = Block> {
     std::iter::from_fn(move || {
         let mut text = String::new();
         while source.read_line(&mut text).expect("text") > 0 {
-            if text.ends_with("\nend\n") {
-                return Some(Block { text });
-            }
-            if !text.starts_with("case ") && !text.starts_with("result ") {
+            if text == "\n" || text.starts_with('#') {
                 text.clear();
+            } else if text.ends_with(if has_lines(&text) { "\nend\n" } else { "\n" }) {
+                return Some(Block { text });
             }
         }
         None
     })
+}
+
+fn float(word: &str) -> f64 {
+    f64::from_bits(u64::from_str_radix(word, 16).expect("bits"))
 }
 
 fn hex(name: &str, xs: &[f64]) -> String {
@@ -150,6 +167,11 @@ fn hex(name: &str, xs: &[f64]) -> String {
         write!(s, " {bits:016x}").unwrap();
     }
     s
+}
+
+/// The answer to a leaf call, which does not name it.
+fn numbers_line(xs: &[f64]) -> Vec<String> {
+    vec![hex("", xs).trim_start().to_string()]
 }
 
 fn decimal(name: &str, xs: &[impl Display]) -> String {
@@ -294,10 +316,42 @@ fn stl(c: &Block) -> Result<Vec<String>, Refused> {
     })
 }
 
+/// The control points of a leaf call, and the words after them.
+fn curve_words(c: &Block) -> ([Control; 4], Vec<&str>) {
+    let mut words = c.words(c.op());
+    let controls = std::array::from_fn(|_| std::array::from_fn(|_| float(words.next().expect("four control points"))));
+    (controls, words.collect())
+}
+
+/// A point of a curve, the direction after it.
+fn curve(c: &Block) -> Result<Vec<String>, Refused> {
+    let (controls, words) = curve_words(c);
+    let answer = curve_at(&controls, float(words.first().expect("a parameter")));
+    answer.map(|point| numbers_line(&[point.position, point.direction].concat()))
+}
+
+/// Points along a curve. Each place of the list has a number of its own before the call, which a refused one has to leave. Where the room is not said, it is that
+/// of the points. A list of more places than the oracle's count of 65,536 takes is cut: that count is wrong in any case.
+fn points(c: &Block) -> Result<Vec<String>, Refused> {
+    let (controls, words) = curve_words(c);
+    let mut numbers = words.iter().map(|w| w.parse::<usize>().expect("a number"));
+    let count = numbers.next().expect("a count");
+    let room = numbers.next().unwrap_or_else(|| count.saturating_mul(3)).min(1 << 18);
+    let lent: Vec<f64> = (0..room as u64).map(|i| f64::from_bits(SIGNALING + i)).collect();
+    let mut list = lent.clone();
+    let answer = curve_points(&controls, count, &mut list);
+    assert!(answer.is_ok() || same_bits(&list, &lent), "a place of a refused call was written");
+    answer.map(|()| numbers_line(&list))
+}
+
 /// The unit's answer to a case, line by line as the oracle writes it, or `None` for an operation that the unit has no call for.
 pub fn answer(c: &Block) -> Option<Result<Vec<String>, Refused>> {
-    if c.op() == "stl" {
-        return Some(stl(c));
+    match c.op() {
+        "stl" => return Some(stl(c)),
+        "curve" => return Some(curve(c)),
+        "curvepoints" => return Some(points(c)),
+        _ if c.is_line() => return None,
+        _ => {}
     }
     let (n, p) = c.counts();
     let (h, pos) = (c.halfedges(), c.floats("pos"));

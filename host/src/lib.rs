@@ -4,6 +4,7 @@
 //! lengths and contents, so nothing is tested here.
 
 pub mod case;
+pub mod drawing;
 mod refused;
 pub mod solid;
 
@@ -57,6 +58,12 @@ mod raw {
         pub fn tangents_read_stl(
             file: *const u8, file_len: usize, points: *mut f64, points_len: usize, halfedges: *mut i32, halfedges_len: usize,
             normals: *mut f64, normals_len: usize, answer: *mut usize, answer_len: usize,
+        );
+        pub fn tangents_curve_at(
+            controls: *const f64, controls_len: usize, x: f64, point: *mut f64, point_len: usize, answer: *mut usize, answer_len: usize,
+        );
+        pub fn tangents_curve_points(
+            controls: *const f64, controls_len: usize, count: usize, points: *mut f64, points_len: usize, answer: *mut usize, answer_len: usize,
         );
     }
 }
@@ -282,4 +289,33 @@ pub fn read_stl(file: &[u8], points: &mut [f64], halfedges: &mut [i32], normals:
         );
     }
     outcome(answer).map(|[halfedges, points]| MeshCounts { halfedges, points })
+}
+
+/// A control point of a curve: x, y and z already times the weight, and the weight.
+pub type Control = [f64; 4];
+
+/// A point of a curve: where it is, and the direction of the curve there, which is zero where it has none.
+#[derive(Clone, Copy, Debug, PartialEq)]
+pub struct CurvePoint {
+    pub position: [f64; 3],
+    pub direction: [f64; 3],
+}
+
+/// Position and direction at a parameter, 0 to 1: `cubic_bezier_2_linear`, `bezier_point` and `bezier_tangent` of the Rust's src/interp_tri.rs.
+pub fn curve_at(controls: &[Control; 4], x: f64) -> Result<CurvePoint, Refused> {
+    let (controls, mut point, mut answer) = (controls.as_flattened(), [0.0; 6], [0; 4]);
+    unsafe {
+        raw::tangents_curve_at(controls.as_ptr(), controls.len(), x, point.as_mut_ptr(), point.len(), answer.as_mut_ptr(), 4);
+    }
+    let [a, b, c, d, e, f] = point;
+    outcome(answer).map(|_| CurvePoint { position: [a, b, c], direction: [d, e, f] })
+}
+
+/// 2 to 256 points along a curve, three numbers each: point i at the parameter i/(count - 1). The list stays as lent where the call is refused.
+pub fn curve_points(controls: &[Control; 4], count: usize, points: &mut [f64]) -> Result<(), Refused> {
+    let (controls, mut answer) = (controls.as_flattened(), [0; 4]);
+    unsafe {
+        raw::tangents_curve_points(controls.as_ptr(), controls.len(), count, points.as_mut_ptr(), points.len(), answer.as_mut_ptr(), 4);
+    }
+    outcome(answer).map(|_| ())
 }

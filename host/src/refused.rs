@@ -28,6 +28,9 @@ impl Refused {
             30 => "the file's length is not 84 bytes and 50 for each triangle it counts, or it has over 65,535 halfedges (21,845 triangles) or points",
             31 => "this triangle has a corner that is not finite, or two that are equal",
             32 => "the directed edge of this halfedge, 3 t + i for side i of triangle t, occurs twice or has no reverse: the surface is not closed",
+            40 => "the parameter is not a number, below 0 or above 1",
+            41 => "the count of points is below 2 or above 256",
+            42 => "the list has not three numbers for each point",
             _ => "no question has this number",
         }
     }

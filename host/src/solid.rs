@@ -9,7 +9,9 @@ use std::fmt;
 use std::io;
 use std::path::Path;
 
-type Vector = [f64; 3];
+pub mod arguments;
+
+pub type Vector = [f64; 3];
 
 /// A mesh, as the unit's calls are lent it.
 pub struct Mesh {
@@ -148,12 +150,17 @@ impl Mesh {
         self.halfedges[4 * e] as usize
     }
 
-    fn pair(&self, e: usize) -> usize {
+    pub fn pair(&self, e: usize) -> usize {
         self.halfedges[4 * e + 2] as usize
     }
 
+    /// The one of an edge's two halfedges that starts at the lower point.
+    pub fn is_forward(&self, e: usize) -> bool {
+        self.start(e) < self.start(self.pair(e))
+    }
+
     /// Where a halfedge starts.
-    fn corner(&self, e: usize) -> Vector {
+    pub fn corner(&self, e: usize) -> Vector {
         vector(&self.positions, self.start(e))
     }
 
@@ -259,19 +266,19 @@ fn vector(list: &[f64], i: usize) -> Vector {
     [list[3 * i], list[3 * i + 1], list[3 * i + 2]]
 }
 
-fn difference(a: Vector, b: Vector) -> Vector {
+pub(crate) fn difference(a: Vector, b: Vector) -> Vector {
     [0, 1, 2].map(|i| a[i] - b[i])
 }
 
-fn dot(a: Vector, b: Vector) -> f64 {
+pub(crate) fn dot(a: Vector, b: Vector) -> f64 {
     a[0] * b[0] + a[1] * b[1] + a[2] * b[2]
 }
 
-fn cross(a: Vector, b: Vector) -> Vector {
+pub(crate) fn cross(a: Vector, b: Vector) -> Vector {
     [a[1] * b[2] - a[2] * b[1], a[2] * b[0] - a[0] * b[2], a[0] * b[1] - a[1] * b[0]]
 }
 
-fn length(a: Vector) -> f64 {
+pub(crate) fn length(a: Vector) -> f64 {
     dot(a, a).sqrt()
 }
 

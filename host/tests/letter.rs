@@ -1,9 +1,12 @@
 //! The sample letter, examples/letter.stl, and damaged copies of it, by the library and by the program `stl`.
 
-use std::process::Command;
+mod programs;
+
+use programs::run;
 use tangents_host::solid::{Rule, Solid};
 use tangents_host::{read_stl, valid_tangents, Listed, MeshCounts, Refused};
 
+const PROGRAM: &str = env!("CARGO_BIN_EXE_stl");
 const LETTER: &str = concat!(env!("CARGO_MANIFEST_DIR"), "/../examples/letter.stl");
 
 fn letter() -> Vec<u8> {
@@ -60,18 +63,11 @@ fn damaged_letters_are_refused() {
     assert_eq!(short, Err(Refused { number: 2, place: 0 }));
 }
 
-/// Output, errors and status of the program.
-fn program(words: &[&str]) -> (String, String, Option<i32>) {
-    let out = Command::new(env!("CARGO_BIN_EXE_stl")).args(words).output().expect("a run");
-    let text = |bytes| String::from_utf8(bytes).expect("text");
-    (text(out.stdout), text(out.stderr), out.status.code())
-}
-
 #[test]
 fn program_prints() {
     let counts = "triangles 44\npoints 24\nhalfedges 132\nnormals 44 stored, 0 from the corners\nfaces 18\n\
                   creases 24 edges, 48 entries\nedges listed only for a sliver 0\nedges without direction 0\n";
-    let (short, long) = (program(&[LETTER, "50"]), program(&["--tangents", LETTER, "50"]));
+    let (short, long) = (run(PROGRAM, &[LETTER, "50"]), run(PROGRAM, &["--tangents", LETTER, "50"]));
     assert_eq!(short, (counts.into(), String::new(), Some(0)));
     let lines: Vec<&str> = long.0.strip_prefix(counts).expect("the counts").lines().collect();
     assert_eq!((lines.len(), lines[0], lines[132].len()), (133, "tangents 132", "131".len() + 4 * 17));
@@ -83,14 +79,14 @@ fn program_says_what_is_wrong() {
     let name = file.to_str().expect("a name");
     let after = |bytes: &[u8]| {
         std::fs::write(&file, bytes).expect("a temporary file");
-        program(&[name])
+        run(PROGRAM, &[name])
     };
     let (cut, ascii) = (after(&letter()[..2000]), after(b"solid letter\nendsolid letter\n"));
     std::fs::remove_file(&file).expect("a temporary file");
-    for (what, begin) in [(cut, "refused 30 0: "), (ascii, "the file looks like ASCII STL"), (program(&[name]), "the file cannot be read")] {
+    for (what, begin) in [(cut, "refused 30 0: "), (ascii, "the file looks like ASCII STL"), (run(PROGRAM, &[name]), "the file cannot be read")] {
         assert!(what.0.is_empty() && what.1.starts_with(begin) && what.2 == Some(1), "{what:?}");
     }
     for words in [&[][..], &[name, "a"], &[name, "1", "2"], &[name, "--tangent"]] {
-        assert_eq!(program(words).2, Some(2));
+        assert_eq!(run(PROGRAM, words).2, Some(2));
     }
 }

@@ -1,6 +1,8 @@
-//! A cube with slivers, triangles whose corners lie on one line: by the ported rule their edges are creases, by the clean one they are not.
+//! A cube and an octahedron with slivers, triangles whose corners lie on one line: by the ported rule their edges are creases, by the clean one they are not.
 
-use std::process::Command;
+mod programs;
+
+use programs::run;
 use tangents_host::solid::{Rule, Solid};
 use tangents_host::{valid_tangents, Listed};
 
@@ -17,6 +19,11 @@ fn cube() -> Vec<[Point; 3]> {
     let [d, e, f, g, h] = [[0.0, 1.0, 1.0], [0.0, 0.0, 0.0], [1.0, 0.0, 0.0], [1.0, 1.0, 0.0], [0.0, 1.0, 0.0]];
     let faces = [[A, B, C, d], [e, h, g, f], [e, f, B, A], [f, g, C, B], [g, h, d, C], [h, e, A, d]];
     faces.iter().flat_map(|&[a, b, c, d]| [[a, b, c], [c, d, a]]).collect()
+}
+
+fn octahedron() -> Vec<[Point; 3]> {
+    let ring = [[1.0, 0.0, 0.0], [0.0, 1.0, 0.0], [-1.0, 0.0, 0.0], [0.0, -1.0, 0.0]];
+    (0..4).flat_map(|i| [[ring[i], ring[(i + 1) % 4], UP], [ring[(i + 1) % 4], ring[i], [0.0, 0.0, -1.0]]]).collect()
 }
 
 /// The shell with a sliver on the edge from a to b: the triangle there is cut in two at the middle.
@@ -92,20 +99,35 @@ fn both_listings_give_tangents() {
     assert_ne!(ported, clean);
 }
 
+/// What a program prints of a shell, by either listing.
+fn printed(program: &str, shell: &[[Point; 3]], words: &[&str]) -> [String; 2] {
+    let name = program.rsplit('/').next().expect("a name");
+    let path = std::env::temp_dir().join(format!("tangents-slivers-{name}-{}.stl", std::process::id()));
+    std::fs::write(&path, file(shell, [0.0; 3])).expect("a temporary file");
+    let printed = [&[][..], &["--clean"]].map(|rule| {
+        let (out, errors, status) = run(program, &[&[path.to_str().expect("a name")][..], words, rule].concat());
+        assert!(status == Some(0) && errors.is_empty(), "{errors}");
+        out
+    });
+    std::fs::remove_file(&path).expect("a temporary file");
+    printed
+}
+
 #[test]
 fn program_takes_either_listing() {
-    let path = std::env::temp_dir().join(format!("tangents-slivers-{}.stl", std::process::id()));
-    std::fs::write(&path, file(&with_sliver(with_sliver(cube(), A, B), C, A), [0.0; 3])).expect("a temporary file");
-    let name = path.to_str().expect("a name");
-    let printed = |words: &[&str]| {
-        let out = Command::new(env!("CARGO_BIN_EXE_stl")).args(words).output().expect("a run");
-        assert!(out.status.success() && out.stderr.is_empty());
-        String::from_utf8(out.stdout).expect("text")
-    };
-    let (ported, clean, tangents) = (printed(&[name]), printed(&["--clean", name]), printed(&[name, "30", "--tangents", "--clean"]));
-    std::fs::remove_file(&path).expect("a temporary file");
+    let shell = with_sliver(with_sliver(cube(), A, B), C, A);
+    let program = env!("CARGO_BIN_EXE_stl");
+    let [ported, clean] = printed(program, &shell, &[]);
     let counts = "triangles 16\npoints 10\nhalfedges 48\nnormals 0 stored, 16 from the corners\nfaces 6\n";
     assert_eq!(ported, format!("{counts}creases 11 edges, 34 entries\nedges listed only for a sliver 6\nedges without direction 0\n"));
     assert_eq!(clean, format!("{counts}creases 11 edges, 22 entries\nedges listed only for a sliver 0\nedges without direction 0\n"));
-    assert!(tangents.starts_with(&format!("{clean}tangents 48\n")));
+    assert!(printed(program, &shell, &["30", "--tangents"])[1].starts_with(&format!("{clean}tangents 48\n")));
+}
+
+#[test]
+fn program_draws_by_either_listing() {
+    // 70.5 degrees at each edge of an octahedron, and ninety at a sliver
+    let [ported, clean] = printed(env!("CARGO_BIN_EXE_curves"), &with_sliver(octahedron(), [1.0, 0.0, 0.0], [0.0, 1.0, 0.0]), &["80"]);
+    assert!(ported.contains("<desc>15 edges: 14 curves, 0 straight, 1 inside quads, 0 not finite</desc>"), "{ported}");
+    assert!(clean.contains("<desc>15 edges: 13 curves, 0 straight, 2 inside quads, 0 not finite</desc>"), "{clean}");
 }

@@ -4,3 +4,4 @@ pub mod Sums
 pub mod Count
 pub mod Counted
 pub mod Filled
+pub mod Front

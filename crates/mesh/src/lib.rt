@@ -35,8 +35,8 @@ pub const REF_STRIDE: usize = 3;
 // opened in each of them to answer the same no.
 const NO_INDEX: usize = 4294967296;
 
-// The questions that a call puts to its mesh and its lists, 1 to 12, the program to its records, 20 to 24, and the reading of STL to
-// its file, 30 to 32: each with its number.
+// The questions that a call puts to its mesh and its lists, 1 to 12, the program to its records, 20 to 24, the reading of STL to its
+// file, 30 to 32, and the points along a curve to their parameter, count and list, 40 to 42: each with its number.
 #[derive(Clone, Copy, PartialEq, Eq)]
 pub enum Question {
     Counts = 1,
@@ -59,6 +59,9 @@ pub enum Question {
     Size = 30,
     Corners = 31,
     Pairing = 32,
+    Parameter = 40,
+    CurveCount = 41,
+    CurveRoom = 42,
 }
 
 // The first question that is answered no, and the lowest place that breaks it.

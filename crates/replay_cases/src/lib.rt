@@ -8,10 +8,8 @@ pub use making::{Creation, agrees};
 use replay::Reader;
 use std::io;
 
-// The most bytes of a case, and the fewest.
+// The most bytes of a case.
 pub const ROOM: usize = 4096;
-
-const HEAD: usize = 24;
 
 // What is asked of the unit.
 #[derive(Clone, Copy, PartialEq)]
@@ -71,6 +69,18 @@ impl From<mesh::Refusal> for Refusal {
     }
 }
 
+// The next record, less its length, which counts its own four bytes: none where the input ends, or where the buffer has no room for it.
+pub fn next_record<'a, R: io::Read>(input: &mut R, buf: &'a mut [u8]) -> Option<Reader<'a>> {
+    let mut length = [0; 4];
+    if little_endian::read_full(input, &mut length) < 4 {
+        return None;
+    }
+    let size = Reader::new(&length).read::<usize>().checked_sub(4)?;
+    let record = buf.get_mut(..size)?;
+    let count = little_endian::read_full(input, record);
+    Some(Reader::new(&record[..count]))
+}
+
 // A case: the operation, the number of halfedges and of points, how the call ends, and what follows: the lists and the answers.
 #[derive(Clone, Copy)]
 pub struct Case<'a> {
@@ -84,15 +94,7 @@ pub struct Case<'a> {
 impl<'a> Case<'a> {
     // Reads the next case.
     pub fn read<R: io::Read>(input: &mut R, buf: &'a mut [u8; ROOM]) -> Option<Self> {
-        if little_endian::read_full(input, &mut buf[..4]) < 4 {
-            return None;
-        }
-        let size = Reader::new(&buf[..4]).read::<usize>();
-        if !(HEAD..=ROOM).contains(&size) {
-            return None;
-        }
-        let rest = little_endian::read_full(input, &mut buf[4..size]);
-        Some(Case::new(Reader::new(&buf[4..4 + rest])))
+        next_record(input, buf).map(Case::new)
     }
 
     fn new(mut body: Reader<'a>) -> Self {

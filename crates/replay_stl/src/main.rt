@@ -3,8 +3,8 @@
 #![tactic(auto)]
 
 use replay::{Reader, all_same};
-use replay_cases::{Refusal, ends_as};
-use std::io::{Input, Read};
+use replay_cases::{Refusal, ends_as, next_record};
+use std::io::Input;
 
 // The most bytes of a record.
 const ROOM: usize = 32768;
@@ -13,17 +13,6 @@ const ROOM: usize = 32768;
 const FLOAT: f64 = 0.1;
 
 const NUMBER: i32 = -7;
-
-// The next record, less its length.
-fn next_record<'a, R: Read>(input: &mut R, buf: &'a mut [u8; ROOM]) -> Option<Reader<'a>> {
-    if little_endian::read_full(input, &mut buf[..4]) < 4 {
-        return None;
-    }
-    let size = Reader::new(&buf[..4]).read::<usize>();
-    let rest = buf.get_mut(4..size)?;
-    let count = little_endian::read_full(input, rest);
-    Some(Reader::new(&rest[..count]))
-}
 
 // How the call of a record ends: with so many halfedges and points, or with a refusal.
 fn outcome_of(record: &mut Reader<'_>) -> Result<(usize, usize), Refusal> {

@@ -1,12 +1,11 @@
 -- What a listing's lists hold, edge by edge; and that the clean listing's edges, and its entries, are those of the ported one that touch no all-zero normal. Assumes nothing.
 use Prim.Native.Nat.{ℕ, zero, suc, ◌+◌, ◌*◌, ◌<◌, ◌≤◌}
-use native.Mathlib.Numerals.{add-one}
 use native.Mathlib.Omega.{arith}
 use mathlib.Core.Path.{◌≡◌, refl, sym, ap, ◌∙◌}
 use mathlib.Core.Bool.{Bool, true, false, not, ◌&&◌}
-use mathlib.Core.List.{List, [], ◌∷◌, ◌++◌, append_assoc}
-use lib.ListN.{length, take, drop, set, get_or, replicate, length-append}
-use lib.Seq.{drop-cons, set_at, take-append_seam}
+use mathlib.Core.List.{List, [], ◌∷◌, ◌++◌}
+use lib.ListN.{length, take, drop, set, replicate, length-append}
+use lib.Seq.{take-append_seam}
 use lib.Ieee.{Float, lt}
 use Rattle.std.proofs.Math.Bool.{or_comm}
 use Rattle.std.specs.Prelude.{filter, flat_map, Ok, Err}
@@ -16,6 +15,7 @@ use Rattle.std.proofs.lemmas.List.Elements.{filter-append}
 use Rattle.std.proofs.lemmas.Grind.{flat_map-append}
 use Rattle.common.specs.Fold.{fold_to}
 use Rattle.common.specs.Count.{sum, count_below}
+use Rattle.common.proofs.Front.{front_two, range_next}
 use Rattle.linalg.specs.Vec.{dot_of}
 use Rattle.mesh.specs.Mesh.{paired_halfedge, is_forward, Halfedges}
 use Rattle.mesh.specs.Sound.{Sound}
@@ -31,16 +31,12 @@ use Rattle.sharpen.proofs.Room.{lists_checked, entries_room}
 
 -- ---- the numbers below n that pass a test
 
-range_last : (a n j : ℕ) → a + n ≡ j → range_with_len a (suc n) ≡ range_with_len a n ++ j ∷ []
-range_last a zero j e = let z : a ≡ j = omega arith in ap (λ (x : ℕ). x ∷ []) z
-range_last a (suc n) j e = ap (λ (l : List ℕ). a ∷ l) (range_last (a + 1) n j (omega arith))
-
 abbrev passed : (ℕ → Bool) → ℕ → List ℕ
 passed t n = filter t (range_with_len 0 n)
 
 module _ (t : ℕ → Bool) where
   passed_next : (n : ℕ) → passed t (suc n) ≡ passed t n ++ filter t (n ∷ [])
-  passed_next n = ap (filter t) (range_last 0 n n (omega arith)) ∙ filter-append t (range_with_len 0 n) (n ∷ [])
+  passed_next n = ap (filter t) (range_next n) ∙ filter-append t (range_with_len 0 n) (n ∷ [])
 
   passed_count : (n : ℕ) → length (passed t n) ≡ count_below t n
   unfolding sum count_below
@@ -51,17 +47,7 @@ module _ (t : ℕ → Bool) where
       go true e ih = rw e (omega arith)
       go false e ih = rw e (omega arith)
 
--- ---- one entry more, where k are in front
-
-entry_next : {X : Type 0} (front l : List X) (k : ℕ) (x : X) → length front ≡ k → k < length l → set (front ++ drop k l) k x ≡ (front ++ x ∷ []) ++ drop (k + 1) l
-entry_next front l k x e h = rw (drop-cons l k x h) (set_at front (get_or l k x) (drop (suc k) l) x k e ∙ rw (add-one, append_assoc))
-
--- and two more, as an edge has them
-two_next : {X : Type 0} (front l : List X) (k : ℕ) (x y : X) → length front ≡ k → k + 2 ≤ length l → set (set (front ++ drop k l) k x) (k + 1) y ≡ (front ++ x ∷ y ∷ []) ++ drop (k + 1 + 1) l
-two_next front l k x y e h =
-    ap (λ r. set r (k + 1) y) (entry_next front l k x e (omega arith))
-    ∙ entry_next (front ++ x ∷ []) l (k + 1) y (omega (arith, length-append front (x ∷ []))) (omega arith)
-    ∙ ap (λ r. r ++ drop (k + 1 + 1) l) (append_assoc front (x ∷ []) (y ∷ []))
+-- ---- the entries of edges
 
 abbrev entries_of : Halfedges → List ℕ → List ℕ
 entries_of H edges = flat_map (edge_entries H) edges
@@ -82,11 +68,11 @@ module _ (H : Halfedges) where
           count = omega (arith, h.count, length-append edges (e ∷ []));
           halfedges =
               ap (λ (l : List ℕ). set (set l k e) (k + 1) pair) h.halfedges
-              ∙ two_next (entries_of H edges) I k e pair (entries_length edges ∙ sym h.count) hi
+              ∙ front_two (entries_of H edges) I k (entries_length edges ∙ sym h.count) e pair hi
               ∙ ap (λ (l : List ℕ). l ++ drop (k + 1 + 1) I) (sym (flat_map-append (edge_entries H) edges (e ∷ [])));
           smoothness =
               ap (λ (l : List Float). set (set l k smooth) (k + 1) smooth) h.smoothness
-              ∙ two_next (replicate k smooth) Q k smooth smooth (length-replicate k smooth) hq
+              ∙ front_two (replicate k smooth) Q k (length-replicate k smooth) smooth smooth hq
               ∙ ap (λ (l : List Float). l ++ drop (k + 1 + 1) Q) (replicate-append-replicate k 2 smooth ∙ ap (λ (j : ℕ). replicate j smooth) (let z : k + 2 ≡ k + 1 + 1 = omega arith in z));
         }
 

@@ -10,6 +10,10 @@ use Rattle.linalg.specs.declared.Vec4.{Vec4}
 unfoldable pub point_at : List Float → ℕ → Vec3
 point_at P k = record { x = get_or P (k * 3) nan; y = get_or P (k * 3 + 1) nan; z = get_or P (k * 3 + 2) nan }
 
+-- the list with another point k
+unfoldable pub put_point : List Float → ℕ → Vec3 → List Float
+put_point P k a = set (set (set P (k * 3) a.x) (k * 3 + 1) a.y) (k * 3 + 2) a.z
+
 -- the tangent of halfedge e, `halfedge_tangent[e]`: four numbers; not-a-number past the end
 unfoldable pub tangent_at : List Float → ℕ → Vec4
 tangent_at T e = record {

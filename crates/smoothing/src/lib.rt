@@ -7,7 +7,7 @@ ghost use Rattle.std.specs.Prelude.{◌≡◌, ◌+◌, ◌*◌, ◌≤◌, leng
 ghost use Rattle.mesh.specs.Mesh.{as_halfedges, paired_halfedge};
 ghost use Rattle.mesh.specs.Inside.{Inside};
 ghost use Rattle.smoothing.specs.Directions.{vec3_from_vec4, with_weight, is_degenerate, safe_normalize, direction_of, wrap_of, angle_between, equal_normals, equal_units, circular_tangent_of};
-ghost use Rattle.smoothing.specs.Lists.{point_at, tangent_at, put_tangent, weight_at, is_marked_inside_quad};
+ghost use Rattle.smoothing.specs.Lists.{point_at, put_point, tangent_at, put_tangent, weight_at, is_marked_inside_quad};
 ghost use Rattle.smoothing.specs.Edges.{EdgeIn, NormalsIn, FacesIn, TriangleIn, InsideQuadIn, edge_vec, bi_tangent, tangent_from_normal_of, same_face_across, no_other_neighbor, is_inside_quad};
 ghost use Rattle.smoothing.specs.Inner.{angle_of_cosine, edge_normal, direction_from_normal, EdgesIn, PairIn, tangents_from_normals};
 ghost use Rattle.sqrt.specs.Sqrt.{sqrt_of};
@@ -227,6 +227,18 @@ pub fn point_at(p: &[f64], k: usize) -> Vec3
     let y = p[at + 1];
     let z = p[at + 2];
     Vec3 { x, y, z }
+}
+
+// Another point k.
+#[tactic(auto, unfolding(crate::specs::Lists::put_point))]
+pub fn put_point(p: &mut [f64], k: usize, a: Vec3)
+    requires { k * 3 + 3 ≤ length p.old }
+    ensures { p.new ≡ put_point p.old k a }
+{
+    let at = k * 3;
+    p[at] = a.x;
+    p[at + 1] = a.y;
+    p[at + 2] = a.z;
 }
 
 // The tangent of halfedge e.

@@ -1,2 +1,3 @@
 -- The specs of `tangents_c`.
 pub mod Answers
+pub mod Curve

@@ -19,7 +19,11 @@ ghost use Rattle.create_shared.specs.Answer.{checked_of};
 ghost use Rattle.create.specs.Create.{create_answer, tangents_after as created_tangents};
 ghost use Rattle.create_from_normals.specs.FromNormals.{create_answer as from_normals_answer, tangents_after as tangents_from_normals};
 ghost use Rattle.stl.specs.Stl.{read_stl, points_after, halfedges_after, normals_after};
+ghost use Rattle.tangents_c.specs.Curve.{check_curve_at, point_after, check_curve_points};
+ghost use Rattle.tangents_c.specs.Curve.{points_after as curve_points_after};
 ghost use Rattle.tangents_c.specs.Answers.{put, put_checked, put_validity, put_listing, put_spreading, put_making, put_reading};
+
+mod controls;
 
 use distribute::Counts;
 use mesh::Refusal;
@@ -332,4 +336,34 @@ pub extern "C" fn tangents_read_stl(
 {
     let reading = stl::read_stl(file, points, halfedges, normals);
     put_reading(answer, reading);
+}
+
+// A point of a curve: its position and direction, six numbers.
+#[unsafe(no_mangle)]
+pub extern "C" fn tangents_curve_at(
+    controls: &[f64],
+    x: f64,
+    point: &mut [f64],
+    answer: &mut [usize],
+)
+    ensures point_after { point.new ≡ point_after controls.now x point.old }
+    ensures answer_after { answer.new ≡ put_checked answer.old (check_curve_at controls.now x point.old) }
+{
+    let checked = controls::curve_at(controls, x, point);
+    put_checked(answer, checked);
+}
+
+// Points along a curve.
+#[unsafe(no_mangle)]
+pub extern "C" fn tangents_curve_points(
+    controls: &[f64],
+    count: usize,
+    points: &mut [f64],
+    answer: &mut [usize],
+)
+    ensures points_after { points.new ≡ curve_points_after controls.now count points.old }
+    ensures answer_after { answer.new ≡ put_checked answer.old (check_curve_points controls.now count points.old) }
+{
+    let checked = controls::curve_points(controls, count, points);
+    put_checked(answer, checked);
 }

@@ -10,12 +10,19 @@
 //! and the Rust lacks it too: its column has the time of the Rust's listing, as `crease`.
 //! `stl` and `apart`, on the torus only, read an STL file: of that torus, and of triangles that share no corner, which is refused at the last question. The Rust
 //! has no such call: its column has, as `maps`, a plain reader over two hash maps.
+//! `curve` and `point` are the curves of the first edges of the mesh of `straighten`, at most 256: for each, a list of 256 points, and as many calls for one point
+//! with its direction. The second column has the points, and a time is for each of them; the Rust's functions are those of src/interp_tri.rs, compiled here.
 //! The unit asks its questions in every call; the Rust asks none.
 
+#[path = "../interp_tri.rs"]
+mod interp_tri;
+
+use interp_tri::{bezier_point, bezier_tangent, cubic_bezier_2_linear, Vec4};
 use std::collections::HashMap;
 use std::process::Command;
 use std::time::Instant;
 use tangents_host::case::{blocks, Block};
+use tangents_host::drawing;
 use tangents_host::*;
 
 /// ns per halfedge of the unit for an operation on a case, the least.
@@ -153,6 +160,83 @@ fn file_times(file: &[u8], repeats: usize, runs: usize) -> (usize, Vec<(f64, f64
     (n, times)
 }
 
+/// The points of a list: the most that the call gives.
+const POINTS: usize = 256;
+
+/// The most curves that are timed.
+const CURVES: usize = 256;
+
+/// The curves of the first edges of a mesh.
+fn curves(c: &Block) -> Vec<[Control; 4]> {
+    let (he, pos, tan) = (c.signed("he"), c.floats("pos"), c.floats("tan"));
+    let point = |v: i32| [0, 1, 2].map(|k| pos[3 * v as usize + k]);
+    let tangent = |e: usize| [0, 1, 2, 3].map(|k| tan[4 * e + k]);
+    let curve = |(e, numbers): (usize, &[i32])| drawing::controls([point(numbers[0]), point(numbers[1])], [tangent(e), tangent(numbers[2] as usize)]);
+    he.chunks_exact(3).take(CURVES).enumerate().map(curve).collect()
+}
+
+fn parameter(i: usize) -> f64 {
+    i as f64 / (POINTS - 1) as f64
+}
+
+fn by_rust(controls: &[Control; 4]) -> [Vec4; 4] {
+    controls.map(|[x, y, z, w]| Vec4::new(x, y, z, w))
+}
+
+fn list_by_rust(controls: &[Control; 4], list: &mut [f64]) {
+    let [p0, p1, p2, p3] = by_rust(controls);
+    for (i, place) in list.chunks_exact_mut(3).enumerate() {
+        let x = parameter(i);
+        let v = bezier_point(&cubic_bezier_2_linear(p0, p1, p2, p3, x), x);
+        place.copy_from_slice(&[v.x, v.y, v.z]);
+    }
+}
+
+fn list_by_unit(controls: &[Control; 4], list: &mut [f64]) {
+    curve_points(controls, POINTS, list).expect("accepted");
+}
+
+fn points_by_rust(controls: &[Control; 4], list: &mut [f64]) {
+    let [p0, p1, p2, p3] = by_rust(controls);
+    for (i, place) in list.chunks_exact_mut(6).enumerate() {
+        let x = parameter(i);
+        let points = cubic_bezier_2_linear(p0, p1, p2, p3, x);
+        let (v, d) = (bezier_point(&points, x), bezier_tangent(&points));
+        place.copy_from_slice(&[v.x, v.y, v.z, d.x, d.y, d.z]);
+    }
+}
+
+fn points_by_unit(controls: &[Control; 4], list: &mut [f64]) {
+    for (i, place) in list.chunks_exact_mut(6).enumerate() {
+        let point = curve_at(controls, parameter(i)).expect("accepted");
+        place.copy_from_slice([point.position, point.direction].as_flattened());
+    }
+}
+
+/// The bits of the numbers, one pattern for every not-a-number.
+fn bits(list: &[f64]) -> Vec<u64> {
+    list.iter().map(|x| if x.is_nan() { f64::NAN.to_bits() } else { x.to_bits() }).collect()
+}
+
+/// The points of all curves, and for each run the least time of the Rust and that of the unit. Both have to give the same.
+fn curve_times(kind: &str, case: &Block, repeats: usize, runs: usize) -> (usize, Vec<(f64, f64)>) {
+    type Job = fn(&[Control; 4], &mut [f64]);
+    let (size, by_rust, by_unit): (usize, Job, Job) = match kind {
+        "curve" => (3, list_by_rust, list_by_unit),
+        _ => (6, points_by_rust, points_by_unit),
+    };
+    let curves = curves(case);
+    let n = POINTS * curves.len();
+    let all = |job: Job, lists: &mut [f64]| curves.iter().zip(lists.chunks_exact_mut(size * POINTS)).for_each(|(curve, list)| job(curve, list));
+    let (mut of_rust, mut of_unit) = (vec![0.0; size * n], vec![1.0; size * n]);
+    all(by_rust, &mut of_rust);
+    all(by_unit, &mut of_unit);
+    assert!(bits(&of_rust) == bits(&of_unit), "unit and Rust differ");
+    let time = |job, lists: &mut [f64]| least(n, repeats, || all(job, lists));
+    let times = (0..runs).map(|_| (time(by_rust, &mut of_rust), time(by_unit, &mut of_unit))).collect();
+    (n, times)
+}
+
 fn run(path: &str, words: &[&str]) -> String {
     let out = Command::new(path).args(words).output().unwrap_or_else(|e| panic!("{path}: {e}"));
     assert!(out.status.success(), "the oracle failed");
@@ -183,7 +267,8 @@ fn mesh_times(oracle: &str, kind: &str, text: &str, repeats: usize, runs: usize)
 fn main() {
     let args: Vec<String> = std::env::args().skip(1).collect();
     assert!(args.len() >= 5, "bench ORACLE MESH HALFEDGES REPEATS RUNS [KIND..]");
-    let all = ["straighten", "check", "crease", "clean", "spread", "preview", "sharp", "normals", "rows", "stl", "apart"].map(String::from);
+    let all = ["straighten", "check", "crease", "clean", "spread", "preview", "sharp", "normals", "rows", "stl", "apart", "curve", "point"];
+    let all = all.map(String::from);
     let (job, all) = match args[1].as_str() {
         "torus" => ("big", &all[..]),
         "mixed" => ("mixed", &all[..8]),
@@ -198,11 +283,13 @@ fn main() {
             "preview" => ("spread ", "spread"),
             "clean" => ("crease ", "crease"),
             "stl" | "apart" => ("maps ", kind.as_str()),
+            "curve" | "point" => ("", "straighten"),
             _ => ("", kind.as_str()),
         };
         let text = run(&args[0], &[job, mesh, &args[2], "1"]);
         let (n, times) = match kind.as_str() {
             "stl" | "apart" => file_times(&blocks(text.as_bytes()).next().expect("a case").file(), repeats, runs),
+            "curve" | "point" => curve_times(kind, &blocks(text.as_bytes()).next().expect("a case"), repeats, runs),
             _ => mesh_times(&args[0], kind, &text, repeats, runs),
         };
         let mut ratios: Vec<f64> = times.iter().map(|(r, u)| u / r).collect();

@@ -8,7 +8,7 @@
 //! the preview of spreading, which is also held against the unit's own spreading of copies. `count` is both makings with the count of edges without
 //! direction, which the other kinds do not compare. `stl` and `refuse-stl` are the reading of binary STL files. `clean` is the clean crease listing and
 //! `crease2` the ported one, many of their face normals zero or nearly; `refuse-clean` is both. Of `crease` the tally is not compared, as the oracle counts
-//! the edges of the Rust's listing.
+//! the edges of the Rust's listing. `curve` and `refuse-curve` are leaf calls: a point of a curve, and a list of points.
 //! The status is 0 after a whole run in which nothing differs, 1 after one in which something does, and another where the run ends early.
 
 use std::collections::BTreeMap;
@@ -19,9 +19,9 @@ use std::process::{Child, ChildStdin, Command, ExitCode, ExitStatus, Stdio};
 use std::sync::mpsc::{sync_channel, Receiver, SyncSender};
 use tangents_host::case::{answer, blocks, Block};
 
-const KINDS: [&str; 18] = [
-    "straighten", "spread", "preview", "check", "crease", "clean", "crease2", "sharp", "normals", "rows", "count", "stl", "any", "refuse", "refuse-rows",
-    "refuse-preview", "refuse-stl", "refuse-clean",
+const KINDS: [&str; 20] = [
+    "straighten", "spread", "preview", "check", "crease", "clean", "crease2", "sharp", "normals", "rows", "count", "stl", "curve", "any", "refuse",
+    "refuse-rows", "refuse-preview", "refuse-stl", "refuse-clean", "refuse-curve",
 ];
 
 /// The most cases that wait for their answers. The oracle writes answers some KB at a time, hundreds of the shortest: with room for fewer
@@ -48,7 +48,7 @@ impl fmt::Display for Sums {
 impl Sums {
     /// Compares the unit's answer to a case with the Rust's.
     fn compare(&mut self, case: &Block, rust: &Block) -> Result<(), Failure> {
-        if case.name() != rust.name() {
+        if !rust.answers(case) {
             return Err(format!("oracle run answers {} in place of {}", rust.name(), case.name()).into());
         }
         let unit = catch_unwind(|| answer(case)).map_err(|_| format!("compare panicked at {}", case.name()))?;

@@ -1,10 +1,10 @@
 //! Reads a binary STL file, lists its creases and makes its tangents, each by the unit. `stl --help` says more.
 
 use std::error::Error;
-use std::ffi::OsString;
 use std::io::{self, BufWriter, Write};
 use std::process::ExitCode;
-use tangents_host::solid::{Creases, Rule, Solid};
+use tangents_host::solid::arguments::{start, Arguments};
+use tangents_host::solid::{Creases, Solid};
 use tangents_host::Made;
 
 const USAGE: &str = "stl FILE [ANGLE] [--clean] [--tangents]";
@@ -33,25 +33,6 @@ A file that is refused gives the line `refused NUMBER PLACE: ` and its meaning o
 status 1. Status 1 with another line says that the file cannot be read, or that it looks like ASCII STL;
 status 2 that the arguments are wrong.
 ";
-
-struct Arguments {
-    file: OsString,
-    angle: f64,
-    rule: Rule,
-    tangents: bool,
-}
-
-/// The arguments, or `None` where they are wrong.
-fn arguments(words: impl Iterator<Item = OsString>) -> Option<Arguments> {
-    let (options, others): (Vec<_>, Vec<_>) = words.partition(|word| word.to_string_lossy().starts_with("--"));
-    let mut others = others.into_iter();
-    let (file, angle) = (others.next()?, others.next());
-    let angle = angle.map_or(Some(30.0), |word| word.to_str()?.parse().ok()).filter(|angle: &f64| angle.is_finite())?;
-    let has = |name: &str| options.iter().any(|option| option == name);
-    let known = others.next().is_none() && options.iter().all(|option| option == "--clean" || option == "--tangents");
-    let rule = if has("--clean") { Rule::Clean } else { Rule::Ported };
-    known.then_some(Arguments { file, angle, rule, tangents: has("--tangents") })
-}
 
 fn write_counts(out: &mut impl Write, solid: &Solid, creases: &Creases, made: Made) -> io::Result<()> {
     let triangles = solid.mesh.triangles();
@@ -84,27 +65,12 @@ fn run(arguments: &Arguments) -> Result<(), Box<dyn Error>> {
     let (tangents, made) = solid.tangents(&creases)?;
     let mut out = BufWriter::new(io::stdout().lock());
     write_counts(&mut out, &solid, &creases, made)?;
-    if arguments.tangents {
+    if arguments.has("--tangents") {
         write_tangents(&mut out, &tangents)?;
     }
     Ok(out.flush()?)
 }
 
 fn main() -> ExitCode {
-    let words: Vec<OsString> = std::env::args_os().skip(1).collect();
-    if words == ["--help"] {
-        print!("{USAGE}\n{HELP}");
-        return ExitCode::SUCCESS;
-    }
-    let Some(arguments) = arguments(words.into_iter()) else {
-        eprintln!("{USAGE}, where ANGLE is a number of degrees; stl --help says more");
-        return ExitCode::from(2);
-    };
-    match run(&arguments) {
-        Ok(()) => ExitCode::SUCCESS,
-        Err(failure) => {
-            eprintln!("{failure}");
-            ExitCode::from(1)
-        }
-    }
+    start(USAGE, HELP, &["--tangents"], run)
 }

@@ -1,0 +1,4 @@
+-- The laws of `curve`.
+pub mod Points
+pub mod Parameters
+pub mod Cases

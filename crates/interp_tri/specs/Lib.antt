@@ -1,0 +1,2 @@
+-- The specs of `interp_tri`.
+pub mod Bezier
