@@ -35,7 +35,7 @@ ascending : vert_tangents (as_halfedges pillow) (edges_of (as_halfedges pillow) 
 unfolding all
 ascending = refl
 
-goes_through : crease_of (vert_tangents (as_halfedges pillow) (edges_of (as_halfedges pillow) entries) 6 2) ≡ Through (record { first = 4; second = 2; between = five_eighths; beyond = three_quarters })
+goes_through : crease_of (vert_tangents (as_halfedges pillow) (edges_of (as_halfedges pillow) entries) 6 2) ≡ Through 4 2 five_eighths three_quarters
 unfolding all
 goes_through = refl
 
