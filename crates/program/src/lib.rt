@@ -6,6 +6,7 @@ ghost use Rattle.std.specs.Prelude.{◌≡◌, cond, [], length};
 ghost use Rattle.program_lines.specs.Text.{Put};
 ghost use Rattle.program_operations.specs.Operations.{Shows};
 ghost use Rattle.program.specs.Program.{output_of, positions_after, halfedges_after, tangents_after, normals_after, flags_after, scratch_after, lists_have_room, Room};
+ghost use Rattle.program.specs.Rows.{InputRowsUnread};
 
 use mesh::Refusal;
 use program_lines::Output;
@@ -99,3 +100,9 @@ pub fn answer(
     let answer = respond(input, pos, h, t, normals, flags, current, desired);
     program_lines::render(Output::from(answer), t, out)
 }
+
+// Law: two inputs that are the same but for the rows of the halfedges have the same output, and leave the same tangents and scratch
+// (specs/Rows.antt, `InputRowsUnread`).
+pub fn input_rows_unread()
+    ensures { InputRowsUnread }
+{}
