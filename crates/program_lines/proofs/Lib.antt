@@ -2,5 +2,4 @@
 mod Put
 mod Digits
 mod Lengths
-mod Cases
 pub mod Whole

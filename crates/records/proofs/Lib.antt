@@ -1,5 +1,4 @@
 -- The laws that the proofs of `records` share; `Accepted` is for the crates above, and so are the `Bytes` of worked cases.
 mod Parse
 pub mod Accepted
-mod Cases
 pub mod Bytes

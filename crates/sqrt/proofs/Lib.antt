@@ -9,4 +9,3 @@ pub mod Encoding
 mod RootEncoding
 mod Comparisons
 pub mod Nearest
-pub mod Examples
