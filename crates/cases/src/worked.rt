@@ -62,7 +62,8 @@ pub fn makings_hold()
     ensures { MakingsHold }
 {}
 
-// Law: 0, -0 and 1 are parameters of a curve, and the numbers next to them outside are not (specs/Curves.antt).
+// Law: 0, -0 and 1 are parameters of a curve and the numbers next to them outside are not; of control points 1e200 apart the direction
+// is zero, and of an infinite one it is not a number (specs/Curves.antt).
 #[tactic(auto, using(crate::proofs::Curves::curves_hold))]
 pub fn curves_hold()
     ensures { CurvesHold }
