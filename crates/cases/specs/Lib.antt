@@ -1,7 +1,9 @@
 -- The specs of `cases`.
 pub mod Pillow
+pub mod Bytes
 pub mod Lines
 pub mod Traps
+pub mod Listing
 pub mod Roots
 pub mod Rounds
 pub mod SharpEdges

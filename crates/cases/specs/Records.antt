@@ -13,7 +13,7 @@ use Rattle.records.specs.declared.Operation.{Operation}
 use Rattle.records.specs.declared.Operation.TheVariants.{Straighten, Spread, Check}
 use Rattle.records.specs.declared.Kind.TheVariants.{Positions, Halfedges}
 use Rattle.records.specs.declared.Input.{Input}
-use Rattle.records.proofs.Bytes.{number, numbers, record_of, pillow_records}
+use Rattle.cases.specs.Bytes.{number, numbers, record_of, pillow_records}
 
 -- an operation over the pillow with so many bytes of tangents
 abbrev pub input : ℕ → ℕ → List ℕ

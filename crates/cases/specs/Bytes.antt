@@ -1,7 +1,5 @@
--- The bytes of numbers and of records, for the worked cases here and in the crates above.
-use Prim.Native.Nat.{ℕ, zero, suc, ◌/◌, ◌%◌}
-use mathlib.Core.List.{List, [], ◌∷◌, ◌++◌}
-use lib.ListN.{length}
+-- The bytes of numbers and of records, and the records of the pillow.
+use Rattle.std.specs.Prelude.{ℕ, zero, suc, ◌/◌, ◌%◌, List, [], ◌∷◌, ◌++◌, length}
 use Rattle.common.specs.Pillow.{points, halfedges, halfedge_numbers, position_bits}
 
 -- the k bytes of a number, the lowest first
