@@ -1,4 +1,4 @@
 -- The laws that the proofs of `program` share; `Rows` proves the claim of specs/Rows.antt, `Rooms` that of the rooms.
 mod Inputs
-mod Rooms
+pub mod Rooms
 pub mod Rows

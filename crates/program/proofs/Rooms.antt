@@ -1,19 +1,23 @@
 -- The lists of every input that is accepted have room, and so has the output of every input. Assumes nothing.
-use Prim.Native.Nat.{ℕ, ◌≤◌}
+use Prim.Native.Nat.{ℕ, ◌<◌, ◌≤◌}
 use native.Mathlib.Omega.{arith}
-use mathlib.Core.Path.{◌≡◌, refl}
+use mathlib.Core.Path.{◌≡◌, refl, ap, ◌∙◌}
+use mathlib.Core.Bool.{true, cond}
+use borrow.Author.Tests.{le-leb, lt-leb}
 use mathlib.Core.List.{List, []}
-use lib.ListN.{length}
+use lib.ListN.{length, take}
 use Rattle.std.specs.Prelude.{Result, Ok, Err}
 use Rattle.mesh.specs.Mesh.{as_halfedges}
 use Rattle.mesh.specs.declared.Refusal.{Refusal}
-use Rattle.records.specs.Records.{parse_input}
+use Rattle.records.specs.Records.{max_input, check_input, parse_input}
 use Rattle.records.specs.declared.Input.{Input}
 use Rattle.records.proofs.Accepted.{counts_bound}
+use Rattle.program_lines.specs.Text.{Put}
 use Rattle.program_lines.specs.Lines.{printed}
+use Rattle.program_lines.proofs.Put.{put_front}
 use Rattle.program_lines.proofs.Lengths.{lines_length}
 use Rattle.program_operations.proofs.Lengths.{operation_length}
-use Rattle.program.specs.Program.{positions_of, halfedges_of, tangents_of, normals_of, flags_of, lines_for, output_of, output_room, FitsRooms, RoomsSuffice}
+use Rattle.program.specs.Program.{positions_of, halfedges_of, tangents_of, normals_of, flags_of, lines_for, output_of, position_room, halfedge_room, tangent_room, flag_room, output_room, has_room, Room, FitsRooms, RoomsSuffice}
 
 module _ (s : List ℕ) where
   counts_fit : (i : Input) → parse_input s ≡ Ok i → FitsRooms i.counts.points i.counts.halfedges
@@ -38,3 +42,32 @@ module _ (s : List ℕ) where
 
 pub rooms_suffice_lem : RoomsSuffice
 rooms_suffice_lem s = (counts_fit s, output_fits s)
+
+-- ---- lists of at least these lengths
+
+module _ (positions halfedges tangents normals flags current desired out : ℕ) (w : Room positions halfedges tangents normals flags current desired) (h : output_room ≤ out) where
+  have_room : has_room positions halfedges tangents normals flags current desired out ≡ true
+  unfolding has_room
+  have_room =
+      rw (
+        le-leb position_room positions w.positions_in,
+        le-leb halfedge_room halfedges w.halfedges_in,
+        le-leb tangent_room tangents w.tangents_in,
+        le-leb position_room normals w.normals_in,
+        le-leb flag_room flags w.flags_in,
+        le-leb flag_room current w.current_in,
+        le-leb flag_room desired w.desired_in,
+        le-leb output_room out h,
+      )
+
+  -- what `answer` leaves at the front of the list for the output
+  pub output_in_front : (s before after : List ℕ) (size : ℕ) →
+      Put before 0 (cond (has_room positions halfedges tangents normals flags current desired out) (output_of s) []) after size → take size after ≡ output_of s
+  output_in_front s before after size put = put_front put ∙ ap (λ b. cond b (output_of s) []) have_room
+
+-- ---- the longest inputs
+
+-- an input longer than the program takes is answered as any other that is
+pub too_long : (s s' : List ℕ) → max_input < length s → max_input < length s' → output_of s ≡ output_of s'
+unfolding output_of parse_input check_input
+too_long s s' h h' = rw (lt-leb (length s) max_input h, lt-leb (length s') max_input h')
