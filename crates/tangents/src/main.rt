@@ -7,6 +7,9 @@ ghost use Rattle.std.specs.Io.KnownBytes.{Appends};
 ghost use Rattle.program.specs.Program.{output_of};
 ghost use Rattle.tangents.specs.Streams.{KeptIfUnread};
 
+#[cfg(test)]
+mod tests;
+
 use program::{FLAG_ROOM, HALFEDGE_ROOM, OUTPUT_ROOM, POSITION_ROOM, TANGENT_ROOM};
 use std::io;
 use std::io::{Read, Write};
