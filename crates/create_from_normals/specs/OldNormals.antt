@@ -1,4 +1,4 @@
--- Making from normals where each halfedge's row holds the three numbers that the halfedge had of its own before there were rows: what an accepted call leaves and counts then. O is the list of these numbers, three at each halfedge's own place; the other letters are those of `FromNormals`.
+-- Making from normals where each halfedge's row holds the three numbers that the halfedge had of its own before there were rows (docs/changes/01-rows.md): what an accepted call leaves and counts then. O is the list of these numbers, three at each halfedge's own place; the other letters are those of `FromNormals`.
 use Rattle.std.specs.Prelude.{ℕ, ◌<◌, ◌≡◌, List, Bool, ℤ, Float}
 use Rattle.mesh.specs.Mesh.{Halfedges, as_halfedges}
 use Rattle.smoothing.specs.Lists.{point_at}
