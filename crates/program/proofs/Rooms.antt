@@ -3,7 +3,7 @@ use Prim.Native.Nat.{ℕ, ◌<◌, ◌≤◌}
 use native.Mathlib.Omega.{arith}
 use mathlib.Core.Path.{◌≡◌, refl, ap, ◌∙◌}
 use mathlib.Core.Bool.{true, cond}
-use borrow.Author.Tests.{le-leb, lt-leb}
+use borrow.Author.Tests.{lt-leb}
 use mathlib.Core.List.{List, []}
 use lib.ListN.{length, take}
 use Rattle.std.specs.Prelude.{Result, Ok, Err}
@@ -17,7 +17,7 @@ use Rattle.program_lines.specs.Lines.{printed}
 use Rattle.program_lines.proofs.Put.{put_front}
 use Rattle.program_lines.proofs.Lengths.{lines_length}
 use Rattle.program_operations.proofs.Lengths.{operation_length}
-use Rattle.program.specs.Program.{positions_of, halfedges_of, tangents_of, normals_of, flags_of, lines_for, output_of, position_room, halfedge_room, tangent_room, flag_room, output_room, has_room, Room, FitsRooms, RoomsSuffice}
+use Rattle.program.specs.Program.{positions_of, halfedges_of, tangents_of, normals_of, flags_of, lines_for, output_of, position_room, halfedge_room, tangent_room, flag_room, output_room, has_room, FitsRooms, RoomsSuffice}
 
 module _ (s : List ℕ) where
   counts_fit : (i : Input) → parse_input s ≡ Ok i → FitsRooms i.counts.points i.counts.halfedges
@@ -43,27 +43,17 @@ module _ (s : List ℕ) where
 pub rooms_suffice_lem : RoomsSuffice
 rooms_suffice_lem s = (counts_fit s, output_fits s)
 
--- ---- lists of at least these lengths
+-- ---- lists of these lengths
 
-module _ (positions halfedges tangents normals flags current desired out : ℕ) (w : Room positions halfedges tangents normals flags current desired) (h : output_room ≤ out) where
-  have_room : has_room positions halfedges tangents normals flags current desired out ≡ true
-  unfolding has_room
-  have_room =
-      rw (
-        le-leb position_room positions w.positions_in,
-        le-leb halfedge_room halfedges w.halfedges_in,
-        le-leb tangent_room tangents w.tangents_in,
-        le-leb position_room normals w.normals_in,
-        le-leb flag_room flags w.flags_in,
-        le-leb flag_room current w.current_in,
-        le-leb flag_room desired w.desired_in,
-        le-leb output_room out h,
-      )
+have_room : has_room position_room halfedge_room tangent_room position_room flag_room flag_room flag_room output_room ≡ true
+unfolding has_room
+have_room = refl
 
-  -- what `answer` leaves at the front of the list for the output
-  pub output_in_front : (s before after : List ℕ) (size : ℕ) →
-      Put before 0 (cond (has_room positions halfedges tangents normals flags current desired out) (output_of s) []) after size → take size after ≡ output_of s
-  output_in_front s before after size put = put_front put ∙ ap (λ b. cond b (output_of s) []) have_room
+-- what `answer` leaves at the front of the list for the output
+pub output_in_front : (s before after : List ℕ) (size : ℕ) →
+    Put before 0 (cond (has_room position_room halfedge_room tangent_room position_room flag_room flag_room flag_room output_room) (output_of s) []) after size →
+    take size after ≡ output_of s
+output_in_front s before after size put = put_front put ∙ ap (λ b. cond b (output_of s) []) have_room
 
 -- ---- the longest inputs
 

@@ -40,22 +40,22 @@ tangents 6\n\
 5 bff0000000000000 8000000000000000 8000000000000000 3ff0000000000000\n\
 ";
 
-// Interrupts every second call, and fails once so many have passed.
+// The faults of a stream: every second call is interrupted, and after so many others each one fails.
 #[derive(Drop)]
-struct Gate {
+struct Faults {
     is_interrupted: bool,
     left: usize,
 }
 
-impl Gate {
-    fn new(left: usize) -> Gate {
-        Gate {
+impl Faults {
+    fn new(left: usize) -> Faults {
+        Faults {
             is_interrupted: false,
             left,
         }
     }
 
-    fn pass(&mut self) -> io::Result<()> {
+    fn next_call(&mut self) -> io::Result<()> {
         self.is_interrupted = !self.is_interrupted;
         if self.is_interrupted {
             return Err(io::Error::from(ErrorKind::Interrupted));
@@ -71,12 +71,12 @@ impl Gate {
 #[derive(Drop)]
 struct Source<'a> {
     rest: &'a [u8],
-    gate: Gate,
+    faults: Faults,
 }
 
 impl Read for Source<'_> {
     fn read(&mut self, buf: &mut [u8]) -> io::Result<usize> {
-        self.gate.pass()?;
+        self.faults.next_call()?;
         let len = buf.len().min(1);
         self.rest.read(&mut buf[..len])
     }
@@ -85,19 +85,19 @@ impl Read for Source<'_> {
 #[derive(Drop)]
 struct Sink {
     taken: Vec<u8>,
-    gate: Gate,
+    faults: Faults,
 }
 
 impl Write for Sink {
     fn write(&mut self, buf: &[u8]) -> io::Result<usize> {
-        self.gate.pass()?;
+        self.faults.next_call()?;
         let len = buf.len().min(1);
         self.taken.write(&buf[..len])
     }
 
     // Fails where the next write would.
     fn flush(&mut self) -> io::Result<()> {
-        if self.gate.left == 0 {
+        if self.faults.left == 0 {
             return Err(io::Error::from(ErrorKind::Other));
         }
         Ok(())
@@ -112,11 +112,11 @@ fn run_between(
 ) -> (Result<(), StreamError>, Vec<u8>) {
     let mut source = Source {
         rest: &INPUT,
-        gate: Gate::new(read),
+        faults: Faults::new(read),
     };
     let mut sink = Sink {
         taken: Vec::new(rt.alloc()),
-        gate: Gate::new(written),
+        faults: Faults::new(written),
     };
     let result = run(&mut source, &mut sink);
     (result, sink.taken)
