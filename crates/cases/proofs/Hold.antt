@@ -43,4 +43,4 @@ spreads = tt
 
 pub lines_hold : LinesHold
 unfolding floats meshes calls spreads
-lines_hold = refl
+lines_hold = record { each = refl; none_left_out = refl }

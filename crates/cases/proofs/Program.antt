@@ -42,4 +42,4 @@ records_hold = record {
 
 pub output_holds : OutputHolds
 unfolding floats ascii decimal_up_to decimal hex_digit hex_up_to hex number_line numbers_line bits_field tangent_line tangent_lines tangents_lines lines_of
-output_holds = record { listing = refl; spread = refl; valid = refl; not_valid = refl; refused = refl }
+output_holds = record { spread = refl; valid = refl; not_valid = refl; refused = refl }

@@ -16,4 +16,4 @@ turns = tt
 
 pub traps_hold : TrapsHold
 unfolding floats meshes calls spreads turns
-traps_hold = refl
+traps_hold = record { each = refl; none_left_out = refl }

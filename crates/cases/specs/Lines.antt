@@ -1,5 +1,5 @@
 -- The exact lines: in each, what the definitions compute and what is stated. The stated side has literals only: numbers, records of them, floats by std's `of_bits` of their bit patterns, and fractions, where m / 2 ^ (k + 1) is `fin false m (negsuc k)`.
-use Rattle.std.specs.Prelude.{ℕ, ◌≡◌, true, false, List, [], ◌∷◌, ◌++◌, map, negsuc, Float, Ok, Err}
+use Rattle.std.specs.Prelude.{ℕ, ◌≡◌, true, false, List, [], ◌∷◌, ◌++◌, length, map, negsuc, Float, Ok, Err}
 use Rattle.std.specs.Float.{nan, fin, binary64}
 use Rattle.std.specs.Float.Ieee.{neg, of_bits}
 use Rattle.common.specs.Pillow.{points, halfedges, pillow_with, pillow, positions, straightened}
@@ -145,6 +145,10 @@ abbrev pub stated_of : List Line → List Value
 stated_of [] = []
 stated_of (l ∷ ls) = l.stated ∷ stated_of ls
 
--- THE CLAIM: each line computes what it states
+-- THE CLAIM, of a list of so many lines: each computes what it states
+pub record AllHold (ls : List Line) (count : ℕ) : Type 0 where
+  pub each : computed_of ls ≡ stated_of ls
+  pub none_left_out : length ls ≡ count
+
 abbrev pub LinesHold : Type 0
-LinesHold = computed_of lines ≡ stated_of lines
+LinesHold = AllHold lines 32

@@ -5,7 +5,7 @@ use Rattle.std.specs.Float.Ieee.{neg, of_bits}
 use Rattle.float.specs.Ops.{zero, one}
 use Rattle.mesh.specs.Mesh.{as_halfedges}
 use Rattle.distribute.specs.Distribute.{distribute_tangents, tangents_after}
-use Rattle.cases.specs.Lines.{Value, Line, counts, tangents, ◌is◌, computed_of, stated_of}
+use Rattle.cases.specs.Lines.{Value, Line, counts, tangents, ◌is◌, AllHold}
 
 -- Two squares back to back: points (0,0,0), (1,0,0), (1,1,0), (0,1,0), each square with its diagonal from point 0. Start, end, pair and row (its own number) of the halfedges 0 to 11; the round of point 0 is 0, 6, 9, 3.
 abbrev pub square : List ℤ
@@ -97,6 +97,6 @@ fixed_only = (spreading (flags 0 1) (lent one one) is counts (Ok (record { looke
 abbrev pub traps : List Line
 traps = marked_in_an_arc ++ marked_only ++ marked_at_once ++ fixed_only
 
--- THE CLAIM: each case computes what it states
+-- THE CLAIM, of these
 abbrev pub TrapsHold : Type 0
-TrapsHold = computed_of traps ≡ stated_of traps
+TrapsHold = AllHold traps 5
