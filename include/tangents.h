@@ -1,14 +1,24 @@
-/* The unit's calls for C: `rt lib` in crates/tangents_c makes out/libtangents_c.a there. docs/CALLS.md says more of each.
+/* The unit's calls for C: `rt lib` in crates/tangents_c makes out/libtangents_c.a there. docs/CALLS.md says more of each, and has
+ * the questions that a refusal names by number.
  *
- * n is the number of halfedges and p the number of points, at most 65,535 each. A list is a pointer and its length in elements;
- * lists that are written must not overlap any other. h has start, end, pair and row (the Rust's prop_vert) of each halfedge
- * (4 n); making from normals alone reads the row, in other calls it may be any number. pos has three numbers for each point
- * (3 p), t the tangents (4 n: x, y, z and the weight).
+ * n is the number of halfedges and p the number of points, at most 65,535 each. h has start, end, pair and row (the Rust's
+ * prop_vert) of each halfedge (4 n); making from normals alone reads the row, in other calls it may be any number. pos has three
+ * numbers for each point (3 p), t the tangents (4 n: x, y, z and the weight).
  *
- * Every call answers through `answer`, four numbers: the number of the first question of documents 01 and 02 that the mesh, the
- * file, or what is lent for a curve does not meet (0 if it is accepted), its lowest place, and the two numbers of an accepted
- * call, 0 where nothing is said of them below. A refused call has 0 for both, and writes nothing else. A shorter list gets as
- * many as it holds. */
+ * A list is a pointer and its length in elements. Counts, lengths, numbers and contents may be any: a call that they do not fit is
+ * refused. A list of length 0 may be NULL. Any other has as many elements as its length says, and is aligned as its element type.
+ * A list that is written, answer among them, must not overlap any other list of the call; lists that are only read may.
+ *
+ * Every call answers through `answer`, four numbers: the number of the first question that the mesh, the file, or what is lent for
+ * a curve does not meet (0 if it is accepted), its lowest place, and the two numbers of an accepted call, 0 where nothing is said
+ * of them below. A refused call has 0 for both, and writes nothing else. A shorter list gets as many as it holds, NULL with 0 none;
+ * places past the fourth stay as lent.
+ *
+ * The calls keep no pointer and nothing else, allocate nothing, and of other code call memset alone. They may run on several
+ * threads at once if none writes a list that is lent to another. tangents_read_stl takes some 853,000 bytes of the stack, so that a
+ * thread of 860,000 serves, and each other call less than 8,000. Where the stack ends earlier at a guard page, as that of a thread
+ * does, the system ends the program there by a signal. The floating-point environment has to be the default one: rounding to
+ * nearest, no traps, and subnormal numbers kept, which linking with gcc's -ffast-math changes. */
 #ifndef TANGENTS_H
 #define TANGENTS_H
 
@@ -83,14 +93,17 @@ void tangents_create_tangents_from_normals(size_t n, size_t p, const int32_t *h,
  * in h, and normals three for each triangle, the stored ones. The lists must have room for three points, three halfedges and one
  * normal for each triangle; spare places stay as lent. answer[2] is the number of halfedges and answer[3] the number of points.
  * Refused with 30 for the length or a count, 2 for the room, 31 with the lowest triangle that has a corner not finite or equal to
- * another, and 32 with the lowest halfedge whose directed edge occurs twice or has no reverse. Takes some 860 KB of the stack. */
+ * another, and 32 with the lowest halfedge whose directed edge occurs twice or has no reverse. Takes some 853,000 bytes of the
+ * stack. */
 void tangents_read_stl(const uint8_t *file, size_t file_len, double *points, size_t points_len, int32_t *halfedges,
                        size_t halfedges_len, double *normals, size_t normals_len, size_t *answer, size_t answer_len);
 
 /* A point of the curve of an edge. controls has four control points, four numbers each (16): x, y and z already times the weight,
- * and the weight; x is the parameter, 0 to 1. Writes point, six numbers: the position, and the direction there, of length 1, or
- * zero where the curve has none. Refused with 2 for another length of controls or point, and with 40 for a parameter that is not
- * a number, below 0 or above 1; the place is 0. */
+ * and the weight; x is the parameter, 0 to 1. Writes point, six numbers: the position, and the direction there, the difference of
+ * the two points of the Rust's linear segment divided by its length. The direction is of length 1 up to rounding, but zero where
+ * the difference is shorter than 1e-30, and also where it is finite and its squared length overflows, from some 1.34e154 on. Where
+ * the difference is infinite or not a number, as for infinite control points, the direction has a not-a-number. Refused with 2 for
+ * another length of controls or point, and with 40 for a parameter that is not a number, below 0 or above 1; the place is 0. */
 void tangents_curve_at(const double *controls, size_t controls_len, double x, double *point, size_t point_len, size_t *answer,
                        size_t answer_len);
 

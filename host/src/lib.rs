@@ -2,9 +2,14 @@
 //!
 //! Each wrapper lends slices; `h` has four numbers per halfedge: start, end, pair and row. The unit itself asks every question about their
 //! lengths and contents, so nothing is tested here.
+//!
+//! The header asks of a caller that each list has the length that is said and is aligned, as a slice is; that one that is written overlaps no
+//! other, as where it is lent `&mut`, or is a vector or an array of its own; and stack, without which the system ends the program. Numbers,
+//! lengths and contents may be any.
 
 pub mod case;
 pub mod drawing;
+pub mod output;
 mod refused;
 pub mod solid;
 
@@ -79,6 +84,7 @@ fn outcome(answer: [usize; 4]) -> Result<[usize; 2], Refused> {
 /// Straightening: the Rust's `linearize_flat_tangents`.
 pub fn linearize_flat_tangents(n: usize, p: usize, h: &[i32], pos: &[f64], t: &mut [f64]) -> Result<(), Refused> {
     let mut answer = [0; 4];
+    // SAFETY: each pointer and length are those of one list; those that are written, t and answer, overlap no other.
     unsafe {
         raw::tangents_linearize_flat_tangents(
             n, p, h.as_ptr(), h.len(), pos.as_ptr(), pos.len(), t.as_mut_ptr(), t.len(), answer.as_mut_ptr(), 4,
@@ -90,6 +96,7 @@ pub fn linearize_flat_tangents(n: usize, p: usize, h: &[i32], pos: &[f64], t: &m
 /// The mark check: the Rust's `valid_tangents`.
 pub fn valid_tangents(n: usize, p: usize, h: &[i32], pos: &[f64], t: &[f64]) -> Result<bool, Refused> {
     let mut answer = [0; 4];
+    // SAFETY: each pointer and length are those of one list; the one that is written, answer, overlaps no other.
     unsafe {
         raw::tangents_valid_tangents(n, p, h.as_ptr(), h.len(), pos.as_ptr(), pos.len(), t.as_ptr(), t.len(), answer.as_mut_ptr(), 4);
     }
@@ -112,6 +119,8 @@ fn listed_by(
     raw: RawListing, n: usize, p: usize, h: &[i32], normals: &[f64], angle: f64, smooth: f64, halfedges: &mut [usize], smoothness: &mut [f64],
 ) -> Result<Listed, Refused> {
     let mut answer = [0; 4];
+    // SAFETY: each pointer and length are those of one list; those that are written, halfedges, smoothness and answer, overlap no
+    // other. Both listings have these parameters.
     unsafe {
         raw(
             n, p, h.as_ptr(), h.len(), normals.as_ptr(), normals.len(), angle, smooth, halfedges.as_mut_ptr(), halfedges.len(),
@@ -129,7 +138,7 @@ pub fn sharpen_edges(
     listed_by(raw::tangents_sharpen_edges, n, p, h, normals, angle, smooth, halfedges, smoothness)
 }
 
-/// The clean crease listing, request 6 of document 02: the ported one without the edges that touch a face normal whose numbers are all zero.
+/// The clean crease listing (docs/changes/06-clean-listing.md): the ported one without the edges that touch a face normal whose numbers are all zero.
 #[allow(clippy::too_many_arguments)]
 pub fn sharpen_edges_clean(
     n: usize, p: usize, h: &[i32], normals: &[f64], angle: f64, smooth: f64, halfedges: &mut [usize], smoothness: &mut [f64],
@@ -150,6 +159,7 @@ pub fn distribute_tangents(
     n: usize, p: usize, h: &[i32], pos: &[f64], normals: &[f64], flags: &[u8], t: &mut [f64], current: &mut [f64], desired: &mut [f64],
 ) -> Result<Counts, Refused> {
     let mut answer = [0; 4];
+    // SAFETY: each pointer and length are those of one list; those that are written, t, current, desired and answer, overlap no other.
     unsafe {
         raw::tangents_distribute_tangents(
             n, p, h.as_ptr(), h.len(), pos.as_ptr(), pos.len(), normals.as_ptr(), normals.len(), flags.as_ptr(), flags.len(),
@@ -166,6 +176,7 @@ pub fn preview_tangents(
     n: usize, p: usize, h: &[i32], pos: &[f64], normals: &[f64], flags: &[u8], t: &[f64], bytes: &mut [u8],
 ) -> Result<Counts, Refused> {
     let mut answer = [0; 4];
+    // SAFETY: each pointer and length are those of one list; those that are written, bytes and answer, overlap no other.
     unsafe {
         raw::tangents_preview_tangents(
             n, p, h.as_ptr(), h.len(), pos.as_ptr(), pos.len(), normals.as_ptr(), normals.len(), flags.as_ptr(), flags.len(),
@@ -214,6 +225,7 @@ pub fn create_tangents(
 ) -> Result<Made, Refused> {
     let mut answer = [0; 4];
     let s = scratch;
+    // SAFETY: each pointer and length are those of one list; those that are written, t, the six scratch vectors and answer, overlap no other.
     unsafe {
         raw::tangents_create_tangents(
             n, p, h.as_ptr(), h.len(), pos.as_ptr(), pos.len(), normals.as_ptr(), normals.len(), face_normals.as_ptr(), face_normals.len(),
@@ -259,6 +271,7 @@ pub fn create_tangents_from_normals(
 ) -> Result<Made, Refused> {
     let mut answer = [0; 4];
     let s = scratch;
+    // SAFETY: each pointer and length are those of one list; those that are written, t, the five scratch vectors and answer, overlap no other.
     unsafe {
         raw::tangents_create_tangents_from_normals(
             n, p, h.as_ptr(), h.len(), pos.as_ptr(), pos.len(), normals.as_ptr(), normals.len(), face_normals.as_ptr(), face_normals.len(),
@@ -277,11 +290,13 @@ pub struct MeshCounts {
     pub points: usize,
 }
 
-/// Taking binary STL, request 5 of document 02: three numbers per point, four per halfedge and the stored normal of each triangle. The lists
+/// Taking binary STL (docs/changes/05-stl.md): three numbers per point, four per halfedge and the stored normal of each triangle. The lists
 /// need room for three points, three halfedges and one normal per triangle; places past the mesh stay as lent, all of them where the file is
-/// refused. The call takes some 860 KB of the stack.
+/// refused. The call takes some 853,000 bytes of the stack.
 pub fn read_stl(file: &[u8], points: &mut [f64], halfedges: &mut [i32], normals: &mut [f64]) -> Result<MeshCounts, Refused> {
     let mut answer = [0; 4];
+    // SAFETY: each pointer and length are those of one list; those that are written, points, halfedges, normals and answer, overlap no other.
+    // Where the stack is too small the system ends the program, before anything past it is written.
     unsafe {
         raw::tangents_read_stl(
             file.as_ptr(), file.len(), points.as_mut_ptr(), points.len(), halfedges.as_mut_ptr(), halfedges.len(),
@@ -294,7 +309,10 @@ pub fn read_stl(file: &[u8], points: &mut [f64], halfedges: &mut [i32], normals:
 /// A control point of a curve: x, y and z already times the weight, and the weight.
 pub type Control = [f64; 4];
 
-/// A point of a curve: where it is, and the direction of the curve there, which is zero where it has none.
+/// A point of a curve: where it is, and the direction there, the difference of the two points of the Rust's linear segment divided by its length.
+/// The direction is of length 1 up to rounding, but zero where the difference is shorter than 1e-30, and also where it is finite and its squared
+/// length overflows, from some 1.34e154 on. Where the difference is infinite or not a number, as for infinite control points, the direction has a
+/// not-a-number.
 #[derive(Clone, Copy, Debug, PartialEq)]
 pub struct CurvePoint {
     pub position: [f64; 3],
@@ -304,6 +322,7 @@ pub struct CurvePoint {
 /// Position and direction at a parameter, 0 to 1: `cubic_bezier_2_linear`, `bezier_point` and `bezier_tangent` of the Rust's src/interp_tri.rs.
 pub fn curve_at(controls: &[Control; 4], x: f64) -> Result<CurvePoint, Refused> {
     let (controls, mut point, mut answer) = (controls.as_flattened(), [0.0; 6], [0; 4]);
+    // SAFETY: each pointer and length are those of one list; those that are written, point and answer, overlap no other.
     unsafe {
         raw::tangents_curve_at(controls.as_ptr(), controls.len(), x, point.as_mut_ptr(), point.len(), answer.as_mut_ptr(), 4);
     }
@@ -314,6 +333,7 @@ pub fn curve_at(controls: &[Control; 4], x: f64) -> Result<CurvePoint, Refused> 
 /// 2 to 256 points along a curve, three numbers each: point i at the parameter i/(count - 1). The list stays as lent where the call is refused.
 pub fn curve_points(controls: &[Control; 4], count: usize, points: &mut [f64]) -> Result<(), Refused> {
     let (controls, mut answer) = (controls.as_flattened(), [0; 4]);
+    // SAFETY: each pointer and length are those of one list; those that are written, points and answer, overlap no other.
     unsafe {
         raw::tangents_curve_points(controls.as_ptr(), controls.len(), count, points.as_mut_ptr(), points.len(), answer.as_mut_ptr(), 4);
     }

@@ -42,6 +42,7 @@ fn list_refused(count: usize, room: usize) -> usize {
 /// The answer of the C function for one point with so many control numbers and places. Where it refuses, the list has to stay as it was lent.
 fn raw_point(numbers: usize, x: f64, room: usize) -> [usize; 4] {
     let (controls, mut point, mut answer) = (lent(numbers), lent(room), [7; 4]);
+    // SAFETY: each pointer and length are those of one list of this function's own.
     unsafe { tangents_curve_at(controls.as_ptr(), numbers, x, point.as_mut_ptr(), room, answer.as_mut_ptr(), 4) };
     assert_eq!(answer[0] != 0, point == lent(room));
     answer
@@ -50,6 +51,7 @@ fn raw_point(numbers: usize, x: f64, room: usize) -> [usize; 4] {
 /// The same for a list of points.
 fn raw_points(numbers: usize, count: usize, room: usize) -> [usize; 4] {
     let (controls, mut points, mut answer) = (lent(numbers), lent(room), [7; 4]);
+    // SAFETY: as in `raw_point`.
     unsafe { tangents_curve_points(controls.as_ptr(), numbers, count, points.as_mut_ptr(), room, answer.as_mut_ptr(), 4) };
     assert_eq!(answer[0] != 0, points == lent(room));
     answer
@@ -86,6 +88,24 @@ fn one_point_is_that_of_the_list() {
 fn point_without_direction() {
     let one_place = [[1.0, 2.0, 3.0, 1.0]; 4];
     assert_eq!(curve_at(&one_place, 0.5), Ok(CurvePoint { position: [1.0, 2.0, 3.0], direction: [0.0; 3] }));
+}
+
+/// The direction at the start of a curve that goes there by (x, 0, 0) to its second control point.
+fn first_direction(x: f64) -> [f64; 3] {
+    curve_at(&[[0.0, 0.0, 0.0, 1.0], [x, 0.0, 0.0, 1.0], [x, 0.0, 0.0, 1.0], [x, 0.0, 0.0, 1.0]], 0.0).expect("accepted").direction
+}
+
+#[test]
+fn direction_of_a_difference_too_short_or_too_long() {
+    for (x, along) in [(1e-300, 0.0), (9e-31, 0.0), (1.1e-30, 1.0), (1e154, 1.0), (1.34e154, 1.0), (1.341e154, 0.0), (1e200, 0.0), (-1e200, -0.0), (-2.0, -1.0)] {
+        assert_eq!(first_direction(x).map(f64::to_bits), [along, 0.0, 0.0].map(f64::to_bits), "{x}");
+    }
+    for x in [f64::INFINITY, f64::NEG_INFINITY, f64::NAN] {
+        assert!(first_direction(x)[0].is_nan(), "{x}");
+    }
+    // finite control points: the division by a weight gives an infinite point
+    let far = curve_at(&[[0.0, 0.0, 0.0, 1.0], [1e200, 1.0, 0.0, 1e-200], [0.0; 4], [0.0; 4]], 0.0).expect("accepted").direction;
+    assert!(far[0].is_nan() && far[1] == 0.0 && far[2] == 0.0, "{far:?}");
 }
 
 #[test]

@@ -1,5 +1,5 @@
--- Every line of document 01 that is marked (P) holds: what the definitions compute is what it states. antt computes both lists. Assumes nothing.
-use mathlib.Core.Path.{◌≡◌, refl}
+-- Each exact line computes what it states. antt computes both lists. Assumes nothing.
+use mathlib.Core.Path.{refl}
 use lib.Ieee.{add, sub, mul, div, neg, lt, le, eq, ne, round, of_bits, to_bits}
 use Rattle.float.specs.F64.{max_of, is_finite}
 use Rattle.sqrt.specs.Sqrt.{square_root}
@@ -22,7 +22,7 @@ use Rattle.cycles.specs.Cycles.{next_around}
 use Rattle.distribute_spread.specs.Spread.{first_walk, fixed_from, pass, second_walk, spread, spread_from, spread_on, walks_from}
 use Rattle.distribute_steps.specs.FloatSteps.{begin, next_normal, gather_edge, turns_none, tangent_direction}
 use Rattle.distribute.specs.Distribute.{check_lists}
-use Rattle.cases.specs.Lines.{lines, computed_of, stated_of}
+use Rattle.cases.specs.Lines.{LinesHold}
 
 -- what the lines compute with
 unfoldable pub floats : Unit {0}
@@ -41,6 +41,6 @@ unfoldable pub spreads : Unit {0}
 unfolding check_flags check_lists first_walk fixed_from pass second_walk spread spread_from spread_on walks_from begin next_normal gather_edge turns_none tangent_direction cross_of next_around
 spreads = tt
 
-pub lines_hold : computed_of lines ≡ stated_of lines
+pub lines_hold : LinesHold
 unfolding floats meshes calls spreads
-lines_hold = refl
+lines_hold = record { each = refl; none_left_out = refl }

@@ -1,3 +1,2 @@
 -- The laws of `create`: those that the crates above cite are public.
 pub mod Accepted
-mod Pillow

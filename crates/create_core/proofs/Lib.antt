@@ -1,5 +1,4 @@
 -- The laws of `create_core`: those that the crates above cite are public.
 mod Shape
-mod Pillow
 mod Core
 pub mod Filled

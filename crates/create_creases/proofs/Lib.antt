@@ -4,4 +4,3 @@ pub mod Creases
 pub mod Linked
 pub mod Points
 pub mod Verts
-mod Pillow

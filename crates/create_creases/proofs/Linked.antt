@@ -13,7 +13,7 @@ use lib.Ieee.{Float}
 use borrow.Author.Tests.{eq-eqb, ne_eqb, le-leb, lt-leb}
 use Rattle.mesh.specs.Mesh.{start_vert, paired_halfedge, Halfedges}
 use Rattle.mesh.specs.Sound.{Sound}
-use Rattle.create_creases.specs.declared.Crease.TheVariants.{NoCrease, OneEnd, Through, Meeting}
+use Rattle.create_creases.specs.declared.Crease.TheVariants.{NoCrease, OneEnd, Meeting}
 use Rattle.create_edges.specs.Smoothness.{is_crease, pair_at}
 use Rattle.create_creases.specs.Creases.{through_of, sums_of, mean_of, crease_of}
 use Rattle.create_creases.specs.Linked.{add_halfedge, add_crease, creases_from, Linked, halfedge_of}
@@ -131,7 +131,7 @@ module _ (L : List ℕ) {n end : ℕ} (low : end ≤ n) where
           let t = linked_some next second (drop 1 l) s.1 j in
           (s.0 ∙ ap (λ (t : List ℕ). first ∷ t) t.0, t.1)
 
-      pub crease_through : get_or L second 0 ≤ n → Through (through_of (pair_at H S first) (pair_at H S second)) ≡ crease_of (map (pair_at H S) l)
+      pub crease_through : get_or L second 0 ≤ n → through_of (pair_at H S first) (pair_at H S second) ≡ crease_of (map (pair_at H S) l)
       unfolding crease_of
       crease_through k =
           let e : drop 1 (drop 1 l) ≡ [] = linked_none (get_or L second 0) (drop 1 (drop 1 l)) two_creases.1 k in

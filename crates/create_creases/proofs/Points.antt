@@ -9,7 +9,6 @@ use Rattle.mesh.specs.Mesh.{start_vert, as_halfedges, Halfedges}
 use Rattle.mesh.specs.Sound.{Sound}
 use Rattle.create_shared.specs.Faces.{vert_halfedge}
 use Rattle.create_shared.proofs.Verts.{vert_halfedge_within}
-use Rattle.create_creases.specs.declared.CreaseThrough.{CreaseThrough}
 use Rattle.create_creases.specs.declared.Crease.TheVariants.{NoCrease, OneEnd, Through, Meeting}
 use Rattle.create_creases.specs.declared.Sums.{Sums}
 use Rattle.create_edges.specs.Smoothness.{pair_at}
@@ -65,8 +64,8 @@ module _ (C : LinkedCreases) (v : ℕ) (h : v < length C.at.now) where
           linked_in L (vert_halfedge_within H n v) (λ e. e < n) next second (drop 1 (creases_at H S n v)) (linked_some L (vert_halfedge_within H n v) code first (creases_at H S n v) here (omega arith)).1
           (all_tail (λ e. e < n) (creases_at H S n v) (creases_below C.lists.sound S v)) (omega arith)
 
-      pub point_through : get_or L second 0 ≤ n → (t : CreaseThrough) → t ≡ through_of (pair_at H S first) (pair_at H S second) → Through t ≡ crease_of (pairs_at H S n v)
-      point_through i t e = rw e (crease_through L (vert_halfedge_within H n v) H S code first (creases_at H S n v) here (omega arith) second (omega arith) i)
+      pub point_through : get_or L second 0 ≤ n → through_of (pair_at H S first) (pair_at H S second) ≡ crease_of (pairs_at H S n v)
+      point_through i = crease_through L (vert_halfedge_within H n v) H S code first (creases_at H S n v) here (omega arith) second (omega arith) i
 
       pub point_meeting : n < get_or L second 0 → (m : Float) (r : Sums) → m ≡ mean_of r → r ≡ sums_of (pairs_at H S n v) → Meeting m ≡ crease_of (pairs_at H S n v)
       point_meeting i m r e d = rw (e, d) (crease_meeting L (vert_halfedge_within H n v) H S code first (creases_at H S n v) here (omega arith) second (omega arith) i)
@@ -81,12 +80,12 @@ module _ (H : Halfedges) (S : List Float) where
   none_is (a ∷ b ∷ []) e = let z : ◌≡◌ {A = ℕ} 0 1 = cc in absurd (omega arith)
   none_is (a ∷ b ∷ c ∷ l) e = let z : ◌≡◌ {A = ℕ} 0 1 = cc in absurd (omega arith)
 
-  through_is : (l : List ℕ) (t : CreaseThrough) → crease_of (map (pair_at H S) l) ≡ Through t → l ≡ t.first ∷ t.second ∷ []
+  through_is : (l : List ℕ) (a b : ℕ) (x y : Float) → crease_of (map (pair_at H S) l) ≡ Through a b x y → l ≡ a ∷ b ∷ []
   unfolding crease_of through_of
-  through_is [] t e = let z : ◌≡◌ {A = ℕ} 0 1 = cc in absurd (omega arith)
-  through_is (c ∷ []) t e = let z : ◌≡◌ {A = ℕ} 0 1 = cc in absurd (omega arith)
-  through_is (c ∷ d ∷ []) t e = let z : through_of (pair_at H S c) (pair_at H S d) ≡ t = cc in rw (← z)
-  through_is (c ∷ d ∷ f ∷ l) t e = let z : ◌≡◌ {A = ℕ} 0 1 = cc in absurd (omega arith)
+  through_is [] a b x y e = let z : ◌≡◌ {A = ℕ} 0 1 = cc in absurd (omega arith)
+  through_is (c ∷ []) a b x y e = let z : ◌≡◌ {A = ℕ} 0 1 = cc in absurd (omega arith)
+  through_is (c ∷ d ∷ []) a b x y e = cc
+  through_is (c ∷ d ∷ f ∷ l) a b x y e = let z : ◌≡◌ {A = ℕ} 0 1 = cc in absurd (omega arith)
 
   meeting_is : (l : List ℕ) (m : Float) → crease_of (map (pair_at H S) l) ≡ Meeting m → 0 < length l
   unfolding crease_of through_of
@@ -111,9 +110,9 @@ module _ {H : Halfedges} {n p : ℕ} (s : Sound H n p) (S : List Float) (v : ℕ
       go (a ∷ l) h = refl
 
   -- a crease through the point: both are halfedges that start there
-  pub through_in : (t : CreaseThrough) → crease_of (pairs_at H S n v) ≡ Through t → (t.first < n) × (t.second < n) × (start_vert H t.first ≡ v) × (start_vert H t.second ≡ v)
-  through_in t e =
-      let all : All (λ g. (g < n) × (start_vert H g ≡ v)) (t.first ∷ t.second ∷ []) = subst (All (λ g. (g < n) × (start_vert H g ≡ v))) (through_is H S (creases_at H S n v) t e) (creases_in s S v) in
+  pub through_in : (a b : ℕ) (x y : Float) → crease_of (pairs_at H S n v) ≡ Through a b x y → (a < n) × (b < n) × (start_vert H a ≡ v) × (start_vert H b ≡ v)
+  through_in a b x y e =
+      let all : All (λ g. (g < n) × (start_vert H g ≡ v)) (a ∷ b ∷ []) = subst (All (λ g. (g < n) × (start_vert H g ≡ v))) (through_is H S (creases_at H S n v) a b x y e) (creases_in s S v) in
       (all.0.0, all.1.0.0, all.0.1, all.1.0.1)
 
   -- a meeting: the first is one too

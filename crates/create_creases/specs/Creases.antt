@@ -6,7 +6,6 @@ use Rattle.float.specs.Ops.{◌⊕◌, ◌⊘◌, zero as 0f, one, two}
 use Rattle.mesh.specs.Mesh.{start_vert, Halfedges}
 use Rattle.common.specs.Fold.{fold_to}
 use Rattle.create_edges.specs.Edges.{push, Pair, pair_of, Entry, absent, present}
-use Rattle.create_creases.specs.declared.CreaseThrough.{CreaseThrough}
 use Rattle.create_creases.specs.declared.Crease.{Crease}
 use Rattle.create_creases.specs.declared.Crease.TheVariants.{NoCrease, OneEnd, Through, Meeting}
 use Rattle.create_creases.specs.declared.Sums.{Sums}
@@ -30,13 +29,10 @@ vert_tangents H edges n = fold_to (λ vert f. push_edge H vert (edges f)) (λ v.
 -- ---- two pairs: a crease through the point
 
 -- `first` and `second`, and `smoothness`, which is that of the walk around from the first to the second, and then that from the second on
-unfoldable pub through_of : Pair → Pair → CreaseThrough
-through_of a b = record {
-  first = a.own.halfedge;
-  second = b.own.halfedge;
-  between = (a.other.smoothness ⊕ b.own.smoothness) ⊘ two;
-  beyond = (b.other.smoothness ⊕ a.own.smoothness) ⊘ two;
-}
+unfoldable pub through_of : Pair → Pair → Crease
+through_of a b =
+    Through a.own.halfedge b.own.halfedge
+    ((a.other.smoothness ⊕ b.own.smoothness) ⊘ two) ((b.other.smoothness ⊕ a.own.smoothness) ⊘ two)
 
 -- ---- more pairs: a meeting, with the sum of the smoothness of all sides, divided by the number of those that are not 0
 
@@ -59,7 +55,7 @@ mean_of m = cond (lt 0f m.denom) (m.smoothness ⊘ m.denom) m.smoothness
 unfoldable pub crease_of : List Pair → Crease
 crease_of [] = NoCrease
 crease_of (a ∷ []) = OneEnd
-crease_of (a ∷ b ∷ []) = Through (through_of a b)
+crease_of (a ∷ b ∷ []) = through_of a b
 crease_of (a ∷ b ∷ c ∷ l) = Meeting (mean_of (sums_of (a ∷ b ∷ c ∷ l)))
 
 -- `vert[0].0.halfedge`, which is asked for at a meeting alone; 0 where there is no pair

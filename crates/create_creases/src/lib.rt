@@ -17,23 +17,21 @@ mod linked_creases;
 
 pub use linked_creases::LinkedCreases;
 
-// A crease through a point: its two halfedges and the smoothness of either side, around from the first to the second and from the
-// second on.
-#[derive(Clone, Copy)]
-pub struct CreaseThrough {
-    pub first: usize,
-    pub second: usize,
-    pub between: f64,
-    pub beyond: f64,
-}
-
-// What the creases are to a point: none; the end of one; one through it; or a meeting of more, with the mean smoothness.
+// What the creases are to a point: none; the end of one; one through it, with its two halfedges and the smoothness of either side,
+// around from the first to the second and from the second on; or a meeting of more, with the mean smoothness.
 #[derive(Clone, Copy)]
 pub enum Crease {
     NoCrease,
     OneEnd,
-    Through(CreaseThrough),
-    Meeting { mean: f64 },
+    Through {
+        first: usize,
+        second: usize,
+        between: f64,
+        beyond: f64,
+    },
+    Meeting {
+        mean: f64,
+    },
 }
 
 // Over the sides of creases: the sum of their smoothness, and how many are not 0.
@@ -168,13 +166,13 @@ fn mean(sums: Sums) -> f64
 
 // A crease through a point, of the halfedges `first` and `second`.
 #[tactic(auto, unfolding(crate::specs::Creases::through_of), using(crate::proofs::Lent::sides_in))]
-fn through(creases: &LinkedCreases<'_>, first: usize, second: usize) -> CreaseThrough
+fn through(creases: &LinkedCreases<'_>, first: usize, second: usize) -> Crease
     requires { (first < creases.now.n) × (second < creases.now.n) }
     ensures { result ≡ through_of (pair_by creases.now first) (pair_by creases.now second) }
 {
     let h = creases.h;
     let smooth = creases.smooth;
-    CreaseThrough {
+    Crease::Through {
         first: first,
         second: second,
         between: (create_edges::pair_smoothness(h, smooth, first) + smooth[second]) / 2.0,
@@ -196,7 +194,7 @@ pub fn crease_at(creases: &LinkedCreases<'_>, v: usize) -> Crease
         return Crease::OneEnd;
     };
     if creases.link[second] <= n {
-        return Crease::Through(through(creases, first, second));
+        return through(creases, first, second);
     }
     Crease::Meeting {
         mean: mean(crease_sums(creases, v)),

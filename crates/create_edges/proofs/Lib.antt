@@ -1,4 +1,3 @@
 -- The laws of `create_edges`: those that the crates above cite are public.
 pub mod Boundaries
 pub mod Edges
-mod Pillow

@@ -1,2 +1,3 @@
--- The laws of `create_from_normals`, for the crates above.
-pub mod Accepted
+-- The laws of `create_from_normals`.
+mod Accepted
+mod OldNormals

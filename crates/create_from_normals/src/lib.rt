@@ -2,14 +2,16 @@
 // questions, and then `normals_core`.
 #![tactic(auto)]
 
-ghost use Rattle.std.specs.Prelude.{◌≡◌, ◌*◌, ◌≤◌, length, replicate};
+ghost use Rattle.std.specs.Prelude.{◌≡◌, ◌*◌, ◌≤◌, length, replicate, IfOk, OnOk};
 ghost use Rattle.float.specs.Ops.{zero};
 ghost use Rattle.mesh.specs.Mesh.{as_halfedges};
 ghost use Rattle.mesh.specs.Check.{when_accepted};
 ghost use Rattle.create_shared.specs.Answer.{directionless_of, checked_of, Values};
 ghost use Rattle.normals_state.specs.State.{get_normal};
 ghost use Rattle.normals_core.specs.Core.{from_normals_directionless};
+ghost use Rattle.normals_weights.specs.Weights.{Weights};
 ghost use Rattle.create_from_normals.specs.FromNormals.{lists_fit, scratch_fits, check_normals, check_lists, tangents_after, create_answer};
+ghost use Rattle.create_from_normals.specs.OldNormals.{OldTangents, OldCount};
 
 use create_shared::MeshLists;
 use mesh::Refusal;
@@ -82,6 +84,8 @@ fn check_normals(
 // `face_normals` and `refs` three for each triangle, `rows` three for each row: the normal of the corners whose halfedges have
 // this row, 0 where it is missing. With `old` the tangents t hold the old ones. Of the scratch lists `first` has a place for
 // each point, each other one for each halfedge. The answer counts the circular tangents on an edge without direction.
+// After an accepted call each weight is -1, 0 in a further vertex cycle of a point, or that of a circular tangent, and none is -3.
+// Where each halfedge's row holds the three numbers that it had of its own, tangents and count are those of before there were rows.
 // The lists are lent flat, counts first, then those read, written and scratch: the form of the C interface and of all makings.
 // Those read have one lifetime, as a struct that stands in another needs it; a call may lend them for different ones.
 pub fn create_tangents_from_normals<'a>(
@@ -110,6 +114,9 @@ pub fn create_tangents_from_normals<'a>(
     ensures first { first.new ≡ when_accepted (checked_of result) (replicate p 0) first.old }
     ensures bound { directionless_of result ≤ 3 * n }
     ensures values { Values (check_lists h.now pos.now normals.now face_normals.now refs.now rows.now t.old fixed.old inside.old current.old desired.old first.old n p) (from_normals_directionless (as_halfedges h.now) pos.now normals.now face_normals.now refs.now (get_normal h.now rows.now) t.old old n p) result }
+    ensures weights { OnOk result (Weights (as_halfedges h.now) pos.now t.new n) }
+    ensures old_tangents { OnOk result (OldTangents h.now pos.now normals.now face_normals.now refs.now rows.now t.old old n p t.new) }
+    ensures old_count { IfOk result (OldCount h.now pos.now normals.now face_normals.now refs.now rows.now t.old old n p) }
 {
     let lists = lists_fit(
         n,

@@ -8,16 +8,16 @@ use Rattle.smoothing.specs.Directions.{directionless, circular_tangent}
 use Rattle.smoothing.specs.Lists.{put_tangent}
 use Rattle.smoothing.specs.Edges.{edge_vec}
 
--- ---- what the lists must be for a call
+-- ---- what the lists must be for a call: only inner contracts cite these
 
--- a sound mesh, and a tangent for each of its n halfedges
+-- an inner record: a sound mesh, and a tangent for each of its n halfedges
 pub record TangentsIn (H : Halfedges) (T : List Float) (n : ℕ) : Type 0 where
   pub points : ℕ
   pub sound : Sound H n points
   pub whole : H.numbers ≡ n * halfedge_stride
   pub tangents : length T ≡ n * 4
 
--- a position for each point, a tangent and a fixed flag for each halfedge
+-- an inner record: a position for each point, a tangent and a fixed flag for each halfedge
 pub record MakingIn (H : Halfedges) (P T : List Float) (X : List ℕ) (n : ℕ) : Type 0 where
   pub tangents : TangentsIn H T n
   pub positions : length P ≡ tangents.points * 3

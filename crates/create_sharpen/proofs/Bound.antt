@@ -30,10 +30,10 @@ module _ {H : Halfedges} {n p : ℕ} (s : Sound H n p) (P S : List Float) where
       go : (k : Crease) → crease_of (pairs_at H S n v) ≡ k → crease_directionless H P k ≤ count_below (starts_at H v) n
       go NoCrease e = omega arith
       go OneEnd e = omega arith
-      go (Through c) e =
-          let t = through_in s S v c e in
-          let two : 2 ≤ count_below (starts_at H v) n = subst (λ (u : ℕ). 2 ≤ count_below (starts_at H u) n) t.2 (starts_two c.first t.0) in
-          omega (arith, two, aligned_two H P c.first c.second)
+      go (Through a b x y) e =
+          let t = through_in s S v a b x y e in
+          let two : 2 ≤ count_below (starts_at H v) n = subst (λ (u : ℕ). 2 ≤ count_below (starts_at H u) n) t.2 (starts_two a t.0) in
+          omega (arith, two, aligned_two H P a b)
       go (Meeting m) e = omega arith
 
   pub creases_within : creases_directionless H P (pairs_at H S n) p ≤ n

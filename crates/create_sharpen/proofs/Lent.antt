@@ -23,7 +23,7 @@ module _ {H : Halfedges} {n p : ℕ} (s : Sound H n p) where
   pub crease_in : (S : List Float) (v first : ℕ) (k : Crease) → first ≡ first_crease H S n v → k ≡ crease_of (pairs_at H S n v) → CreaseIn n first k
   crease_in S v first NoCrease q e = tt
   crease_in S v first OneEnd q e = tt
-  crease_in S v first (Through c) q e = let t = through_in s S v c (sym e) in (t.0, t.1)
+  crease_in S v first (Through a b x y) q e = let t = through_in s S v a b x y (sym e) in (t.0, t.1)
   crease_in S v first (Meeting m) q e = subst (λ (z : ℕ). z < n) (sym q) (meeting_in s S v m (sym e)).0
 
   -- the halfedge that stands at a point is that of its first pair at a meeting, and its lowest with no crease
@@ -33,7 +33,7 @@ module _ {H : Halfedges} {n p : ℕ} (s : Sound H n p) where
     unfolding shape_crease
     by_case NoCrease e = ap (λ (z : ℕ). tangents_of m.tangents (fix_halfedge n m.fixed z)) (none_first s S v (sym e))
     by_case OneEnd e = refl
-    by_case (Through c) e = refl
+    by_case (Through a b x y) e = refl
     by_case (Meeting x) e = ap (λ (z : ℕ). shape_meeting H flat n m z x) (meeting_first s S v x (sym e))
 
     pub crease_apart : (k : Crease) → k ≡ crease_of (pairs_at H S n v)

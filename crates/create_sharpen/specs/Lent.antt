@@ -13,7 +13,7 @@ use Rattle.create_sharpen.specs.Shapes.{shape_crease, shape_vert, shape_verts, v
 abbrev pub CreaseIn : ℕ → ℕ → Crease → Type 0
 CreaseIn n first NoCrease = Unit {0}
 CreaseIn n first OneEnd = Unit {0}
-CreaseIn n first (Through c) = (c.first < n) × (c.second < n)
+CreaseIn n first (Through a b between beyond) = (a < n) × (b < n)
 CreaseIn n first (Meeting mean) = first < n
 
 abbrev pub mesh_of : ShapeLists → Halfedges

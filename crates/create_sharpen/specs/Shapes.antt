@@ -31,7 +31,7 @@ shape_meeting H flat n m first mean = tangents_of (sharpen_meeting H flat n m.ta
 unfoldable pub shape_crease : Halfedges → List Float → (ℕ → Bool) → ℕ → ℕ → ℕ → Tangents → Crease → Tangents
 shape_crease H P flat n lowest first m NoCrease = tangents_of m.tangents (fix_halfedge n m.fixed lowest)
 shape_crease H P flat n lowest first m OneEnd = m
-shape_crease H P flat n lowest first m (Through c) = shape_through H P n m c.first c.second c.between c.beyond
+shape_crease H P flat n lowest first m (Through a b between beyond) = shape_through H P n m a b between beyond
 shape_crease H P flat n lowest first m (Meeting mean) = shape_meeting H flat n m first mean
 
 -- ---- the loop
@@ -50,7 +50,7 @@ shape_verts H P flat n vert p m = fold_to (shape_vert H P flat n vert) m p
 unfoldable pub crease_directionless : Halfedges → List Float → Crease → ℕ
 crease_directionless H P NoCrease = 0
 crease_directionless H P OneEnd = 0
-crease_directionless H P (Through c) = aligned_directionless H P c.first c.second
+crease_directionless H P (Through a b between beyond) = aligned_directionless H P a b
 crease_directionless H P (Meeting mean) = 0
 
 -- of point v

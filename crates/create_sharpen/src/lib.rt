@@ -13,7 +13,7 @@ ghost use Rattle.create_sharpen.specs.Sharpen.{sharpened, sharpen_tangent, new_t
 ghost use Rattle.create_sharpen.specs.Shapes.{fix_halfedge, shape_through, crease_directionless};
 ghost use Rattle.create_sharpen.specs.Lent.{CreaseIn, mesh_of, shape_crease_by, shape_vert_by, shape_verts_by, vert_count, verts_count};
 
-use create_creases::{Crease, CreaseThrough};
+use create_creases::Crease;
 use linalg::{Vec3, Vec4};
 pub use shape_lists::ShapeLists;
 
@@ -55,15 +55,22 @@ fn new_tangent(t: &[f64], first: usize, second: usize) -> Vec3
 
 // One halfedge beside a crease through a point: the smoothness of the side that the walk is on, after it.
 #[tactic(auto, unfolding(crate::specs::Sharpen::sharpen_side))]
-fn sharpen_side(t: &mut [f64], through: &CreaseThrough, s: f64, current: usize) -> f64
+fn sharpen_side(
+    t: &mut [f64],
+    first: usize,
+    second: usize,
+    beyond: f64,
+    s: f64,
+    current: usize,
+) -> f64
     requires { current * 4 + 4 ≤ length t.old }
-    ensures { let c = through.now in sides_of t.new result ≡ sharpen_side c.first c.second c.beyond (sides_of t.old s) current }
+    ensures { sides_of t.new result ≡ sharpen_side first second beyond (sides_of t.old s) current }
 {
-    if current == through.second {
-        return through.beyond;
+    if current == second {
+        return beyond;
     }
     let marked = smoothing::is_marked_inside_quad(t, current);
-    if (current == through.first) | marked {
+    if (current == first) | marked {
         return s;
     }
     sharpen_tangent(t, current, s);
@@ -100,17 +107,24 @@ fn sharpen_meeting_at(lists: &ShapeLists<'_>, t: &mut [f64], mean: f64, current:
 
 // The vertex cycle of a crease through a point, from its first halfedge on. A loop and no iterator, here and below: document 01
 // names this form.
-fn sharpen_sides(lists: &ShapeLists<'_>, t: &mut [f64], through: &CreaseThrough)
-    requires { (through.now.first < lists.now.creases.n) × (length t.old ≡ lists.now.creases.n * 4) }
-    ensures { let c = through.now in t.new ≡ sharpen_sides (mesh_of lists.now) lists.now.creases.n t.old c.first c.second c.between c.beyond }
+fn sharpen_sides(
+    lists: &ShapeLists<'_>,
+    t: &mut [f64],
+    first: usize,
+    second: usize,
+    between: f64,
+    beyond: f64,
+)
+    requires { (first < lists.now.creases.n) × (length t.old ≡ lists.now.creases.n * 4) }
+    ensures { t.new ≡ sharpen_sides (mesh_of lists.now) lists.now.creases.n t.old first second between beyond }
 {
     let h = lists.creases.h;
-    let mut s = through.between;
-    let mut current = through.first;
+    let mut s = between;
+    let mut current = first;
     loop {
-        s = sharpen_side(t, through, s, current);
+        s = sharpen_side(t, first, second, beyond, s, current);
         current = cycles::next_around(h, current);
-        if current == through.first {
+        if current == first {
             break;
         }
     }
@@ -141,18 +155,19 @@ fn shape_through(
     lists: &ShapeLists<'_>,
     t: &mut [f64],
     fixed: &mut [u8],
-    through: &CreaseThrough,
+    first: usize,
+    second: usize,
+    between: f64,
+    beyond: f64,
 ) -> usize
-    requires { (through.now.first < lists.now.creases.n) × (through.now.second < lists.now.creases.n) × (length t.old ≡ lists.now.creases.n * 4) × (length fixed.old ≡ lists.now.creases.n) }
-    ensures tangents { let c = through.now in tangents_of t.new fixed.new ≡ shape_through (mesh_of lists.now) lists.now.pos.now lists.now.creases.n (tangents_of t.old fixed.old) c.first c.second c.between c.beyond }
-    ensures directionless { result ≡ aligned_directionless (mesh_of lists.now) lists.now.pos.now through.now.first through.now.second }
+    requires { (first < lists.now.creases.n) × (second < lists.now.creases.n) × (length t.old ≡ lists.now.creases.n * 4) × (length fixed.old ≡ lists.now.creases.n) }
+    ensures tangents { tangents_of t.new fixed.new ≡ shape_through (mesh_of lists.now) lists.now.pos.now lists.now.creases.n (tangents_of t.old fixed.old) first second between beyond }
+    ensures directionless { result ≡ aligned_directionless (mesh_of lists.now) lists.now.pos.now first second }
 {
-    let first = through.first;
-    let second = through.second;
     let dir = new_tangent(t, first, second);
     let h = lists.creases.h;
     let directionless = create_shared::align_tangents(h, lists.pos, t, fixed, first, second, dir);
-    sharpen_sides(lists, t, through);
+    sharpen_sides(lists, t, first, second, between, beyond);
     directionless
 }
 
@@ -187,7 +202,12 @@ fn shape_crease(
             0
         }
         Crease::OneEnd => 0,
-        Crease::Through(through) => shape_through(lists, t, fixed, &through),
+        Crease::Through {
+            first: a,
+            second: b,
+            between,
+            beyond,
+        } => shape_through(lists, t, fixed, a, b, between, beyond),
         Crease::Meeting { mean: m } => {
             sharpen_meeting(lists, t, first, m);
             0

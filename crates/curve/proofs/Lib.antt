@@ -1,4 +1,3 @@
 -- The laws of `curve`.
 pub mod Points
 pub mod Parameters
-pub mod Cases

@@ -6,6 +6,7 @@ use mathlib.Core.Path.{◌≡◌, refl, sym, ap, ◌∙◌, subst}
 use mathlib.Core.Bool.{true, false, not, true≢false}
 use mathlib.Core.List.{List, [], ◌∷◌}
 use lib.IntN.{pos}
+use lib.ListN.{length}
 use lib.Dec.{T, leb, ltb→lt}
 use lib.Ieee.{Float, nan, inf, fin, binary64, up, down, round, div, of_int, lt, le, is_nan, of_bits}
 use lib.Ieee.Bits.{is_true}
@@ -15,7 +16,7 @@ use lib.Ieee.Back.{round_whole}
 use lib.Ieee.Order.{round_mono}
 use lib.Ieee.Positive.{positive_of_value}
 use lib.Ieee.Scale.{round_same}
-use Rattle.std.specs.Prelude.{flat_map}
+use Rattle.std.specs.Prelude.{flat_map, Ok, Err, OnOk}
 use Rattle.std.specs.List.{range_with_len}
 use Rattle.std.proofs.lemmas.Bool.{leb-true, ne_eqb, not-true, and_parts, false_from_ne_true}
 use Rattle.std.proofs.lemmas.Float.{lt_irrefl, lt_of_le_of_lt, le_left, T_from_true}
@@ -24,9 +25,12 @@ use Rattle.common.proofs.Front.{range_next}
 use Rattle.float.specs.Ops.{◌⊘◌}
 use Rattle.float.specs.Ops as float
 use Rattle.linalg.specs.declared.Vec4.{Vec4}
-use Rattle.curve.specs.Questions.{is_parameter, count_fits}
-use Rattle.curve.specs.Curve.{Point, curve_at, position_of, parameter_at, numbers_of, numbers_at}
-use Rattle.curve.specs.Parameters.{AllParametersFit, PointsAnswered, SamePoints}
+use Rattle.mesh.specs.Check.{Checked}
+use Rattle.mesh.specs.declared.Question.TheVariants.{CurveCount}
+use Rattle.mesh.proofs.Accepted.{then_accepted, asked_accepted}
+use Rattle.curve.specs.Questions.{is_parameter, count_fits, check_points}
+use Rattle.curve.specs.Curve.{Point, curve_at, position_of, parameter_at, numbers_of, numbers_at, points_of, points_after}
+use Rattle.curve.specs.Parameters.{ParametersFit, PointsAnswered, SamePoints}
 use Rattle.curve.proofs.Points.{first_points, points_next}
 
 -- ---- the quotient of two whole numbers is their fraction, rounded
@@ -111,20 +115,20 @@ module _ (count : ℕ) (h : count_fits count ≡ true) where
   last_lem : parameter_at (count - 1) count ≡ float.one
   last_lem = let two = two_or_more in nearest_lem (count - 1) (omega arith) ∙ round_same binary64 false (count - 1) (count - 1) 1 1 (omega arith) (omega arith) (omega arith) ∙ one_is
 
-pub parameters_fit : AllParametersFit
+pub parameters_fit : (count : ℕ) → count_fits count ≡ true → ParametersFit count
 parameters_fit count h = record { nearest = nearest_lem count h; accepted = accepted_lem count h; ordered = ordered_lem count h; first = first_lem count h; last = last_lem count h }
 
 -- ---- the points
 
-pub points_answered : PointsAnswered
-points_answered p0 p1 p2 p3 i count h l = rw (accepted_lem count h i l) refl
-
 module _ (p0 p1 p2 p3 : Vec4) (count : ℕ) (h : count_fits count ≡ true) where
+  pub points_answered : PointsAnswered p0 p1 p2 p3 count
+  points_answered i l = rw (accepted_lem count h i l) refl
+
   abbrev answered : ℕ → List Float
   answered i = numbers_of (position_of (curve_at p0 p1 p2 p3 (parameter_at i count)))
 
   number_same : (i : ℕ) → i < count → numbers_at p0 p1 p2 p3 count i ≡ answered i
-  number_same i l = sym (ap (λ (r : Point). numbers_of (position_of r)) (points_answered p0 p1 p2 p3 i count h l))
+  number_same i l = sym (ap (λ (r : Point). numbers_of (position_of r)) (points_answered i l))
 
   first_same : (k : ℕ) → k ≤ count → first_points p0 p1 p2 p3 count k ≡ flat_map answered (range_with_len 0 k)
   first_same zero l = refl
@@ -133,5 +137,12 @@ module _ (p0 p1 p2 p3 : Vec4) (count : ℕ) (h : count_fits count ≡ true) wher
       ∙ rw (first_same k (omega arith), number_same k (omega arith)) (sym (flat_map-append answered (range_with_len 0 k) (k ∷ [])))
       ∙ ap (flat_map answered) (sym (range_next k))
 
-pub same_points : SamePoints
-same_points p0 p1 p2 p3 count h = first_same p0 p1 p2 p3 count h count (omega arith)
+  pub same_points : SamePoints p0 p1 p2 p3 count (points_of p0 p1 p2 p3 count)
+  same_points = first_same count (omega arith)
+
+-- the same of the list after the call, of which `r` is the answer
+pub same_of : (p0 p1 p2 p3 : Vec4) (count : ℕ) (L : List Float) {points : List Float} (r : Checked) → r ≡ check_points count (length L) → points ≡ points_after p0 p1 p2 p3 count L → OnOk r (SamePoints p0 p1 p2 p3 count points)
+same_of p0 p1 p2 p3 count L (Err refusal) q e = tt
+same_of p0 p1 p2 p3 count L (Ok unit) q e =
+    let fits = asked_accepted CurveCount 0 (count_fits count) (then_accepted _ _ (sym q)).0 in
+    e ∙ rw (sym q) (same_points p0 p1 p2 p3 count fits)

@@ -14,10 +14,11 @@ use Rattle.curve.specs.declared.CurvePoint.{CurvePoint}
 
 -- ---- one point
 
--- position and direction at parameter x
+-- the position at parameter x
 abbrev pub position_at : Vec4 → Vec4 → Vec4 → Vec4 → Float → Vec3
 position_at p0 p1 p2 p3 x = bezier_point (cubic_bezier_2_linear p0 p1 p2 p3 x) x
 
+-- the direction there: of length 1 up to rounding, or zero where the length that is worked out is below 1e-30. Where its square overflows, as with control points 1e200 apart, the direction is zero though the curve has one; with an infinite or not-a-number control point its numbers can be not-a-number (examples: crates/cases/specs/Curves.antt).
 abbrev pub direction_at : Vec4 → Vec4 → Vec4 → Vec4 → Float → Vec3
 direction_at p0 p1 p2 p3 x = bezier_tangent (cubic_bezier_2_linear p0 p1 p2 p3 x)
 

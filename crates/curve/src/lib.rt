@@ -2,15 +2,18 @@
 // is four control points, as `cubic_bezier_2_linear` takes them.
 #![tactic(auto)]
 
-ghost use Rattle.std.specs.Prelude.{◌≡◌, ◌*◌, ◌<◌, ◌≤◌, length};
+ghost use Rattle.std.specs.Prelude.{◌≡◌, ◌*◌, ◌<◌, ◌≤◌, true, length, OnOk};
 ghost use Rattle.mesh.specs.Check.{Values as Checks};
 ghost use Rattle.curve.specs.Questions.{is_parameter, count_fits, check_points};
 ghost use Rattle.curve.specs.Curve.{position_at, curve_at, position_of, direction_of, Values, parameter_at, points_of, points_after};
+ghost use Rattle.curve.specs.Parameters.{ParametersFit, PointsAnswered, SamePoints};
 
 use linalg::{Vec3, Vec4};
 use mesh::{Question, Refusal};
 
-// Where a point of a curve is, and the direction of the curve there, which is zero where it has none.
+// Where a point of a curve is, and the direction of the curve there: of length 1 up to rounding, or zero where the length that is worked
+// out is below 1e-30. Its square can overflow, as with control points 1e200 apart: then the direction is zero though the curve has one.
+// With an infinite or not-a-number control point its numbers can be not-a-number.
 #[derive(Clone, Copy)]
 pub struct CurvePoint {
     pub position: Vec3,
@@ -92,6 +95,7 @@ fn check_points(count: usize, room: usize) -> Result<(), Refusal>
 }
 
 // Fills the list with 2 to 256 points, three numbers each: point i at parameter i/(count - 1).
+#[tactic(auto, using(crate::proofs::Parameters::points_answered, crate::proofs::Parameters::same_of))]
 pub fn curve_points(
     p0: Vec4,
     p1: Vec4,
@@ -103,6 +107,9 @@ pub fn curve_points(
     ensures answer { result ≡ check_points count (length points.old) }
     ensures points { points.new ≡ points_after p0 p1 p2 p3 count points.old }
     ensures values { Checks (check_points count (length points.old)) result }
+    ensures parameters { count_fits count ≡ true → ParametersFit count }
+    ensures answered { count_fits count ≡ true → PointsAnswered p0 p1 p2 p3 count }
+    ensures same { OnOk result (SamePoints p0 p1 p2 p3 count points.new) }
 {
     let checked = check_points(count, points.len());
     let Ok(()) = checked else {

@@ -1,20 +1,17 @@
 -- The walks around the points of a sound mesh: both steps take its halfedges one to one to themselves, and what follows of vertex cycles.
 use mathlib.Core.Path.{◌≡◌, refl, sym, ap, ◌∙◌}
-use mathlib.Core.Bool.{Bool}
 use mathlib.Core.Logic.{◌≢◌}
 use Prim.Native.Nat.{ℕ, zero, suc, ◌+◌, ◌^◌, ◌≤◌, ◌<◌}
 use native.Mathlib.Omega.{arith}
 use lib.ListN.{length}
 use Rattle.mesh.specs.Mesh.{start_vert, paired_halfedge, next_halfedge, prev_halfedge, Halfedges}
 use Rattle.mesh.specs.Sound.{Sound}
-use Rattle.mesh.specs.Check.{check_mesh}
-use Rattle.std.specs.Prelude.{Ok}
 use Rattle.mesh.proofs.Accepted.{accepted}
 use Rattle.mesh.proofs.Halfedges as Halfedges
 use Rattle.cycles.specs.Count.{count, ◌∈◌}
 use Rattle.cycles.specs.Walk.{iter, cycle_of, Reaches}
 use Rattle.cycles.specs.Orbits.{Permutes}
-use Rattle.cycles.specs.Cycles.{next_around, prev_around, vertex_cycle, vertex_cycle_back, Cycles}
+use Rattle.cycles.specs.Cycles.{next_around, prev_around, vertex_cycle, vertex_cycle_back, Cycles, AcceptedCycles}
 use Rattle.cycles.proofs.Orbits.{undo_reaches, cycle_back, cycle_some, cycle_once, cycle_reached, cycle_all, orbits}
 use Rattle.cycles.proofs.Count.{at_most_one}
 
@@ -108,5 +105,5 @@ module _ {H : Halfedges} {n p : ℕ} (S : Sound H n p) where
   }
 
 -- so a mesh that got through the questions has them
-pub accepted_cycles : (H : Halfedges) (n p : ℕ) (lengths : Bool) → check_mesh H n p lengths ≡ Ok tt → Cycles H n
+pub accepted_cycles : AcceptedCycles
 accepted_cycles H n p lengths a = cycles (accepted H n p lengths a).1

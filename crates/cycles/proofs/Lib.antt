@@ -5,4 +5,3 @@ pub mod Orbits
 pub mod Loops
 pub mod Around
 pub mod Starts
-mod Pillow

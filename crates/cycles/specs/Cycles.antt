@@ -1,6 +1,7 @@
 -- Vertex cycles (document 01's rounds): the halfedges that leave one point, reached one from the other by going to the pair and then to the next in that triangle.
-use Rattle.std.specs.Prelude.{ℕ, ◌≤◌, ◌<◌, ◌≡◌, List, length}
+use Rattle.std.specs.Prelude.{ℕ, ◌≤◌, ◌<◌, ◌≡◌, Bool, List, length, Ok}
 use Rattle.mesh.specs.Mesh.{start_vert, paired_halfedge, next_halfedge, prev_halfedge, Halfedges}
+use Rattle.mesh.specs.Check.{check_mesh}
 use Rattle.cycles.specs.Count.{count, ◌∈◌}
 use Rattle.cycles.specs.Walk.{cycle_of}
 use Rattle.cycles.specs.Orbits.{Orbits}
@@ -20,7 +21,7 @@ vertex_cycle H n e = cycle_of (next_around H) n e
 abbrev pub vertex_cycle_back : Halfedges → ℕ → ℕ → List ℕ
 vertex_cycle_back H n e = cycle_of (prev_around H) n e
 
--- What is claimed of an accepted mesh. Its walks forward and backward have all that `Orbits` says; each step undoes the other and stays at the start point.
+-- What an accepted mesh has (`AcceptedCycles`). Its walks forward and backward have all that `Orbits` says; each step undoes the other and stays at the start point.
 pub record Cycles (H : Halfedges) (n : ℕ) : Type 0 where
   pub forward : Orbits (next_around H) n
   pub backward : Orbits (prev_around H) n
@@ -32,3 +33,7 @@ pub record Cycles (H : Halfedges) (n : ℕ) : Type 0 where
   pub cycle_start : (e x : ℕ) → e < n → x ∈ vertex_cycle H n e → start_vert H x ≡ start_vert H e
   pub cycle_two : (e : ℕ) → e < n → 2 ≤ length (vertex_cycle H n e)
   pub cycle_ways : (e x : ℕ) → e < n → count x (vertex_cycle_back H n e) ≡ count x (vertex_cycle H n e)
+
+-- every mesh that the questions accept has that
+abbrev pub AcceptedCycles : Type 0
+AcceptedCycles = (H : Halfedges) (n p : ℕ) (lengths : Bool) → check_mesh H n p lengths ≡ Ok tt → Cycles H n

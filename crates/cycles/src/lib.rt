@@ -5,7 +5,7 @@
 ghost use Rattle.std.specs.Prelude.{◌≡◌, ◌+◌, ◌<◌, ◌^◌};
 ghost use Rattle.mesh.specs.Mesh.{prev_halfedge, as_halfedges};
 ghost use Rattle.mesh.specs.Inside.{Inside};
-ghost use Rattle.cycles.specs.Cycles.{next_around, prev_around};
+ghost use Rattle.cycles.specs.Cycles.{next_around, prev_around, AcceptedCycles};
 
 // The next halfedge around the start point of e: the next of the pair.
 pub fn next_around(h: &[i32], e: usize) -> usize
@@ -22,3 +22,9 @@ pub fn prev_around(h: &[i32], e: usize) -> usize
 {
     mesh::paired_halfedge(h, mesh::prev_halfedge(e))
 }
+
+// Law: on every mesh that the questions accept, both steps go around the points in closed rounds (specs/Cycles.antt, `Cycles`).
+#[tactic(auto, using(crate::proofs::Around::accepted_cycles))]
+pub fn accepted_cycles_hold()
+    ensures { AcceptedCycles }
+{}

@@ -1,4 +1,4 @@
--- The guards never fire, and no angle is read past its list: what the laws of `distribute_spread` say of the float steps on an accepted mesh.
+-- The guards never fire, no angle is read past its list, and the unit's own starts are named: what the laws of `distribute_spread` say of the float steps on an accepted mesh.
 use Prim.Native.Nat.{ℕ, zero, suc, ◌+◌, ◌≤◌}
 use native.Mathlib.Omega.{arith}
 use mathlib.Core.Path.{◌≡◌, refl, sym, ap, ◌∙◌}
@@ -13,20 +13,21 @@ use Rattle.cycles.specs.Walk.{cycle_of}
 use Rattle.cycles.proofs.Orbits.{cycle_back, cycle_within, cycle_some}
 use Rattle.cycles.proofs.Around.{next_permutes}
 use Rattle.distribute_spread.specs.Spread.{State, marked, turn_at}
-use Rattle.distribute_spread.specs.Order.{AngleCount, AnglesSuffice}
+use Rattle.distribute_spread.specs.Order.{AngleCount}
 use Rattle.distribute_spread.proofs.Sublists.{sublist_length}
 use Rattle.distribute_spread.proofs.Turns.{turn_all}
 use Rattle.distribute_spread.proofs.Places.{gather_places, turn_places, turns_gathers}
 use Rattle.distribute_spread.proofs.Walks.{second_is}
+use Rattle.distribute_spread.proofs.Own.{own_starts}
 use Rattle.distribute_spread.proofs.Guards.{unguarded, angles_suffice, angles_gathered}
 use Rattle.distribute_steps.specs.FloatSteps.{Plan, begin, gather_edge, plan, clamp_angle, clamped_angle, next, float_steps}
 use Rattle.distribute_walks.proofs.Lawful.{lawful, angle_count, angles_counted}
-use Rattle.distribute.specs.Claims.{WalksGo, GuardsNeverFire, plan_at, plan_from, AnglesInLists, NextInList}
+use Rattle.distribute.specs.Claims.{GuardsNeverFire, plan_at, plan_from, AnglesInLists, NextInList, OwnStartsNamed}
 use Rattle.distribute.proofs.Accepted.{lists_of}
 
 -- ---- the guards
 
-pub guards_never_fire : GuardsNeverFire
+pub guards_never_fire : (H : Halfedges) (P N : List Float) (F : List ℕ) (T C D : List Float) (n p : ℕ) → GuardsNeverFire H P N F T C D n p
 guards_never_fire H P N F T C D n p U start w =
     let s = (lists_of H P N F T C D n p w.accepted).0 in
     record {
@@ -72,7 +73,11 @@ module _ (H : Halfedges) (P N : List Float) (F : List ℕ) (n : ℕ) where
 
 -- ---- the angles
 
-pub angles_in_lists : AnglesInLists
+next_in_list : (by : Plan) → NextInList by
+unfolding clamped_angle clamp_angle
+next_in_list by x h = rw (le-ltb (by.index + 1) (length by.desired_angle) h)
+
+pub angles_in_lists : (H : Halfedges) (P N : List Float) (F : List ℕ) (T C D : List Float) (n p : ℕ) → AnglesInLists H P N F T C D n p
 unfolding plan
 angles_in_lists H P N F T C D n p U start w looked st e =
     let S = float_steps H P N F n in
@@ -91,14 +96,11 @@ angles_in_lists H P N F T C D n p U start w looked st e =
       index_is = λ i. omega (arith, plan_index i by);
       current_in = λ i h. omega (arith, ap length (plan_current i by));
       desired_in = λ i h. omega (arith, plan_desired i by);
+      next_in = λ i. next_in_list (plan_at by i);
+      suffice = rw e (angles_suffice L U start w.below w.whole w.is_start);
     }
 
--- the same as a count, of any steps: with any fuel the second walk turns at most as many tangents as the first one gathered angles
-pub angles_never_run_out : (H : Halfedges) (P N : List Float) (F : List ℕ) (T C D : List Float) (n p : ℕ) (U : List Float) (start : ℕ)
-    → WalksGo H P N F T C D n p U start → AnglesSuffice (float_steps H P N F n) U start
-angles_never_run_out H P N F T C D n p U start w =
-    angles_suffice (lawful (lists_of H P N F T C D n p w.accepted).0 P N F) U start w.below w.whole w.is_start
+-- ---- the starts
 
-pub next_in_list : NextInList
-unfolding clamped_angle clamp_angle
-next_in_list by x h = rw (le-ltb (by.index + 1) (length by.desired_angle) h)
+pub own_starts_named : OwnStartsNamed
+own_starts_named H P N F n = own_starts (float_steps H P N F n)

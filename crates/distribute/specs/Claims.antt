@@ -1,4 +1,4 @@
--- What is claimed of both walks of spreading from each start: the Rust's guards never fire (`GuardsNeverFire`), and no angle is read past its list (`AnglesInLists`, `NextInList`). proofs/Claims.antt proves these. The letters are those of Distribute.antt.
+-- What is claimed of both walks of spreading from each start: the Rust's guards never fire (`GuardsNeverFire`), and no angle is read past its list (`AnglesInLists`). The clauses `guards` and `angles` of `distribute_tangents` say it of the lists of a call. And that its own starts are a list of which `AnyOrder` speaks (`OwnStartsNamed`). The letters are those of Distribute.antt.
 use Rattle.std.specs.Prelude.{ℕ, zero, suc, ◌+◌, ◌*◌, ◌≤◌, ◌<◌, ◌≡◌, List, false, length, get_or, Float}
 use Rattle.std.specs.Float.{nan}
 use Rattle.float.specs.Ops as float
@@ -9,7 +9,7 @@ use Rattle.std.specs.Prelude.{Ok}
 use Rattle.cycles.specs.Walk.{iter}
 use Rattle.distribute_spread.specs.Steps.{Steps}
 use Rattle.distribute_spread.specs.Spread.{State, turn_at, second_walk}
-use Rattle.distribute_spread.specs.Order.{FixedUnmarked, Unguarded}
+use Rattle.distribute_spread.specs.Order.{OwnStarts, FixedUnmarked, Unguarded, AnglesSuffice}
 use Rattle.distribute_steps.specs.FloatSteps.{Plan, last_or, plan, clamp_angle, desired_angle, next, float_steps}
 use Rattle.distribute_walks.specs.Walks.{first_from}
 use Rattle.distribute.specs.Distribute.{check_lists}
@@ -29,10 +29,8 @@ pub record GuardFree (S : Steps) (ts : S.Tangents) (start : ℕ) : Type 0 where
   -- with n steps, or any more, each walk comes to the same
   pub unguarded : Unguarded S ts start
 
-abbrev pub GuardsNeverFire : Type 0
-GuardsNeverFire =
-    (H : Halfedges) (P N : List Float) (X : List ℕ) (T C D : List Float) (n p : ℕ) (T' : List Float) (start : ℕ)
-    → WalksGo H P N X T C D n p T' start → GuardFree (float_steps H P N X n) T' start
+abbrev pub GuardsNeverFire : Halfedges → List Float → List Float → List ℕ → List Float → List Float → List Float → ℕ → ℕ → Type 0
+GuardsNeverFire H P N X T C D n p = (T' : List Float) (start : ℕ) → WalksGo H P N X T C D n p T' start → GuardFree (float_steps H P N X n) T' start
 
 -- ---- the angles
 
@@ -45,6 +43,12 @@ plan_at by (suc i) = plan_at (next by) i
 abbrev pub plan_from : Halfedges → List Float → List Float → List ℕ → ℕ → List Float → ℕ → ℕ → Plan
 plan_from H P N X n T' start looked = let found = first_from H P N X n T' start looked in plan start found.last found.gathered
 
+-- `desired_angle[i + 1]` is asked for only where there is one: past the end any number x does as well
+abbrev pub NextInList : Plan → Type 0
+NextInList by =
+    (x : Float) → length by.desired_angle ≤ by.index + 1
+    → desired_angle by ≡ clamp_angle (get_or by.desired_angle by.index nan ⊗ by.scale) (last_or by.desired_angle by.index float.zero) false x
+
 -- of the second walk, on the state st and by the plan `by` with which it sets out
 pub record AnglesIn (H : Halfedges) (P N : List Float) (X : List ℕ) (n start : ℕ) (by : Plan) (st : State (float_steps H P N X n)) : Type 0 where
   -- both lists have as many angles: the loop that sums the offset over `current_angle` reads `desired_angle` too
@@ -56,15 +60,17 @@ pub record AnglesIn (H : Halfedges) (P N : List Float) (X : List ℕ) (n start :
   pub index_is : (i : ℕ) → (plan_at by i).index ≡ i
   pub current_in : (i : ℕ) → i < length places → i < length (plan_at by i).current_angle
   pub desired_in : (i : ℕ) → i < length places → i < length (plan_at by i).desired_angle
+  pub next_in : (i : ℕ) → NextInList (plan_at by i)
+  -- with any fuel it turns at most as many tangents as the first walk gathered angles
+  pub suffice : AnglesSuffice (float_steps H P N X n) st.tangents start
 
-abbrev pub AnglesInLists : Type 0
-AnglesInLists =
-    (H : Halfedges) (P N : List Float) (X : List ℕ) (T C D : List Float) (n p : ℕ) (T' : List Float) (start : ℕ)
-    → WalksGo H P N X T C D n p T' start
+abbrev pub AnglesInLists : Halfedges → List Float → List Float → List ℕ → List Float → List Float → List Float → ℕ → ℕ → Type 0
+AnglesInLists H P N X T C D n p =
+    (T' : List Float) (start : ℕ) → WalksGo H P N X T C D n p T' start
     → (looked : ℕ) (st : State (float_steps H P N X n)) → st.tangents ≡ T' → AnglesIn H P N X n start (plan_from H P N X n T' start looked) st
 
--- `desired_angle[i + 1]` is asked for only where there is one: past the end any number x does as well
-abbrev pub NextInList : Type 0
-NextInList =
-    (by : Plan) (x : Float) → length by.desired_angle ≤ by.index + 1
-    → desired_angle by ≡ clamp_angle (get_or by.desired_angle by.index nan ⊗ by.scale) (last_or by.desired_angle by.index float.zero) false x
+-- ---- the starts
+
+-- of every list of halfedges and flags: the fixed ones, in ascending order, are a list of which `AnyOrder` speaks, here and for the preview
+abbrev pub OwnStartsNamed : Type 0
+OwnStartsNamed = (H : Halfedges) (P N : List Float) (X : List ℕ) (n : ℕ) → OwnStarts (float_steps H P N X n)

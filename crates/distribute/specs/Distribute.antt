@@ -48,7 +48,7 @@ check_lists H P N X T C D n p = check_flags (check_mesh H n p (lengths_fit H P N
 abbrev pub spread_tangents : (H : Halfedges) (P N : List Float) (X : List ℕ) (T : List Float) (n : ℕ) → State (float_steps H P N X n)
 spread_tangents H P N X T n = pass (float_steps H P N X n) T
 
--- these are the tangents and counts of a state
+-- These are the tangents and counts of a state. Only contracts inside a call name it, as that of `spread_tangents`.
 pub record Reports (S : Steps) (st : State S) (ts : S.Tangents) (k : Counts) : Type 0 where
   pub tangents_are : ts ≡ st.tangents
   pub looked_is : k.looked ≡ st.looked

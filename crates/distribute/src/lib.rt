@@ -8,6 +8,7 @@ ghost use Rattle.mesh.specs.Mesh.{as_halfedges};
 ghost use Rattle.distribute_steps.specs.FloatSteps.{float_steps};
 ghost use Rattle.distribute_walks.specs.Walks.{Written, steps_of};
 ghost use Rattle.distribute.specs.Distribute.{looked_of, turned_of, lists_fit, lengths_fit, check_lists, spread_tangents, Reports, distribute_tangents, tangents_after, scratch_after, AnyOrder, Values};
+ghost use Rattle.distribute.specs.Claims.{GuardsNeverFire, AnglesInLists, OwnStartsNamed};
 
 pub use distribute_walks::{Counts, SpreadLists};
 use mesh::Refusal;
@@ -132,6 +133,8 @@ pub fn distribute_tangents(
     ensures current { current.new ≡ scratch_after (check_lists (as_halfedges h.now) pos.now normals.now fixed.now t.old current.old desired.old n p) current.old n }
     ensures desired { desired.new ≡ scratch_after (check_lists (as_halfedges h.now) pos.now normals.now fixed.now t.old current.old desired.old n p) desired.old n }
     ensures order { AnyOrder (as_halfedges h.now) pos.now normals.now fixed.now t.old current.old desired.old n p t.new result }
+    ensures guards { GuardsNeverFire (as_halfedges h.now) pos.now normals.now fixed.now t.old current.old desired.old n p }
+    ensures angles { AnglesInLists (as_halfedges h.now) pos.now normals.now fixed.now t.old current.old desired.old n p }
     ensures values { Values (check_lists (as_halfedges h.now) pos.now normals.now fixed.now t.old current.old desired.old n p) (float_steps (as_halfedges h.now) pos.now normals.now fixed.now n) (spread_tangents (as_halfedges h.now) pos.now normals.now fixed.now t.old n) result }
 {
     let checked = check_lists(n, p, h, pos, normals, fixed, t, current, desired);
@@ -150,3 +153,9 @@ pub fn distribute_tangents(
     let counts = spread_tangents(&lists, t, current, desired);
     Ok(counts)
 }
+
+// Law: the fixed halfedges in ascending order, from which this call and the preview spread, are a list of starts of which their clauses
+// `order` speak (specs/Claims.antt, `OwnStartsNamed`).
+pub fn own_starts_hold()
+    ensures { OwnStartsNamed }
+{}

@@ -10,4 +10,3 @@ pub mod Guards
 pub mod Starts
 pub mod Own
 pub mod Order
-pub mod Pillow

@@ -4,11 +4,14 @@ use mathlib.Core.Bool.{Bool, true, false, true≢false}
 use Prim.Native.Nat.{ℕ, zero, suc, ◌+◌, ◌≤◌, ◌<◌}
 use native.Mathlib.Decide.{ℕ_discrete}
 use native.Mathlib.Omega.{arith}
+use native.Mathlib.Numerals.{add-one}
+use lib.ListN.{length, get_or}
+use Rattle.std.specs.List.Sorted.{IsStrictlyIncreasing}
 use Rattle.cycles.specs.Count.{count, ◌∈◌}
 use Rattle.cycles.proofs.Count.{delta_equal, delta_other}
 use Rattle.distribute_spread.specs.Steps.{Steps}
-use Rattle.distribute_spread.specs.Spread.{fixed_from}
-use Rattle.distribute_spread.specs.Order.{NamesFixed}
+use Rattle.distribute_spread.specs.Spread.{fixed_from, pass}
+use Rattle.distribute_spread.specs.Order.{NamesFixed, OwnStarts}
 use Rattle.distribute_spread.proofs.Branches.{fixed_none, fixed_here, fixed_later}
 
 module _ (S : Steps) where
@@ -50,3 +53,31 @@ module _ (S : Steps) where
     each = λ e l f. count_fixed n 0 e (omega arith) (omega arith) f;
     only = λ e m. (omega (arith, (only_fixed n 0 e m).0), (only_fixed n 0 e m).1);
   }
+
+  -- no number of the list is below the first
+  at_least : (m i k : ℕ) → k < length (fixed_from S m i) → i ≤ get_or (fixed_from S m i) k 0
+  at_least zero i k l = absurd (let z : k < 0 = rw (fixed_none S i) at l in omega arith)
+  at_least (suc m) i k l = go (fixed i) refl k l (λ k. at_least m (suc i) k)
+    where
+      go : (b : Bool) → fixed i ≡ b → (k : ℕ) → k < length (fixed_from S (suc m) i)
+          → ((k : ℕ) → k < length (fixed_from S m (suc i)) → suc i ≤ get_or (fixed_from S m (suc i)) k 0) → i ≤ get_or (fixed_from S (suc m) i) k 0
+      go true f zero l ih = rw (fixed_here S m i f) (omega arith)
+      go true f (suc k) l ih = rw (fixed_here S m i f) (omega (arith, ih k (let z : suc k < suc (length (fixed_from S m (suc i))) = rw (fixed_here S m i f) at l in omega arith)))
+      go false f k l ih = rw (fixed_later S m i f) (omega (arith, ih k (rw (fixed_later S m i f) at l)))
+
+  ascending : (m i : ℕ) → IsStrictlyIncreasing (fixed_from S m i)
+  ascending zero i k l = absurd (let z : k + 1 < 0 = rw (fixed_none S i) at l in omega arith)
+  ascending (suc m) i k l = go (fixed i) refl k l (ascending m (suc i))
+    where
+      go : (b : Bool) → fixed i ≡ b → (k : ℕ) → k + 1 < length (fixed_from S (suc m) i)
+          → IsStrictlyIncreasing (fixed_from S m (suc i)) → get_or (fixed_from S (suc m) i) k 0 < get_or (fixed_from S (suc m) i) (k + 1) 0
+      go true f zero l ih =
+          rw (fixed_here S m i f) (omega (arith, at_least m (suc i) 0 (let z : 1 < suc (length (fixed_from S m (suc i))) = rw (fixed_here S m i f) at l in omega arith)))
+      go true f (suc k) l ih =
+          let z : suc k + 1 < suc (length (fixed_from S m (suc i))) = rw (fixed_here S m i f) at l in
+          rw (fixed_here S m i f, add-one (suc k)) (rw (add-one k) at (ih k (omega arith)))
+      go false f k l ih = rw (fixed_later S m i f) (ih k (rw (fixed_later S m i f) at l))
+
+  pub own_starts : OwnStarts S
+  unfolding pass
+  own_starts = record { names = own; ascending = ascending n 0; pass_is = λ ts. refl }

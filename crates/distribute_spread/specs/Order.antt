@@ -1,10 +1,11 @@
--- Demand 3: spreading does not depend on the order of its starts. One claim about the whole list of starts, with the two counts looked and turned
--- (`OrderFree`). And what holds of each start: no guard ends its walks (`Unguarded`), and there is an angle for each tangent turned (`AnglesSuffice`).
+-- Spreading does not depend on the order of its starts: one claim about the whole list of starts, with the two counts looked and turned (`OrderFree`), and that
+-- the unit's own starts are such a list (`OwnStarts`). And what holds of each start: no guard ends its walks (`Unguarded`), and there is an angle for each tangent turned (`AnglesSuffice`).
 use Rattle.std.specs.Prelude.{◌≡◌, true, false, List, ℕ, suc, ◌+◌, ◌≤◌, ◌<◌}
+use Rattle.std.specs.List.Sorted.{IsStrictlyIncreasing}
 use Rattle.cycles.specs.Count.{count, ◌∈◌, Exactly}
 use Rattle.cycles.specs.Walk.{Reaches}
 use Rattle.distribute_spread.specs.Steps.{Steps}
-use Rattle.distribute_spread.specs.Spread.{State, marked, first_walk, second_walk, spread, pass}
+use Rattle.distribute_spread.specs.Spread.{State, marked, first_walk, second_walk, spread, fixed_from, pass}
 
 module _ (S : Steps) where
   open S use {Tangents, Tangent, Gathered, Plan, n, step, fixed, read, weight, begin, gather}
@@ -13,6 +14,12 @@ module _ (S : Steps) where
   pub record NamesFixed (starts : List ℕ) : Type 0 where
     pub each : (e : ℕ) → e < n → fixed e ≡ true → count e starts ≡ 1
     pub only : (e : ℕ) → e ∈ starts → (e < n) × (fixed e ≡ true)
+
+  -- The unit's own starts, the fixed halfedges in ascending order, are such a list, and the unit's pass is spreading from it.
+  pub record OwnStarts : Type 0 where
+    pub names : NamesFixed (fixed_from S n 0)
+    pub ascending : IsStrictlyIncreasing (fixed_from S n 0)
+    pub pass_is : (ts : Tangents) → pass S ts ≡ spread S (fixed_from S n 0) ts
 
   -- d lies in the round of e
   abbrev pub InRound : ℕ → ℕ → Type 0

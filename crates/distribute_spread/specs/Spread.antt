@@ -10,7 +10,7 @@ pub record Found (S : Steps) : Type 0 where
   pub looked : ℕ
   pub gathered : S.Gathered
 
--- The tangents and document 01's two counts. `places` names the halfedges that were turned, the last one first: no call reports it, it is here so that a statement can say which they are.
+-- The tangents and the two counts, how many steps were looked at and how many tangents were turned. `places` names the halfedges that were turned, the last one first: the preview's bytes report them, and `OrderFree` says which they are.
 pub record State (S : Steps) : Type 0 where
   pub tangents : S.Tangents
   pub looked : ℕ

@@ -32,12 +32,12 @@ cubic_bezier_2_linear p0 p1 p2 p3 x =
 unfoldable pub bezier_point : LinearSegment → Float → Vec3
 bezier_point points x = hnormalize (lerp4 points.left points.right x)
 
--- this file's own `safe_normalize`: zero for a length below 1e-30. The length is that of src/linalg.rs: the root of x x + y y + z z, summed in this order.
+-- this file's own `safe_normalize`: zero for a length below 1e-30. The length is that of src/linalg.rs: the root of x x + y y + z z, summed in this order. Where that sum overflows the length is infinite, each finite number divided by it is a zero, and an infinite one is not a number; where the sum is not a number, neither is any number divided by the length.
 unfoldable pub safe_normalize : Vec3 → Vec3
 safe_normalize v =
     let len = length_of v in
     cond (lt len (lit 0x39b4_484b_feeb_c2a0)) (record { x = zero; y = zero; z = zero }) (div3 v len)
 
--- `bezier_tangent`
+-- `bezier_tangent`: the direction from left to right. It has length 1 up to rounding, but for what `safe_normalize` says.
 unfoldable pub bezier_tangent : LinearSegment → Vec3
 bezier_tangent points = safe_normalize (sub3 (hnormalize points.right) (hnormalize points.left))

@@ -59,7 +59,8 @@ pub fn bezier_point(points: LinearSegment, x: f64) -> Vec3
     hnormalize(lerp4(points.left, points.right, x))
 }
 
-// Not that of `smoothing`, which tests the squared length.
+// Not that of `smoothing`, which tests the squared length. Finite numbers whose squared length overflows are divided by infinity, which
+// gives zeros; an infinite number becomes not-a-number then, and with not-a-number all three do.
 #[tactic(auto, unfolding(crate::specs::Bezier::safe_normalize))]
 fn safe_normalize(v: Vec3) -> Vec3
     ensures { result ≡ safe_normalize v }
@@ -71,6 +72,7 @@ fn safe_normalize(v: Vec3) -> Vec3
     v / len
 }
 
+// The direction of the curve: of length 1 up to rounding, but for what `safe_normalize` says.
 #[tactic(auto, unfolding(crate::specs::Bezier::bezier_tangent))]
 pub fn bezier_tangent(points: LinearSegment) -> Vec3
     ensures { result ≡ bezier_tangent points }

@@ -1,4 +1,4 @@
--- Lists of halfedges that differ in their rows alone give the same `Halfedges`.
+-- Lists of halfedges that differ in their rows alone give the same `Halfedges`: every definition over these says the same of both.
 use Prim.Native.Nat.{ℕ, ◌+◌, ◌*◌, ◌≤◌, ◌<◌}
 use native.Mathlib.Decide.{dec_le}
 use native.Mathlib.Omega.{arith}
@@ -7,7 +7,7 @@ use mathlib.Core.List.{List}
 use lib.ListN.{length, get_or-eq_default}
 use lib.IntN.{ℤ, pos}
 use Rattle.mesh.specs.Mesh.{halfedge_stride, number_at, index_of, field, Halfedges, as_halfedges}
-use Rattle.mesh.specs.Rows.{SameButRows, SameHalfedges}
+use Rattle.mesh.specs.Rows.{SameButRows}
 
 -- past the last halfedge each number is 0
 past : (list : List ℤ) (n e k : ℕ) → length list ≡ n * halfedge_stride → n ≤ e → number_at list e halfedge_stride k ≡ pos 0
@@ -29,7 +29,7 @@ module _ {list other : List ℤ} {n : ℕ} (s : SameButRows list other n) where
 abbrev halfedges : ℕ → (ℕ → ℕ) → (ℕ → ℕ) → (ℕ → ℕ) → Halfedges
 halfedges numbers start end pair = record { numbers = numbers; start = start; end = end; pair = pair }
 
-pub same_halfedges : SameHalfedges
+pub same_halfedges : (list other : List ℤ) (n : ℕ) → SameButRows list other n → as_halfedges list ≡ as_halfedges other
 unfolding as_halfedges
 same_halfedges list other n s =
     let numbers = s.whole ∙ sym s.other_whole in

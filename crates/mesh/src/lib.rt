@@ -7,12 +7,15 @@
 mod questions;
 mod triangles;
 
-ghost use Rattle.std.specs.Prelude.{◌≡◌, ℕ, Bool, IsErr, IfErr, Err, ◌&&◌, ◌+◌, ◌*◌, ◌%◌, ◌<◌, ◌≤◌, ◌^◌, length};
+ghost use Rattle.std.specs.Prelude.{◌≡◌, ◌↔◌, ℕ, Bool, true, IsErr, IfErr, Err, ◌&&◌, ◌+◌, ◌*◌, ◌/◌, ◌%◌, ◌<◌, ◌≤◌, ◌^◌, pos, get_or, length};
+ghost use Rattle.std.specs.Int.Signed.{le_z};
+ghost use Rattle.std.specs.Float.{nan};
 ghost use Rattle.mesh.specs.Mesh.{max_halfedges, max_points, halfedge_stride, number_at, field, start_vert, end_vert, paired_halfedge, prop_vert, is_forward, next_halfedge, prev_halfedge, eq_z, ref_at, same_face, as_halfedges, no_index};
 ghost use Rattle.mesh.specs.Inside.{Inside};
 ghost use Rattle.mesh.specs.Scalar.{radians_of};
 ghost use Rattle.mesh.specs.Questions.{has_length, sign_clear};
 ghost use Rattle.mesh.specs.All.{triangles_hold, ask_each};
+ghost use Rattle.mesh.specs.Sound.{Sound};
 ghost use Rattle.mesh.specs.Check.{number_of, place_of, answer_of, asked, each, check_mesh, check_refs, check_entries, check_flags, check_rows};
 
 use questions::{
@@ -273,10 +276,12 @@ pub fn ask_at(question: Question, place: usize, answer: bool) -> Result<(), Refu
     Err(Refusal { question, place })
 }
 
-// The questions 1 to 7. `lengths` is the answer to question 2, which the caller finds of its own lists by `has_length`.
+// The questions 1 to 7: a mesh is accepted exactly if it is sound and the lists have their lengths. `lengths` is the answer to question
+// 2, which the caller finds of its own lists by `has_length`.
 #[tactic(auto, unfolding(crate::specs::Check::check_mesh, crate::specs::All::ask_each))]
 pub fn check_mesh(h: &[i32], n: usize, p: usize, lengths: bool) -> Result<(), Refusal>
-    ensures { result ≡ check_mesh (as_halfedges h.now) n p lengths }
+    ensures answer { result ≡ check_mesh (as_halfedges h.now) n p lengths }
+    ensures accepted { (result ≡ Ok tt) ↔ ((lengths ≡ true) × Sound (as_halfedges h.now) n p) }
 {
     ask_at(Question::Counts, 0, counts_fit(n, p))?;
     ask_at(Question::Lengths, 0, lengths)?;
@@ -291,7 +296,8 @@ pub fn check_mesh(h: &[i32], n: usize, p: usize, lengths: bool) -> Result<(), Re
 // finds its line.
 #[tactic(auto, unfolding(crate::specs::Check::check_refs))]
 pub fn check_refs(sofar: Result<(), Refusal>, refs: &[i32], n: usize) -> Result<(), Refusal>
-    ensures { result ≡ check_refs sofar refs.now n }
+    ensures answer { result ≡ check_refs sofar refs.now n }
+    ensures accepted { (result ≡ Ok tt) ↔ ((sofar ≡ Ok tt) × ((t : ℕ) → t < n / 3 → le_z (pos 1) (ref_at refs.now t 0) ≡ true)) }
 {
     sofar?;
     ask(Question::Mesh, n / 3, |t| has_mesh(refs, t))
@@ -305,7 +311,8 @@ pub fn check_entries(
     smoothness: &[f64],
     n: usize,
 ) -> Result<(), Refusal>
-    ensures { result ≡ check_entries sofar halfedges.now smoothness.now n }
+    ensures answer { result ≡ check_entries sofar halfedges.now smoothness.now n }
+    ensures accepted { (result ≡ Ok tt) ↔ ((sofar ≡ Ok tt) × ((k : ℕ) → k < length halfedges.now → (get_or halfedges.now k 0 < n) × (sign_clear (get_or smoothness.now k nan) ≡ true))) }
 {
     sofar?;
     ask(
@@ -323,7 +330,8 @@ pub fn check_entries(
 // Question 11, after those of `check_mesh`: the flags of the halfedges.
 #[tactic(auto, unfolding(crate::specs::Check::check_flags))]
 pub fn check_flags(mesh: Result<(), Refusal>, flags: &[u8], n: usize) -> Result<(), Refusal>
-    ensures { result ≡ check_flags mesh flags.now n }
+    ensures answer { result ≡ check_flags mesh flags.now n }
+    ensures accepted { (result ≡ Ok tt) ↔ ((mesh ≡ Ok tt) × ((e : ℕ) → e < n → get_or flags.now e 0 ≤ 1)) }
 {
     mesh?;
     ask(Question::Flag, n, |e| is_flag(flags, e))
@@ -337,7 +345,8 @@ pub fn check_rows(
     rows: usize,
     n: usize,
 ) -> Result<(), Refusal>
-    ensures { result ≡ check_rows checked h.now rows n }
+    ensures answer { result ≡ check_rows checked h.now rows n }
+    ensures accepted { (result ≡ Ok tt) ↔ ((checked ≡ Ok tt) × ((e : ℕ) → e < n → (prop_vert h.now e < no_index) × (prop_vert h.now e < rows))) }
 {
     checked?;
     ask(Question::Row, n, |e| has_row(h, rows, e))

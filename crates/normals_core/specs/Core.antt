@@ -8,16 +8,16 @@ use Rattle.create_shared.specs.Makings.{Tangents, tangents_of}
 use Rattle.normals_walks.specs.Walks.{normals_verts, normals_verts_directionless}
 use Rattle.distribute.specs.Distribute.{spread_tangents}
 
--- ---- what the written lists must be for a call: T are the tangents, X, B, C, D and W the scratch lists `fixed`, `inside`, `current`, `desired` and `first`
+-- ---- what the written lists must be for a call: only inner contracts cite these. T are the tangents, X, B, C, D and W the scratch lists `fixed`, `inside`, `current`, `desired` and `first`
 
--- a tangent and two flags for each halfedge, and a place for each point
+-- an inner record: a tangent and two flags for each halfedge, and a place for each point
 pub record MadeIn (T : List Float) (X B W : List ℕ) (n p : ℕ) : Type 0 where
   pub tangents : length T ≡ n * 4
   pub fixed : length X ≡ n
   pub inside : length B ≡ n
   pub points : length W ≡ p
 
--- and two angles for each halfedge
+-- an inner record: these, and two angles for each halfedge
 pub record ScratchIn (T : List Float) (X B : List ℕ) (C D : List Float) (W : List ℕ) (n p : ℕ) : Type 0 where
   pub made : MadeIn T X B W n p
   pub current : length C ≡ n

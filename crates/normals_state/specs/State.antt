@@ -14,9 +14,9 @@ use Rattle.normals_state.specs.declared.StartHalfedge.{StartHalfedge}
 use Rattle.normals_state.specs.declared.StartHalfedge.TheVariants.{NoneMissing, SomeMissing, StartAt}
 use Rattle.normals_state.specs.declared.CycleState.{CycleState}
 
--- ---- what the lists must be for a call
+-- ---- what the lists must be for a call: only inner contracts cite it
 
--- halfedge e of the list has its row in the row list G
+-- an inner record: halfedge e of the list has its row in the row list G
 pub record RowIn (list : List ℤ) (G : List Float) (e : ℕ) : Type 0 where
   pub within : e * halfedge_stride + halfedge_stride ≤ length list
   pub row_index : prop_vert list e < no_index

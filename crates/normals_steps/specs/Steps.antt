@@ -18,7 +18,7 @@ use Rattle.normals_state.specs.declared.StartHalfedge.TheVariants.{NoneMissing, 
 use Rattle.normals_state.specs.declared.CycleState.{CycleState}
 use Rattle.normals_state.specs.State.{normal_or, is_missing, next_state, spoil_face_edges}
 
--- ---- what the state must be for a call
+-- ---- what the state must be for a call: only inner contracts cite these
 
 -- the halfedges that the state of a walk names all have Q
 abbrev pub FaceEdgesNames : (ℕ → Type 0) → FaceEdges → Type 0
@@ -32,6 +32,7 @@ StartNames Q NoneMissing = Unit {0}
 StartNames Q SomeMissing = Unit {0}
 StartNames Q (StartAt e) = Q e
 
+-- an inner record: both parts of the state
 pub record StateNames (Q : ℕ → Type 0) (s : CycleState) : Type 0 where
   pub face_edges : FaceEdgesNames Q s.face_edges
   pub start_halfedge : StartNames Q s.start_halfedge

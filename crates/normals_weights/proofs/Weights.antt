@@ -1,4 +1,4 @@
--- THE THEOREM: on a sound mesh, and so after an accepted call, making from normals leaves made weights only, and no flag of a missing normal. Assumes nothing.
+-- THE THEOREM: on a sound mesh making from normals leaves made weights only, and no flag of a missing normal. Assumes nothing.
 use Prim.Native.Nat.{ℕ, ◌+◌, ◌*◌, ◌<◌}
 use native.Mathlib.Nat.{le_refl}
 use native.Mathlib.Omega.{arith}
@@ -21,15 +21,13 @@ use Rattle.smoothing.proofs.Tangents.{weight_of}
 use Rattle.distribute_spread.proofs.Own.{own}
 use Rattle.distribute_spread.proofs.Order.{order_free}
 use Rattle.create_shared.specs.Makings.{tangents_of}
-use Rattle.normals_state.specs.State.{get_normal}
 use Rattle.normals_steps.specs.Steps.{inside_quad_weight, missing_normal_weight}
 use Rattle.normals_walks.specs.Walks.{normals_vert, normals_verts}
 use Rattle.distribute_steps.specs.FloatSteps.{float_steps}
 use Rattle.distribute_walks.proofs.Lawful.{lawful}
 use Rattle.distribute.specs.Distribute.{spread_tangents}
 use Rattle.normals_core.specs.Core.{normal_tangents, create_tangents_from_normals}
-use Rattle.create_from_normals.proofs.Accepted.{lists_of}
-use Rattle.normals_weights.specs.Weights.{MadeWeight, inside, further, circular, WeightsOf, WeightsAfter}
+use Rattle.normals_weights.specs.Weights.{MadeWeight, inside, further, circular, WeightsOf}
 use Rattle.normals_weights.proofs.Circular.{circular_clear}
 use Rattle.normals_weights.proofs.Verts.{AllMade, vert_keeps}
 
@@ -83,15 +81,11 @@ module _ {H : Halfedges} {n p : ℕ} (S : Sound H n p) (R : List ℤ) (P N A : L
       let m = normal_tangents H P N A R normal O old n p in
       rw (spreading_keeps m.fixed m.tangents before_spreading.whole e) (before_spreading.made e l)
 
-  pub weights : WeightsOf H P N A R normal O old n p
-  weights = record {
-    made = made_weight;
-    mark_or_clear = λ e l. mark_or_clear (made_weight e l);
-    none_missing = λ e l. not_missing (mark_or_clear (made_weight e l));
-  }
-
--- so of a call that is accepted
-pub weights_after : (list : List ℤ) (P N A : List Float) (R : List ℤ) (G O : List Float) (X Q : List ℕ) (C D : List Float) (F : List ℕ) (old : Bool) (n p : ℕ) → WeightsAfter list P N A R G O X Q C D F old n p
-weights_after list P N A R G O X Q C D F old n p e =
-    let w = lists_of list P N A R G O X Q C D F n p e in
-    rw e (weights w.sound R P N A (get_normal list G) O old)
+pub weights : WeightsOf
+weights H P N A R normal T old n p S =
+    let made = made_weight S R P N A normal T old in
+    record {
+      made = made;
+      mark_or_clear = λ e l. mark_or_clear (made e l);
+      none_missing = λ e l. not_missing (mark_or_clear (made e l));
+    }

@@ -1,16 +1,15 @@
--- The weights that `create_tangents_from_normals` leaves on an accepted mesh. On its way it gives the weight -3 to a halfedge whose normal is missing, and reads it back; none is left at the end. H are the halfedges, R the face references, P the positions, N the point normals, A the face normals, `normal` gives the normal of a halfedge, T the tangents as lent, `old` whether these are old tangents, n and p the counts of halfedges and points.
+-- The weights that `create_tangents_from_normals` leaves on an accepted mesh. On its way it gives the weight -3 to a halfedge whose normal is missing, and reads it back; none is left at the end. H are the halfedges, P the positions, N the point normals, A the face normals, R the face references, `normal` gives the normal of a halfedge, T the tangents, as lent or as they stand, `old` whether these are old tangents, n and p the counts of halfedges and points.
 use Rattle.std.specs.Prelude.{ℕ, ◌<◌, ◌≡◌, ◌⊎◌, List, Bool, true, ℤ, Float}
 use Rattle.float.specs.Ops.{zero}
 use Rattle.linalg.specs.declared.Vec3.{Vec3}
-use Rattle.mesh.specs.Mesh.{Halfedges, as_halfedges}
+use Rattle.mesh.specs.Mesh.{Halfedges}
 use Rattle.mesh.specs.Questions.{sign_clear}
-use Rattle.std.specs.Prelude.{Ok}
+use Rattle.mesh.specs.Sound.{Sound}
 use Rattle.smoothing.specs.Directions.{circular_tangent}
 use Rattle.smoothing.specs.Lists.{weight_at}
 use Rattle.smoothing.specs.Edges.{edge_vec}
 use Rattle.normals_steps.specs.Steps.{inside_quad_weight, missing_normal_weight}
 use Rattle.normals_core.specs.Core.{create_tangents_from_normals}
-use Rattle.create_from_normals.specs.FromNormals.{check_lists, tangents_after}
 
 -- What the weight w of halfedge e can be: -1 inside a quad, 0 in a further vertex cycle of a point, and else that of a circular tangent along its edge.
 pub data MadeWeight (H : Halfedges) (P : List Float) (e : ℕ) (w : Float) : Type 0 where
@@ -26,12 +25,9 @@ pub record Weights (H : Halfedges) (P T : List Float) (n : ℕ) : Type 0 where
   -- so none is -3
   pub none_missing : (e : ℕ) → e < n → weight_at T e ≡ missing_normal_weight → ⊥
 
--- THE CLAIM, for every sound mesh and any other lists
-abbrev pub WeightsOf : Halfedges → List Float → List Float → List Float → List ℤ → (ℕ → Vec3) → List Float → Bool → ℕ → ℕ → Type 0
-WeightsOf H P N A R normal T old n p = Weights H P (create_tangents_from_normals H P N A R normal T old n p) n
-
--- The same of the public call, for every input that it accepts; `list` is the list of halfedges, G the row list; X, B, C, D and W are its scratch lists
-abbrev pub WeightsAfter : List ℤ → List Float → List Float → List Float → List ℤ → List Float → List Float → List ℕ → List ℕ → List Float → List Float → List ℕ → Bool → ℕ → ℕ → Type 0
-WeightsAfter list P N A R G T X B C D W old n p =
-    let answer = check_lists list P N A R G T X B C D W n p in
-    answer ≡ Ok tt → Weights (as_halfedges list) P (tangents_after answer list P N A R G T old n p) n
+-- THE CLAIM, for every sound mesh, every normal of its halfedges and any other lists
+abbrev pub WeightsOf : Type 0
+WeightsOf =
+    (H : Halfedges) (P N A : List Float) (R : List ℤ) (normal : ℕ → Vec3) (T : List Float) (old : Bool) (n p : ℕ)
+    → Sound H n p
+    → Weights H P (create_tangents_from_normals H P N A R normal T old n p) n

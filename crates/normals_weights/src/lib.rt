@@ -1,3 +1,10 @@
-// The weights that making from normals leaves: no flag of a missing normal (-3) among them. specs/Weights.antt states it
-// and proofs/Weights.antt proves it, of the definitions that the calls of `normals_core` meet. There is no code here.
+// The weights that making from normals leaves: no flag of a missing normal (-3) is among them.
 #![tactic(auto)]
+
+ghost use Rattle.normals_weights.specs.Weights.{WeightsOf};
+
+// Law: on a sound mesh making from normals leaves at each halfedge the weight -1, 0, or that of a circular tangent along its edge,
+// and never -3 (specs/Weights.antt, `WeightsOf`).
+pub fn weights_hold()
+    ensures { WeightsOf }
+{}

@@ -4,4 +4,3 @@ pub mod Lawful
 mod First
 mod Second
 mod Starts
-mod Pillow

@@ -1,5 +1,5 @@
 -- The lists that were read are those of the input, and what is rendered of its operation are the program's lines. Assumes nothing.
-use Prim.Native.Nat.{ℕ, ◌+◌, ◌*◌, ◌≤◌}
+use Prim.Native.Nat.{ℕ, ◌*◌, ◌≤◌}
 use native.Mathlib.Omega.{arith}
 use mathlib.Core.Path.{◌≡◌, refl, sym, ap, ◌∙◌}
 use mathlib.Core.List.{List, ◌++◌}
@@ -10,7 +10,7 @@ use Rattle.little_endian.specs.Filled.{items, filled}
 use Rattle.little_endian.proofs.Filled.{items_length}
 use Rattle.little_endian.specs.Numbers.{f64_item}
 use Rattle.mesh.specs.Mesh.{as_halfedges}
-use Rattle.records.specs.Records.{body_at, parse_input}
+use Rattle.records.specs.Records.{max_input, mesh_kinds, records_length, body_at, parse_input}
 use Rattle.records.specs.Lists.{Lists, if_spread, read_answer, read_lists}
 use Rattle.records.specs.declared.Operation.{Operation}
 use Rattle.records.specs.declared.Operation.TheVariants.{Straighten, Spread, Check}
@@ -23,10 +23,10 @@ use Rattle.program_lines.specs.Lines.{lines_of, printed, rendered}
 use Rattle.program_lines.proofs.Whole.{whole}
 use Rattle.program_lines.specs.declared.Output.{Output}
 use Rattle.program_operations.specs.Operations.{operation_lines, operation_tangents, operation_scratch, Shows}
-use Rattle.program.specs.Program.{output_of, halfedges_of, positions_of, tangents_of, normals_of, flags_of, positions_after, halfedges_after, normals_after, flags_after, tangents_after, scratch_after, when_spreading, Room}
+use Rattle.program.specs.Program.{output_of, halfedges_of, positions_of, tangents_of, normals_of, flags_of, positions_after, halfedges_after, normals_after, flags_after, tangents_after, scratch_after, when_spreading, tangent_room, flag_room, output_room, Room}
 
 -- what is rendered of an output that shows the program's lines, where there is room
-pub renders : (s : List ℕ) (o : Result Output Refusal) (T : List Float) (out : ℕ) → 5456 ≤ length T → 131136 ≤ out → Shows (output_of s) 1364 o T →
+pub renders : (s : List ℕ) (o : Result Output Refusal) (T : List Float) (out : ℕ) → tangent_room ≤ length T → output_room ≤ out → Shows (output_of s) flag_room o T →
     rendered (printed o) T out ≡ output_of s
 renders s o T out t room e = whole (printed o) T out (omega (arith, e.halfedges_few)) (omega (arith, e.halfedges_few)) ∙ e.shown
 
@@ -62,7 +62,7 @@ pub record Reading (s : List ℕ) (L L' : Lists) (r : Result Input Refusal) (cur
 
 module _ {s : List ℕ} {L L' : Lists} {r : Result Input Refusal} {current desired : ℕ} (w : Reading s L L' r current desired) where
   parsed : (q : Result Input Refusal) → r ≡ q → parse_input s ≡ q
-  parsed q e = sym (never_short s L w.room.position_room w.room.halfedge_room w.room.tangent_room w.room.normal_room w.room.flag_room) ∙ sym w.answer ∙ e
+  parsed q e = sym (never_short s L w.room.positions_in w.room.halfedges_in w.room.tangents_in w.room.normals_in w.room.flags_in) ∙ sym w.answer ∙ e
 
   -- the lists that only the reading writes
   pub read_left : (q : Result Input Refusal) → r ≡ q →
@@ -77,7 +77,7 @@ module _ {s : List ℕ} {L L' : Lists} {r : Result Input Refusal} {current desir
 
   module _ (refusal : Refusal) (e : r ≡ Err refusal) where
     -- a refusal is printed
-    pub refusal_shows : (T : List Float) → Shows (output_of s) 1364 (Err refusal) T
+    pub refusal_shows : (T : List Float) → Shows (output_of s) flag_room (Err refusal) T
     unfolding output_of lines_of
     refusal_shows T = record { shown = rw (parsed _ e); halfedges_few = omega arith }
 
@@ -94,7 +94,7 @@ module _ {s : List ℕ} {L L' : Lists} {r : Result Input Refusal} {current desir
     lists : L' ≡ read_lists (Ok (record { operation = o; counts = record { points = p; halfedges = n } })) s L
     lists = w.lists ∙ ap (λ (q : Result Input Refusal). read_lists q s L) e
 
-    pub bound : 24 * p + 48 * n + 35 ≤ 65536
+    pub bound : records_length p n mesh_kinds ≤ max_input
     bound = counts_bound s _ (parsed _ e)
 
     positions_read : take (3 * p) L'.positions ≡ positions_of s p n
@@ -123,7 +123,7 @@ module _ {s : List ℕ} {L L' : Lists} {r : Result Input Refusal} {current desir
     -- what the operation prints of the lists that were read is printed
     pub operation_shows : (output : Result Output Refusal) (T : List Float) →
         Shows (operation_lines o (as_halfedges (take (4 * n) L'.halfedges)) (take (3 * p) L'.positions) (take (3 * p) L'.normals) (take n L'.flags) (take (4 * n) L'.tangents) n p) n output T →
-        Shows (output_of s) 1364 output T
+        Shows (output_of s) flag_room output T
     unfolding output_of
     operation_shows output T h =
         record {

@@ -1,3 +1,4 @@
--- The laws that the proofs of `program` share; `Rows` proves the claim of specs/Rows.antt.
+-- The laws that the proofs of `program` share; `Rows` proves the claim of specs/Rows.antt, `Rooms` that of the rooms.
 mod Inputs
+pub mod Rooms
 pub mod Rows

@@ -14,7 +14,7 @@ use Rattle.std.specs.Prelude.{Result, Ok, Err}
 use Rattle.mesh.specs.declared.Refusal.{Refusal}
 use Rattle.program_operations.specs.Operations.{operation_lines, operation_tangents, operation_scratch}
 use Rattle.program.specs.Program.{positions_of, halfedges_of, tangents_of, normals_of, flags_of, output_of, tangents_after, scratch_after}
-use Rattle.program.specs.Rows.{SameLists, SameInputs, RowsUnread}
+use Rattle.program.specs.Rows.{SameLists, SameInputs, InputRowsUnread}
 use Rattle.program.proofs.Inputs.{only_spread}
 
 -- ---- one operation
@@ -68,8 +68,8 @@ module _ (s s' : List ℕ) (h : SameInputs s s') where
   scratch lent (Err refusal) e = rw (e, both _ e)
   scratch lent (Ok i) e = rw (e, both _ e) (same_scratch s s' _ _ _ (h.lists i e) lent)
 
-pub rows_unread : (s s' : List ℕ) → RowsUnread s s'
-rows_unread s s' h =
+pub input_rows_unread : InputRowsUnread
+input_rows_unread s s' h =
     record {
       output = output s s' h (parse_input s) refl;
       tangents = λ lent. tangents s s' h lent (parse_input s) refl;

@@ -1,15 +1,15 @@
 -- The program `tangents` of document 01, from the bytes s that it reads to the bytes that it writes. p and n are the counts of points and halfedges.
-use Rattle.std.specs.Prelude.{ℕ, ◌*◌, ◌≤◌, List, [], ◌++◌, Bool, ◌&&◌, leb, length, drop, ℤ, Float, Result, Ok, Err}
+use Rattle.std.specs.Prelude.{ℕ, ◌+◌, ◌*◌, ◌≤◌, ◌≡◌, List, [], ◌++◌, Bool, ◌&&◌, leb, length, drop, ℤ, Float, Result, Ok, Err}
 use Rattle.little_endian.specs.Numbers.{f64_item, i32_item, byte_item}
 use Rattle.little_endian.specs.Filled.{items}
 use Rattle.mesh.specs.Mesh.{halfedge_stride, as_halfedges}
-use Rattle.records.specs.Records.{body_at, parse_input}
+use Rattle.records.specs.Records.{max_points, max_halfedges, body_at, parse_input}
 use Rattle.records.specs.declared.Operation.{Operation}
 use Rattle.records.specs.declared.Operation.TheVariants.{Straighten, Spread, Check}
 use Rattle.records.specs.declared.Kind.TheVariants.{Positions, Halfedges, Tangents, Normals, Flags}
 use Rattle.records.specs.declared.Input.{Input}
 use Rattle.mesh.specs.declared.Refusal.{Refusal}
-use Rattle.program_lines.specs.Lines.{lines_of, printed}
+use Rattle.program_lines.specs.Lines.{lines_of, printed, line_bytes}
 use Rattle.program_operations.specs.Operations.{operation_lines, operation_tangents, operation_scratch}
 
 -- ---- the lists of an accepted input
@@ -90,11 +90,28 @@ scratch_after s lent =
 
 -- ---- the room of the lent lists
 
--- Has each list the room that the longest input can call for: 2,729 points, 1,364 halfedges, and a line of each halfedge and two more?
+-- the lengths that the longest input can call for: of positions and of point normals, of halfedges, of tangents, of flags and of
+-- either scratch list, and of the output, which has a line of each halfedge and two more
+abbrev pub position_room : ℕ
+position_room = 3 * max_points
+
+abbrev pub halfedge_room : ℕ
+halfedge_room = halfedge_stride * max_halfedges
+
+abbrev pub tangent_room : ℕ
+tangent_room = 4 * max_halfedges
+
+abbrev pub flag_room : ℕ
+flag_room = max_halfedges
+
+abbrev pub output_room : ℕ
+output_room = line_bytes * (max_halfedges + 2)
+
+-- Has each list that room?
 unfoldable pub has_room : ℕ → ℕ → ℕ → ℕ → ℕ → ℕ → ℕ → ℕ → Bool
 has_room positions halfedges tangents normals flags current desired out =
-    leb 8187 positions && leb 5456 halfedges && leb 5456 tangents && leb 8187 normals && leb 1364 flags
-    && leb 1364 current && leb 1364 desired && leb 131136 out
+    leb position_room positions && leb halfedge_room halfedges && leb tangent_room tangents && leb position_room normals
+    && leb flag_room flags && leb flag_room current && leb flag_room desired && leb output_room out
 
 -- the same of the lists themselves
 abbrev pub lists_have_room : List Float → List ℤ → List Float → List Float → List ℕ → List Float → List Float → List ℕ → Bool
@@ -103,10 +120,25 @@ lists_have_room positions halfedges tangents normals flags current desired out =
 
 -- lists of at least these lengths
 pub record Room (positions halfedges tangents normals flags current desired : ℕ) : Type 0 where
-  pub position_room : 8187 ≤ positions
-  pub halfedge_room : 5456 ≤ halfedges
-  pub tangent_room : 5456 ≤ tangents
-  pub normal_room : 8187 ≤ normals
-  pub flag_room : 1364 ≤ flags
-  pub current_room : 1364 ≤ current
-  pub desired_room : 1364 ≤ desired
+  pub positions_in : position_room ≤ positions
+  pub halfedges_in : halfedge_room ≤ halfedges
+  pub tangents_in : tangent_room ≤ tangents
+  pub normals_in : position_room ≤ normals
+  pub flags_in : flag_room ≤ flags
+  pub current_in : flag_room ≤ current
+  pub desired_in : flag_room ≤ desired
+
+-- ---- that these lengths suffice
+
+-- so many points and halfedges need no more room than that
+pub record FitsRooms (p n : ℕ) : Type 0 where
+  pub positions_fit : 3 * p ≤ position_room
+  pub halfedges_fit : halfedge_stride * n ≤ halfedge_room
+  pub tangents_fit : 4 * n ≤ tangent_room
+  pub flags_fit : n ≤ flag_room
+
+-- THE CLAIM: the lists of every input that is accepted have room, and so has the output of every input.
+abbrev pub RoomsSuffice : Type 0
+RoomsSuffice =
+    (s : List ℕ) →
+    ((input : Input) → parse_input s ≡ Ok input → FitsRooms input.counts.points input.counts.halfedges) × (length (output_of s) ≤ output_room)

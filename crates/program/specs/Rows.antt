@@ -28,5 +28,5 @@ pub record SameAnswer (s s' : List ℕ) : Type 0 where
   pub scratch : (lent : List Float) → scratch_after s lent ≡ scratch_after s' lent
 
 -- THE CLAIM, for every two inputs
-abbrev pub RowsUnread : List ℕ → List ℕ → Type 0
-RowsUnread s s' = SameInputs s s' → SameAnswer s s'
+abbrev pub InputRowsUnread : Type 0
+InputRowsUnread = (s s' : List ℕ) → SameInputs s s' → SameAnswer s s'

@@ -5,22 +5,29 @@
 ghost use Rattle.std.specs.Prelude.{◌≡◌, cond, [], length};
 ghost use Rattle.program_lines.specs.Text.{Put};
 ghost use Rattle.program_operations.specs.Operations.{Shows};
-ghost use Rattle.program.specs.Program.{output_of, positions_after, halfedges_after, tangents_after, normals_after, flags_after, scratch_after, lists_have_room, Room};
+ghost use Rattle.program.specs.Program.{output_of, positions_after, halfedges_after, tangents_after, normals_after, flags_after, scratch_after, lists_have_room, flag_room, Room, RoomsSuffice};
+ghost use Rattle.program.specs.Rows.{InputRowsUnread};
 
 use mesh::Refusal;
 use program_lines::Output;
 
 // The lengths of lists with room for every input: its positions or point normals, its halfedges, its tangents, one place
-// for each halfedge (flags, scratch), and its output.
-pub const POSITION_ROOM: usize = 8187;
+// for each halfedge (flags, scratch), and its output, a line of each halfedge and two more.
+pub const POSITION_ROOM: usize = 3 * records::MAX_POINTS;
 
-pub const HALFEDGE_ROOM: usize = 5456;
+pub const HALFEDGE_ROOM: usize = mesh::HALFEDGE_STRIDE * records::MAX_HALFEDGES;
 
-pub const TANGENT_ROOM: usize = 5456;
+pub const TANGENT_ROOM: usize = 4 * records::MAX_HALFEDGES;
 
-pub const FLAG_ROOM: usize = 1364;
+pub const FLAG_ROOM: usize = records::MAX_HALFEDGES;
 
-pub const OUTPUT_ROOM: usize = 131136;
+pub const OUTPUT_ROOM: usize = program_lines::LINE_BYTES * (records::MAX_HALFEDGES + 2);
+
+// Law: the lists of every input that is accepted fit these lengths, and the output of every input its own
+// (specs/Program.antt, `RoomsSuffice`).
+pub fn rooms_suffice()
+    ensures { RoomsSuffice }
+{}
 
 // Reads the input into the lists, and does its operation. The lists are parameters as in `answer`.
 fn respond(
@@ -34,7 +41,7 @@ fn respond(
     desired: &mut [f64],
 ) -> Result<Output, Refusal>
     requires { Room (length pos.old) (length h.old) (length t.old) (length normals.old) (length flags.old) (length current.old) (length desired.old) }
-    ensures output { Shows (output_of input.now) 1364 result t.new }
+    ensures output { Shows (output_of input.now) flag_room result t.new }
     ensures positions { pos.new ≡ positions_after input.now pos.old }
     ensures halfedges { h.new ≡ halfedges_after input.now h.old }
     ensures tangents { t.new ≡ tangents_after input.now t.old }
@@ -99,3 +106,9 @@ pub fn answer(
     let answer = respond(input, pos, h, t, normals, flags, current, desired);
     program_lines::render(Output::from(answer), t, out)
 }
+
+// Law: two inputs that are the same but for the rows of the halfedges have the same output, and leave the same tangents and scratch
+// (specs/Rows.antt, `InputRowsUnread`).
+pub fn input_rows_unread()
+    ensures { InputRowsUnread }
+{}

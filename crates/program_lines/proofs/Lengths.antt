@@ -11,8 +11,9 @@ use lib.ListN.{length, length-append}
 use lib.Ieee.{Float}
 use Rattle.std.proofs.lemmas.Bool.{and_parts}
 use Rattle.program_lines.specs.Text.{ascii}
-use Rattle.program_lines.specs.Lines.{number_line, bits_field, tangent_line, tangent_lines, tangents_lines, lines_of, halfedges_in, has_room, rendered}
+use Rattle.program_lines.specs.Lines.{number_line, numbers_line, bits_field, tangent_line, tangent_lines, tangents_lines, lines_of, line_bytes, halfedges_in, has_room, rendered}
 use Rattle.program_lines.specs.declared.Output.{Output}
+use Rattle.program_lines.specs.declared.Output.TheVariants.{Tangents, Spread, Valid, Refused}
 use Rattle.program_lines.proofs.Digits.{decimal_length, hex_length}
 
 pub field_length : (T : List Float) (i : ℕ) → length (bits_field T i) ≤ 17
@@ -37,6 +38,19 @@ tangent_lines_length T (suc n) = rw length-append (omega (arith, tangent_lines_l
 pub tangents_length : (T : List Float) (n : ℕ) → length (tangents_lines T n) ≤ 96 * (n + 1)
 unfolding tangents_lines ascii
 tangents_length T n = rw length-append (omega (arith, tangent_lines_length T n, number_line_length (ascii "tangents ") n (omega arith)))
+
+pub numbers_line_length : (text text' : List ℕ) (n m : ℕ) → length text ≤ 16 → length text' ≤ 16 → length (numbers_line text n text' m) ≤ 96
+unfolding numbers_line
+numbers_line_length text text' n m h h' = rw (length-append, length-append) (omega (arith, decimal_length n, number_line_length text' m h'))
+
+-- a line of each halfedge and two more
+pub lines_length : (o : Output) (T : List Float) → length (lines_of o T) ≤ line_bytes * (halfedges_in o + 2)
+unfolding lines_of ascii
+lines_length (Tangents n) T = omega (arith, tangents_length T n)
+lines_length (Spread n looked turned) T =
+    rw length-append (omega (arith, tangents_length T n, numbers_line_length (ascii "looked ") (ascii " turned ") looked turned (omega arith) (omega arith)))
+lines_length (Valid valid) T = omega (arith, number_line_length (ascii "valid ") (cond valid 1 0) (omega arith))
+lines_length (Refused number place) T = omega (arith, numbers_line_length (ascii "refused ") (ascii " ") number place (omega arith) (omega arith))
 
 -- ---- the room
 

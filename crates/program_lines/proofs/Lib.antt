@@ -1,6 +1,5 @@
--- The laws that the proofs of `program_lines` share; `Whole` is for the crates above.
-mod Put
+-- The laws that the proofs of `program_lines` share; `Put`, `Lengths` and `Whole` are for the crates above too.
+pub mod Put
 mod Digits
-mod Lengths
-mod Cases
+pub mod Lengths
 pub mod Whole

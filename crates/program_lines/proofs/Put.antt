@@ -4,8 +4,8 @@ use native.Mathlib.Nat.{add-zero, add-suc, suc-add, add_assoc}
 use native.Mathlib.Omega.{arith}
 use mathlib.Core.Path.{◌≡◌, refl, sym, ap, ◌∙◌}
 use mathlib.Core.List.{List, [], ◌∷◌, ◌++◌, append_assoc}
-use lib.ListN.{length, set, length-append}
-use lib.Seq.{sets, length-sets}
+use lib.ListN.{length, take, drop, set, length-append}
+use lib.Seq.{sets, length-sets, take_at}
 use borrow.Rule.Slice.PartMut.{put_mid, Post-is}
 use Rattle.std.proofs.lemmas.List.Edits.{sets-eq}
 use Rattle.program_lines.specs.Text.{Put}
@@ -38,6 +38,11 @@ put_over a xs i end e h =
       ends = e;
       within = h;
     }
+
+-- what was stored at the front is the front
+pub put_front : {a b xs : List ℕ} {m : ℕ} → Put a 0 xs b m → take m b ≡ xs
+put_front {a} {b} {xs} {m} p =
+    ap (take m) (p.stored ∙ sets-eq xs a 0 (omega (arith, p.ends, p.within))) ∙ take_at xs (drop (0 + length xs) a) m (omega (arith, p.ends))
 
 -- what a caller needs to know of the room that is left
 pub put_within : {a b xs : List ℕ} {i m : ℕ} (k : ℕ) → length xs ≤ k → Put a i xs b m → (m ≤ i + k) × (length b ≡ length a)

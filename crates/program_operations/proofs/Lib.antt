@@ -1,2 +1,3 @@
--- The laws that the proofs of `program_operations` share.
+-- The laws that the proofs of `program_operations` share; `Lengths` is for the crates above.
 mod Shown
+pub mod Lengths

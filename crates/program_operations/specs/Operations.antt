@@ -1,5 +1,5 @@
 -- The operations of the program `tangents` (document 01) on the lists of an input, and the lines that they print. H are the halfedges, P the positions, N the point normals, X the flags, T the tangents, n and p the counts of halfedges and points.
-use Rattle.std.specs.Prelude.{ℕ, ◌+◌, ◌*◌, ◌≤◌, ◌≡◌, List, ◌++◌, replicate, drop, Float, Result, Ok, Err}
+use Rattle.std.specs.Prelude.{ℕ, ◌*◌, ◌≤◌, ◌≡◌, List, ◌++◌, replicate, drop, Float, Result, Ok, Err}
 use Rattle.float.specs.Ops.{zero}
 use Rattle.mesh.specs.Mesh.{halfedge_stride, Halfedges}
 use Rattle.mesh.specs.Check.{Checked, answer_of, when_accepted}
@@ -7,6 +7,7 @@ use Rattle.mesh.specs.declared.Refusal.{Refusal}
 use Rattle.linearize.specs.Linearize.{linearize_answer, tangents_after as straightened}
 use Rattle.validate.specs.Validate.{Validity, valid_answer}
 use Rattle.distribute.specs.Distribute.{Spreading, check_lists, distribute_tangents, tangents_after as spread}
+use Rattle.records.specs.Records.{max_input, mesh_kinds, records_length}
 use Rattle.records.specs.declared.Operation.{Operation}
 use Rattle.records.specs.declared.Operation.TheVariants.{Straighten, Spread as Spreads, Check}
 use Rattle.program_lines.specs.Lines.{lines_of, halfedges_in, printed}
@@ -73,9 +74,9 @@ operation_scratch Check H P N X T n p lent = lent
 
 -- ---- what the functions ask of their lists, and what they answer
 
--- the counts of an input, and lists with room for it, those of spreading too
+-- the counts of an input, whose records the longest one has room for, and lists with room for it, those of spreading too
 pub record SpreadIn (n p positions halfedges tangents normals flags current desired : ℕ) : Type 0 where
-  pub few : 24 * p + 48 * n + 35 ≤ 65536
+  pub few : records_length p n mesh_kinds ≤ max_input
   pub positions_in : 3 * p ≤ positions
   pub halfedges_in : halfedge_stride * n ≤ halfedges
   pub tangents_in : 4 * n ≤ tangents

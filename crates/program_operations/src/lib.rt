@@ -4,7 +4,6 @@
 
 ghost use Rattle.std.specs.Prelude.{◌≡◌, ◌*◌, ◌++◌, length, take, drop};
 ghost use Rattle.mesh.specs.Mesh.{halfedge_stride, as_halfedges};
-ghost use Rattle.records.specs.Records.{operation_of_number};
 ghost use Rattle.program_operations.specs.Operations.{straighten_lines, spread_lines, check_lines, operation_lines, straighten_tangents, spread_tangents, spread_scratch, operation_tangents, operation_scratch, SpreadIn, Shows};
 
 use mesh::Refusal;
@@ -107,37 +106,4 @@ pub fn perform(
         Operation::Spread => spread(&lists, t, &mut current[..n], &mut desired[..n]),
         Operation::Check => check(&lists, t),
     }
-}
-
-// The operation of a number: 1 straightens, 2 spreads, any other is the mark check.
-#[tactic(auto, unfolding(records::specs::Records::operation_of_number, records::specs::Records::operation_answer))]
-fn operation_of(number: u8) -> Operation
-    ensures { result ≡ operation_of_number number }
-{
-    Operation::try_from(number).unwrap_or(Operation::Check)
-}
-
-// The same by the operation's number. Any number is taken, as a public call may not ask more of its callers than it did: by
-// `Operation`, as `perform` takes it, those who have another number than 1, 2 or 3 could not call. The lists are parameters as
-// in `perform`.
-pub fn operate(
-    operation: u8,
-    n: usize,
-    p: usize,
-    h: &[i32],
-    pos: &[f64],
-    normals: &[f64],
-    flags: &[u8],
-    t: &mut [f64],
-    current: &mut [f64],
-    desired: &mut [f64],
-) -> Result<Output, Refusal>
-    requires { SpreadIn n p (length pos.now) (length h.now) (length t.old) (length normals.now) (length flags.now) (length current.old) (length desired.old) }
-    ensures lines { Shows (operation_lines (operation_of_number operation) (as_halfedges (take (halfedge_stride * n) h.now)) (take (3 * p) pos.now) (take (3 * p) normals.now) (take n flags.now) (take (4 * n) t.old) n p) n result t.new }
-    ensures tangents { t.new ≡ operation_tangents (operation_of_number operation) (as_halfedges (take (halfedge_stride * n) h.now)) (take (3 * p) pos.now) (take (3 * p) normals.now) (take n flags.now) (take (4 * n) t.old) n p ++ drop (4 * n) t.old }
-    ensures current { current.new ≡ operation_scratch (operation_of_number operation) (as_halfedges (take (halfedge_stride * n) h.now)) (take (3 * p) pos.now) (take (3 * p) normals.now) (take n flags.now) (take (4 * n) t.old) n p current.old }
-    ensures desired { desired.new ≡ operation_scratch (operation_of_number operation) (as_halfedges (take (halfedge_stride * n) h.now)) (take (3 * p) pos.now) (take (3 * p) normals.now) (take n flags.now) (take (4 * n) t.old) n p desired.old }
-{
-    let operation = operation_of(operation);
-    perform(operation, n, p, h, pos, normals, flags, t, current, desired)
 }

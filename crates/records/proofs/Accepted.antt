@@ -6,15 +6,16 @@ use mathlib.Core.Bool.{Bool, true, false}
 use mathlib.Core.List.{List, [], ◌∷◌}
 use borrow.Author.Tests.{le-leb, leb-true, eqb-true, eqb-false}
 use lib.Dec.{leb, eqb}
-use lib.ListN.{length, take}
+use lib.ListN.{length}
 use Rattle.std.specs.Prelude.{◌⊎◌, Result, Ok, Err}
 use Rattle.std.proofs.Common.{inl, inr}
 use Rattle.std.proofs.lemmas.Bool.{and_parts}
+use Rattle.mesh.specs.Mesh.{halfedge_stride}
 use Rattle.mesh.specs.Check.{Checked, asked, answer_of}
 use Rattle.mesh.specs.declared.Question.TheVariants.{Lengths, Fits, End}
 use Rattle.mesh.specs.declared.Refusal.{Refusal}
 use Rattle.mesh.proofs.Accepted.{then_accepted, asked_accepted}
-use Rattle.records.specs.Records.{operation_number, is_operation, operation_of_number, check_operation, kinds, body_bytes, records_length, bodies, check_record, check_bodies, check_records, check_input, operation_in, points_in, halfedges_in, input_in, parse_input, Values}
+use Rattle.records.specs.Records.{operation_number, is_operation, operation_of_number, check_operation, max_input, kinds, mesh_kinds, max_points, max_halfedges, body_bytes, records_length, bodies, check_record, check_bodies, check_records, check_input, operation_in, points_in, halfedges_in, input_in, parse_input, Values}
 use Rattle.records.specs.Lists.{if_spread, has_room, Lists, lists_have_room, check_reading, read_answer, MeshRoom, SpreadRoom}
 use Rattle.records.specs.declared.Operation.{Operation}
 use Rattle.records.specs.declared.Operation.TheVariants.{Straighten, Spread, Check}
@@ -35,14 +36,14 @@ whole_from s p n (kind ∷ left) place e =
 -- what is known of an accepted input
 pub record Accepted (s : List ℕ) : Type 0 where
   pub known : is_operation (operation_in s) ≡ true
-  pub short : length s ≤ 65536
+  pub short : length s ≤ max_input
   pub whole : length s ≡ 17 + records_length (points_in s) (halfedges_in s) (bodies (operation_of_number (operation_in s)))
 
 accepted_input : (s : List ℕ) → check_input s ≡ Ok tt → Accepted s
 unfolding check_input check_records
 accepted_input s e =
     let left = check_bodies s (points_in s) (halfedges_in s) (bodies (operation_of_number (operation_in s))) 17 in
-    let a = then_accepted (asked Fits 0 (leb (length s) 65536)) _ e in
+    let a = then_accepted (asked Fits 0 (leb (length s) max_input)) _ e in
     let b = then_accepted _ left a.1 in
     let d = then_accepted _ (check_record s 7 CountsKind 4) b.0 in
     let f = then_accepted (check_record s 0 OperationKind 1) (check_operation (operation_in s)) d.0 in
@@ -57,23 +58,23 @@ parsed : (s : List ℕ) (i : Input) → parse_input s ≡ Ok i → (check_input 
 unfolding parse_input
 parsed s i e = answer_ok (check_input s) (input_in s) i e
 
-mesh_kinds : (o : Operation) (p n : ℕ) → records_length p n (take 5 kinds) ≤ 17 + records_length p n (bodies o)
-mesh_kinds Straighten p n = omega arith
-mesh_kinds Spread p n = omega arith
-mesh_kinds Check p n = omega arith
+mesh_kinds_in : (o : Operation) (p n : ℕ) → records_length p n mesh_kinds ≤ 17 + records_length p n (bodies o)
+mesh_kinds_in Straighten p n = omega arith
+mesh_kinds_in Spread p n = omega arith
+mesh_kinds_in Check p n = omega arith
 
 module _ (s : List ℕ) (i : Input) (e : parse_input s ≡ Ok i) where
   whole : length s ≡ 17 + records_length i.counts.points i.counts.halfedges (bodies i.operation)
   whole = rw (parsed s i e).1 (accepted_input s (parsed s i e).0).whole
 
-  pub mesh_bodies : records_length i.counts.points i.counts.halfedges (take 5 kinds) ≤ length s
-  mesh_bodies = rw whole (mesh_kinds i.operation i.counts.points i.counts.halfedges)
+  pub mesh_bodies : records_length i.counts.points i.counts.halfedges mesh_kinds ≤ length s
+  mesh_bodies = rw whole (mesh_kinds_in i.operation i.counts.points i.counts.halfedges)
 
   pub spread_bodies : i.operation ≡ Spread → records_length i.counts.points i.counts.halfedges kinds ≤ length s
   spread_bodies h = let w = rw h at whole in omega arith
 
   -- the longest input bounds the counts
-  pub counts_bound : 24 * i.counts.points + 48 * i.counts.halfedges + 35 ≤ 65536
+  pub counts_bound : records_length i.counts.points i.counts.halfedges mesh_kinds ≤ max_input
   counts_bound = let l = (accepted_input s (parsed s i e).0).short in let m = mesh_bodies in omega arith
 
 -- ---- the values of the answer
@@ -152,7 +153,7 @@ none_due o count (inl e) = rw e
 none_due o count (inr e) = rw e
 
 -- Lists of these lengths are never too short, so that the answer is the parsed one.
-module _ (s : List ℕ) (L : Lists) (positions : 8187 ≤ length L.positions) (halfedges : 5456 ≤ length L.halfedges) (tangents : 5456 ≤ length L.tangents) (normals : 8187 ≤ length L.normals) (flags : 1364 ≤ length L.flags) where
+module _ (s : List ℕ) (L : Lists) (positions : 3 * max_points ≤ length L.positions) (halfedges : halfedge_stride * max_halfedges ≤ length L.halfedges) (tangents : 4 * max_halfedges ≤ length L.tangents) (normals : 3 * max_points ≤ length L.normals) (flags : max_halfedges ≤ length L.flags) where
   due : (o : Operation) (count most : ℕ) → count ≤ most → if_spread o count ≤ most
   due Straighten count most h = omega arith
   due Spread count most h = h

@@ -1,5 +1,3 @@
--- The laws that the proofs of `records` share; `Accepted` is for the crates above, and so are the `Bytes` of worked cases.
+-- The laws that the proofs of `records` share; `Accepted` is for the crates above.
 mod Parse
 pub mod Accepted
-mod Cases
-pub mod Bytes

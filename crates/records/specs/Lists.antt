@@ -1,12 +1,12 @@
 -- The lists that the numbers of the input go to: their room, and what they hold after a reading.
-use Rattle.std.specs.Prelude.{ℕ, ◌*◌, ◌≤◌, List, Bool, ◌&&◌, length, leb, ℤ, Float, take, Result, Ok, Err}
+use Rattle.std.specs.Prelude.{ℕ, ◌*◌, ◌≤◌, List, Bool, ◌&&◌, length, leb, ℤ, Float, Result, Ok, Err}
 use Rattle.little_endian.specs.Numbers.{f64_item, i32_item, byte_item}
 use Rattle.little_endian.specs.Filled.{filled}
 use Rattle.mesh.specs.Mesh.{halfedge_stride}
 use Rattle.mesh.specs.Check.{Checked, asked, ◌then◌, answer_of}
 use Rattle.mesh.specs.declared.Question.TheVariants.{Lengths}
 use Rattle.mesh.specs.declared.Refusal.{Refusal}
-use Rattle.records.specs.Records.{kinds, records_length, body_at, check_input, input_in}
+use Rattle.records.specs.Records.{kinds, mesh_kinds, records_length, body_at, check_input, input_in}
 use Rattle.records.specs.declared.Operation.{Operation}
 use Rattle.records.specs.declared.Operation.TheVariants.{Straighten, Spread, Check}
 use Rattle.records.specs.declared.Kind.TheVariants.{Positions, Halfedges, Tangents, Normals, Flags}
@@ -69,7 +69,7 @@ read_lists (Err refusal) s lists = lists
 
 -- what the filling of the lists may take for granted: the bodies are in the input, and each list has its room
 pub record MeshRoom (p n input positions halfedges tangents : ℕ) : Type 0 where
-  pub bodies : records_length p n (take 5 kinds) ≤ input
+  pub bodies : records_length p n mesh_kinds ≤ input
   pub position_room : 3 * p ≤ positions
   pub halfedge_room : halfedge_stride * n ≤ halfedges
   pub tangent_room : 4 * n ≤ tangents

@@ -1,8 +1,7 @@
 -- The program's input as document 01 has it: records of a u32 body length, a u16 kind and the body, kinds 1, 2, 3, .. in order. An input is refused by the first question that is answered no: 20 to 24, with its place.
-use Rattle.std.specs.Prelude.{ℕ, ◌+◌, ◌*◌, ◌-◌, ◌≡◌, List, [], ◌∷◌, Bool, cond, ◌&&◌, length, get_or, take, drop, leb, eqb, Result, Ok, Err}
+use Rattle.std.specs.Prelude.{ℕ, ◌+◌, ◌*◌, ◌-◌, ◌/◌, ◌≡◌, List, [], ◌∷◌, Bool, cond, ◌&&◌, length, get_or, take, drop, leb, eqb, Result, Ok, Err}
 use Rattle.little_endian.specs.Numbers.{u16_at, u32_at}
 use Rattle.mesh.specs.Check.{Checked, number_of, place_of, asked, ◌then◌, answer_of, when_accepted}
-use Rattle.mesh.specs.declared.Question.{Question}
 use Rattle.mesh.specs.declared.Question.TheVariants.{Fits, Kind as OtherKind, Body, Operation as Unknown, End}
 use Rattle.mesh.specs.declared.Refusal.{Refusal}
 use Rattle.records.specs.declared.Operation.{Operation}
@@ -86,20 +85,43 @@ check_record s at kind bytes =
     then asked OtherKind at (eqb (kind_at s at) (kind_number kind))
     then asked Body at (eqb (body_length s at) bytes)
 
--- the body length that p points and n halfedges call for; a halfedge has start, end, pair and row
+-- the bytes of a point's position or normal: three numbers
+abbrev pub point_bytes : ℕ
+point_bytes = 24
+
+-- of a halfedge: start, end, pair and row
+abbrev pub halfedge_bytes : ℕ
+halfedge_bytes = 16
+
+-- of a tangent: four numbers
+abbrev pub tangent_bytes : ℕ
+tangent_bytes = 32
+
+-- the body length that p points and n halfedges call for
 abbrev pub body_bytes : ℕ → ℕ → Kind → ℕ
 body_bytes p n OperationKind = 1
 body_bytes p n CountsKind = 4
-body_bytes p n Positions = 24 * p
-body_bytes p n Halfedges = 16 * n
-body_bytes p n Tangents = 32 * n
-body_bytes p n Normals = 24 * p
+body_bytes p n Positions = point_bytes * p
+body_bytes p n Halfedges = halfedge_bytes * n
+body_bytes p n Tangents = tangent_bytes * n
+body_bytes p n Normals = point_bytes * p
 body_bytes p n Flags = n
 
 -- the length of the records of these kinds
 abbrev pub records_length : ℕ → ℕ → List Kind → ℕ
 records_length p n [] = 0
 records_length p n (kind ∷ further) = header_bytes + body_bytes p n kind + records_length p n further
+
+-- the kinds that every input has: those up to the tangents
+abbrev pub mesh_kinds : List Kind
+mesh_kinds = take 5 kinds
+
+-- the most points, and the most halfedges, that the longest input has room for
+abbrev pub max_points : ℕ
+max_points = (max_input - records_length 0 0 mesh_kinds) / point_bytes
+
+abbrev pub max_halfedges : ℕ
+max_halfedges = (max_input - records_length 0 0 mesh_kinds) / (halfedge_bytes + tangent_bytes)
 
 -- where the body of a kind is: past the records before it, and its own header
 abbrev pub body_at : ℕ → ℕ → Kind → ℕ

@@ -23,6 +23,21 @@ const COUNTS_AT: usize = HEADER_BYTES + 1;
 
 const POSITIONS_AT: usize = COUNTS_AT + HEADER_BYTES + 4;
 
+// The bytes of a point's position or normal, of a halfedge's numbers, and of a tangent.
+const POINT_BYTES: usize = 24;
+
+const HALFEDGE_BYTES: usize = 16;
+
+const TANGENT_BYTES: usize = 32;
+
+// The bytes of an input that has the records up to the tangents, and no point and no halfedge.
+const LEAST_INPUT: usize = POSITIONS_AT + 3 * HEADER_BYTES;
+
+// The most points and the most halfedges that an input can have: every input has positions, halfedges and tangents.
+pub const MAX_POINTS: usize = (MAX_INPUT - LEAST_INPUT) / POINT_BYTES;
+
+pub const MAX_HALFEDGES: usize = (MAX_INPUT - LEAST_INPUT) / (HALFEDGE_BYTES + TANGENT_BYTES);
+
 // What the program does with an input, each with its number.
 #[derive(Clone, Copy, PartialEq, Eq)]
 pub enum Operation {
@@ -108,9 +123,9 @@ fn body_bytes(counts: Counts, kind: Kind) -> usize
     match kind {
         Kind::Operation => 1,
         Kind::Counts => 4,
-        Kind::Positions | Kind::Normals => 24 * points,
-        Kind::Halfedges => 16 * halfedges,
-        Kind::Tangents => 32 * halfedges,
+        Kind::Positions | Kind::Normals => POINT_BYTES * points,
+        Kind::Halfedges => HALFEDGE_BYTES * halfedges,
+        Kind::Tangents => TANGENT_BYTES * halfedges,
         Kind::Flags => halfedges,
     }
 }

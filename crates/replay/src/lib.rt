@@ -2,7 +2,7 @@
 // the loop over the answers. Every function is total: past the end of what is read stand zeros.
 #![tactic(auto)]
 
-use std::fmt;
+use std::{fmt, io};
 
 // How many answers were compared, and how many differ.
 #[derive(Clone, Copy, Default)]
@@ -155,16 +155,19 @@ pub fn all_same<T: Stored>(xs: &[T], value: T) -> bool {
     xs.iter().all(|x| x.same(value))
 }
 
-// Counts by `next` until it has nothing more to compare, and writes the tally. A failed write is silent.
-pub fn replay_all<F: FnMut(Tally) -> Option<Tally>>(rt: &impl Print, mut next: F)
+// Counts by `next` until it has nothing more to compare, and writes the tally. A read or a write that fails is handed back.
+pub fn replay_all<F: FnMut(Tally) -> io::Result<Option<Tally>>>(
+    rt: &impl Print,
+    mut next: F,
+) -> io::Result<()>
     requires { F.IsAlwaysCallable next }
 {
     let mut tally = Tally::default();
     for _ in 0..u64::MAX {
-        let Some(more) = next(tally) else {
+        let Some(more) = next(tally)? else {
             break;
         };
         tally = more;
     }
-    let _ = println!(rt; "{tally}");
+    println!(rt; "{tally}")
 }

@@ -70,15 +70,25 @@ impl From<mesh::Refusal> for Refusal {
 }
 
 // The next record, less its length, which counts its own four bytes: none where the input ends, or where the buffer has no room for it.
-pub fn next_record<'a, R: io::Read>(input: &mut R, buf: &'a mut [u8]) -> Option<Reader<'a>> {
+pub fn next_record<'a, R: io::Read>(
+    input: &mut R,
+    buf: &'a mut [u8],
+) -> io::Result<Option<Reader<'a>>> {
+    let Some(record) = room_of(input, buf)? else {
+        return Ok(None);
+    };
+    let count = little_endian::read_full(input, record)?;
+    Ok(Some(Reader::new(&record[..count])))
+}
+
+// The room of the next record: as many places of the buffer as its length says, less the four that are read.
+fn room_of<'a, R: io::Read>(input: &mut R, buf: &'a mut [u8]) -> io::Result<Option<&'a mut [u8]>> {
     let mut length = [0; 4];
-    if little_endian::read_full(input, &mut length) < 4 {
-        return None;
+    if little_endian::read_full(input, &mut length)? < 4 {
+        return Ok(None);
     }
-    let size = Reader::new(&length).read::<usize>().checked_sub(4)?;
-    let record = buf.get_mut(..size)?;
-    let count = little_endian::read_full(input, record);
-    Some(Reader::new(&record[..count]))
+    let size = Reader::new(&length).read::<usize>().checked_sub(4);
+    Ok(size.and_then(|size| buf.get_mut(..size)))
 }
 
 // A case: the operation, the number of halfedges and of points, how the call ends, and what follows: the lists and the answers.
@@ -93,8 +103,8 @@ pub struct Case<'a> {
 
 impl<'a> Case<'a> {
     // Reads the next case.
-    pub fn read<R: io::Read>(input: &mut R, buf: &'a mut [u8; ROOM]) -> Option<Self> {
-        next_record(input, buf).map(Case::new)
+    pub fn read<R: io::Read>(input: &mut R, buf: &'a mut [u8; ROOM]) -> io::Result<Option<Self>> {
+        Ok(next_record(input, buf)?.map(Case::new))
     }
 
     fn new(mut body: Reader<'a>) -> Self {

@@ -7,6 +7,7 @@ mod calls;
 use calls::{create, create_entries, create_from_normals};
 use replay::Tally;
 use replay_cases::{Case, Creation, Operation, ROOM};
+use std::io;
 
 // The tally with the calls of a case. A case of making from sharp edges is put to the call with entries as structs too, where
 // its two lists of entries are of one length: no other has entries that are structs.
@@ -28,11 +29,11 @@ fn counted(tally: Tally, case: Case<'_>) -> Tally {
     }
 }
 
-fn main(rt: HostRuntime) {
+fn main(rt: HostRuntime) -> io::Result<()> {
     let mut input = rt.stdin();
     let mut buf = [0u8; ROOM];
     replay::replay_all(&rt, |tally| {
         let case = Case::read(&mut input, &mut buf)?;
-        Some(counted(tally, case))
-    });
+        Ok(case.map(|case| counted(tally, case)))
+    })
 }

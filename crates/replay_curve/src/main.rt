@@ -6,6 +6,7 @@ use linalg::Vec4;
 use mesh::Refusal;
 use replay::{Reader, Stored};
 use replay_cases::next_record;
+use std::io;
 
 // The most bytes of a record, and the most places of a list of points.
 const ROOM: usize = 8192;
@@ -78,11 +79,11 @@ fn agrees(mut record: Reader<'_>) -> bool {
     }
 }
 
-fn main(rt: HostRuntime) {
+fn main(rt: HostRuntime) -> io::Result<()> {
     let mut input = rt.stdin();
     let mut buf = [0u8; ROOM];
     replay::replay_all(&rt, |tally| {
         let record = next_record(&mut input, &mut buf)?;
-        Some(tally.counted(agrees(record)))
-    });
+        Ok(record.map(|record| tally.counted(agrees(record))))
+    })
 }

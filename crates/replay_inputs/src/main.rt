@@ -4,10 +4,11 @@
 
 use program::{FLAG_ROOM, HALFEDGE_ROOM, OUTPUT_ROOM, POSITION_ROOM, TANGENT_ROOM};
 use replay::Reader;
+use std::io;
 use std::io::Read;
 
 // The longest input, with a byte more than the program takes.
-const INPUT_ROOM: usize = 65537;
+const INPUT_ROOM: usize = records::MAX_INPUT + 1;
 
 // The head of a pair: how many bytes of the input stand in the file, its length (the rest is zeros), and the length of the
 // output.
@@ -20,17 +21,17 @@ struct Head {
 
 impl Head {
     // The next head of the file.
-    fn read<R: Read>(stdin: &mut R) -> Option<Self> {
+    fn read<R: Read>(stdin: &mut R) -> io::Result<Option<Self>> {
         let mut buf = [0u8; 12];
-        if little_endian::read_full(stdin, &mut buf) < 12 {
-            return None;
+        if little_endian::read_full(stdin, &mut buf)? < 12 {
+            return Ok(None);
         }
         let mut from = Reader::new(&buf);
-        Some(Head {
+        Ok(Some(Head {
             stored: from.read(),
             input: from.read(),
             output: from.read(),
-        })
+        }))
     }
 }
 
@@ -39,12 +40,14 @@ fn read_front<'a, R: Read>(
     stdin: &mut R,
     room: &'a mut [u8],
     count: usize,
-) -> Option<&'a mut [u8]> {
-    let front = room.get_mut(..count)?;
-    if little_endian::read_full(stdin, front) < count {
-        return None;
+) -> io::Result<Option<&'a mut [u8]>> {
+    let Some(front) = room.get_mut(..count) else {
+        return Ok(None);
+    };
+    if little_endian::read_full(stdin, front)? < count {
+        return Ok(None);
     }
-    Some(front)
+    Ok(Some(front))
 }
 
 // The lists hold no zeros before the call, as the answer does not depend on what they hold.
@@ -71,19 +74,24 @@ fn same_answer(input: &[u8], expected: &[u8]) -> bool {
     out.get(..size) == Some(expected)
 }
 
-// Is the output of the next pair that of its input? None where the file has only a part of the pair, or there is no room for it.
-fn same_pair<R: Read>(stdin: &mut R, head: Head) -> Option<bool> {
+// Is the output of the next pair that of its input? No where the file has only a part of the pair, or there is no room for it.
+fn same_pair<R: Read>(stdin: &mut R, head: Head) -> io::Result<bool> {
     let mut input = [0u8; INPUT_ROOM];
     let mut expected = [0u8; OUTPUT_ROOM];
-    read_front(stdin, &mut input, head.stored)?;
+    let stored = read_front(stdin, &mut input, head.stored)?.is_some();
     let expected = read_front(stdin, &mut expected, head.output)?;
-    Some(same_answer(input.get(..head.input)?, expected))
+    Ok(match (stored, input.get(..head.input), expected) {
+        (true, Some(input), Some(expected)) => same_answer(input, expected),
+        _ => false,
+    })
 }
 
-fn main(rt: HostRuntime) {
+fn main(rt: HostRuntime) -> io::Result<()> {
     let mut stdin = rt.stdin();
     replay::replay_all(&rt, |tally| {
-        let head = Head::read(&mut stdin)?;
-        Some(tally.counted(same_pair(&mut stdin, head) == Some(true)))
-    });
+        let Some(head) = Head::read(&mut stdin)? else {
+            return Ok(None);
+        };
+        Ok(Some(tally.counted(same_pair(&mut stdin, head)?)))
+    })
 }

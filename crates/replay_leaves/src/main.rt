@@ -5,6 +5,7 @@
 use linalg::{Quat, Vec3, Vec4};
 use math::RemPio2;
 use replay::{Reader, Tally};
+use std::io;
 use std::io::Read;
 
 // The bytes of a record, and those of a buffer of 640 records.
@@ -164,19 +165,19 @@ fn agrees(mut record: Reader<'_>) -> bool {
 }
 
 // Reads the next buffer, and compares all its whole records.
-fn next_buffer<R: Read>(input: &mut R, mut tally: Tally) -> Option<Tally> {
+fn next_buffer<R: Read>(input: &mut R, mut tally: Tally) -> io::Result<Option<Tally>> {
     let mut buf = [0u8; BUFFER];
-    let n = little_endian::read_full(input, &mut buf);
+    let n = little_endian::read_full(input, &mut buf)?;
     if n == 0 {
-        return None;
+        return Ok(None);
     }
     for record in buf[..n].chunks_exact(RECORD) {
         tally = tally.counted(agrees(Reader::new(record)));
     }
-    Some(tally)
+    Ok(Some(tally))
 }
 
-fn main(rt: HostRuntime) {
+fn main(rt: HostRuntime) -> io::Result<()> {
     let mut input = rt.stdin();
-    replay::replay_all(&rt, |tally| next_buffer(&mut input, tally));
+    replay::replay_all(&rt, |tally| next_buffer(&mut input, tally))
 }

@@ -7,6 +7,7 @@ use replay_mesh_calls::{check, crease, straighten};
 use replay_mesh_faces::flat_faces;
 use replay_mesh_leaves::{inside_quad, tangent_from_normal};
 use replay_mesh_questions::questions;
+use std::io;
 
 // Does the unit answer as the oracle did?
 fn agrees(case: Case<'_>) -> bool {
@@ -21,11 +22,11 @@ fn agrees(case: Case<'_>) -> bool {
     }
 }
 
-fn main(rt: HostRuntime) {
+fn main(rt: HostRuntime) -> io::Result<()> {
     let mut input = rt.stdin();
     let mut buf = [0u8; ROOM];
     replay::replay_all(&rt, |tally| {
         let case = Case::read(&mut input, &mut buf)?;
-        Some(tally.counted(agrees(case)))
-    });
+        Ok(case.map(|case| tally.counted(agrees(case))))
+    })
 }

@@ -2,6 +2,8 @@
 // how many differ. README.md beside src/ says what a case holds and how the file was made.
 #![tactic(auto)]
 
-fn main(rt: HostRuntime) {
-    replay_spread_calls::replay_all(&rt);
+use std::io;
+
+fn main(rt: HostRuntime) -> io::Result<()> {
+    replay_spread_calls::replay_all(&rt)
 }

@@ -4,12 +4,13 @@
 
 use replay_cases::{Case, ROOM};
 use replay_mesh_calls::crease;
+use std::io;
 
-fn main(rt: HostRuntime) {
+fn main(rt: HostRuntime) -> io::Result<()> {
     let mut input = rt.stdin();
     let mut buf = [0u8; ROOM];
     replay::replay_all(&rt, |tally| {
         let case = Case::read(&mut input, &mut buf)?;
-        Some(tally.counted(crease(case)))
-    });
+        Ok(case.map(|case| tally.counted(crease(case))))
+    })
 }

@@ -5,6 +5,7 @@
 use distribute::Counts;
 use replay::all_same;
 use replay_cases::{Case, Operation, ROOM, ends_as};
+use std::io;
 use std::io::Input;
 
 // The lists of a case that both calls only read.
@@ -92,11 +93,11 @@ fn agrees(mut case: Case<'_>) -> bool {
 }
 
 // Replays all cases of standard input.
-pub fn replay_all(rt: &(impl Input + Print)) {
+pub fn replay_all(rt: &(impl Input + Print)) -> io::Result<()> {
     let mut input = rt.reader();
     let mut buf = [0u8; ROOM];
     replay::replay_all(rt, |tally| {
         let case = Case::read(&mut input, &mut buf)?;
-        Some(tally.counted(agrees(case)))
-    });
+        Ok(case.map(|case| tally.counted(agrees(case))))
+    })
 }

@@ -4,6 +4,7 @@
 
 use replay::{Reader, all_same};
 use replay_cases::{Refusal, ends_as, next_record};
+use std::io;
 use std::io::Input;
 
 // The most bytes of a record.
@@ -49,11 +50,11 @@ fn agrees(mut record: Reader<'_>) -> bool {
     lists && ends_as(counts, outcome)
 }
 
-fn main(rt: HostRuntime) {
+fn main(rt: HostRuntime) -> io::Result<()> {
     let mut input = rt.reader();
     let mut buf = [0u8; ROOM];
     replay::replay_all(&rt, |tally| {
         let record = next_record(&mut input, &mut buf)?;
-        Some(tally.counted(agrees(record)))
-    });
+        Ok(record.map(|record| tally.counted(agrees(record))))
+    })
 }

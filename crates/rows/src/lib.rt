@@ -1,4 +1,10 @@
-// The rows of the halfedges: only making from normals looks at them, and where each row holds the numbers that a halfedge had of
-// its own the tangents are those of before. specs/Rows.antt states it and proofs/Rows.antt proves it, of the definitions that the
-// public calls meet. There is no code here.
+// The rows of the halfedges: all calls but making from normals carry them unread.
 #![tactic(auto)]
+
+ghost use Rattle.rows.specs.Rows.{RowsUnread};
+
+// Law: for two lists of halfedges that differ in their rows alone, each of these calls answers the same and leaves the same in its
+// lists (specs/Rows.antt, `RowsUnread`).
+pub fn rows_unread()
+    ensures { RowsUnread }
+{}

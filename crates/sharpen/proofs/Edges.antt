@@ -171,13 +171,18 @@ entries_front {H} {I = I} {edges = edges} {s = s} h =
     let long : length (entries_of H edges) ≡ s.count = entries_length H edges ∙ sym h.count in
     ap (take s.count) h.halfedges ∙ (rw long at (take-append_seam (entries_of H edges) (drop s.count I)))
 
-pub entries_filtered : EntriesFiltered
-entries_filtered H A angle smooth I Q n p = go (check_lists H A I Q n p) refl
-  where
-    go : (checked : Checked) → check_lists H A I Q n p ≡ checked → take (entries_after Clean H A angle smooth I Q n p).count (entries_after Clean H A angle smooth I Q n p).halfedges ≡ filter (λ e. not (touches_zero H A e)) (take (entries_after Ported H A angle smooth I Q n p).count (entries_after Ported H A angle smooth I Q n p).halfedges)
-    go (Ok unit) accepted =
-        rw accepted
-        (entries_front (holds_edges H A angle n I Q p accepted Clean smooth)
-        ∙ sym (entries_kept A (lists_checked H A I Q n p accepted).sound (is_listed Ported H A (min_radians angle)) n (omega arith))
-        ∙ sym (ap (filter (λ e. not (touches_zero H A e))) (entries_front (holds_edges H A angle n I Q p accepted Ported smooth))))
-    go (Err refusal) refused = rw refused refl
+-- what the clean call leaves in front of its lists
+module _ (H : Halfedges) (A : List Float) (angle smooth : Float) (I : List ℕ) (Q : List Float) (n p : ℕ) where
+  clean_entries : EntriesFiltered H A angle smooth I Q n p (entries_after Clean H A angle smooth I Q n p)
+  clean_entries = go (check_lists H A I Q n p) refl
+    where
+      go : (checked : Checked) → check_lists H A I Q n p ≡ checked → EntriesFiltered H A angle smooth I Q n p (entries_after Clean H A angle smooth I Q n p)
+      go (Ok unit) accepted =
+          rw accepted
+          (entries_front (holds_edges H A angle n I Q p accepted Clean smooth)
+          ∙ sym (entries_kept A (lists_checked H A I Q n p accepted).sound (is_listed Ported H A (min_radians angle)) n (omega arith))
+          ∙ sym (ap (filter (λ e. not (touches_zero H A e))) (entries_front (holds_edges H A angle n I Q p accepted Ported smooth))))
+      go (Err refusal) refused = rw refused refl
+
+  pub entries_filtered : {E : List ℕ} {k : ℕ} → E ≡ (entries_after Clean H A angle smooth I Q n p).halfedges → k ≡ (entries_after Clean H A angle smooth I Q n p).count → EntriesFiltered H A angle smooth I Q n p (entries_in E Q k)
+  entries_filtered e h = rw (e, h) clean_entries

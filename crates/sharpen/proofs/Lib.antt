@@ -4,4 +4,3 @@ pub mod Room
 pub mod Edges
 mod Slivers
 mod Values
-pub mod Pillow

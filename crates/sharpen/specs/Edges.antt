@@ -32,9 +32,8 @@ pub record HoldEdges (H : Halfedges) (smooth : Float) (I : List ℕ) (Q : List F
   pub halfedges : s.halfedges ≡ flat_map (edge_entries H) edges ++ drop s.count I
   pub smoothness : s.smoothness ≡ replicate s.count smooth ++ drop s.count Q
 
--- THE CLAIM, of both calls on the same lists: the clean listing's entries are those of the ported one that touch no all-zero face normal, in the same order
-abbrev pub EntriesFiltered : Type 0
-EntriesFiltered = (H : Halfedges) (A : List Float) (angle smooth : Float) (I : List ℕ) (Q : List Float) (n p : ℕ) →
+-- THE CLAIM, of the lists `clean` after the clean call: its entries are those that the ported call would leave in the same lists and that touch no all-zero face normal, in the same order
+abbrev pub EntriesFiltered : Halfedges → List Float → Float → Float → List ℕ → List Float → ℕ → ℕ → Entries → Type 0
+EntriesFiltered H A angle smooth I Q n p clean =
     let ported = entries_after Ported H A angle smooth I Q n p in
-    let clean = entries_after Clean H A angle smooth I Q n p in
     take clean.count clean.halfedges ≡ filter (λ e. not (touches_zero H A e)) (take ported.count ported.halfedges)

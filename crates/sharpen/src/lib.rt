@@ -12,7 +12,7 @@ ghost use Rattle.sharpen.specs.declared.edge.Rule.TheVariants.{Ported, Clean};
 ghost use Rattle.sharpen.specs.Entries.{entries_in, push_edge, list_edge, list_edges};
 ghost use Rattle.sharpen.specs.Turn.{listed_by, EdgeFits};
 ghost use Rattle.sharpen.specs.Sharpen.{entries_of, tally_of, lengths_fit, sharpen_edges, entries_after, Values};
-ghost use Rattle.sharpen.specs.Edges.{HoldEdges, edges_after};
+ghost use Rattle.sharpen.specs.Edges.{HoldEdges, EntriesFiltered, edges_after};
 
 mod crease_lists;
 mod edge;
@@ -209,6 +209,7 @@ pub fn sharpen_edges_clean(
     ensures values { Values Clean (as_halfedges h.now) normals.now angle smooth halfedges.old smoothness.old n p result }
     ensures edges { HoldEdges (as_halfedges h.now) smooth halfedges.old smoothness.old (edges_after Clean (as_halfedges h.now) normals.now angle halfedges.old smoothness.old n p) (entries_in halfedges.new smoothness.new (entries_of result)) }
     ensures counted { tally_of result ≡ length (edges_after Clean (as_halfedges h.now) normals.now angle halfedges.old smoothness.old n p) }
+    ensures filtered { EntriesFiltered (as_halfedges h.now) normals.now angle smooth halfedges.old smoothness.old n p (entries_in halfedges.new smoothness.new (entries_of result)) }
 {
     sharpen_by(
         Rule::Clean,

@@ -1,4 +1,4 @@
--- The laws that the proofs of `sqrt` share, and the theorems: `Nearest` proves the claims of `specs/Nearest.antt`.
+-- The laws that the proofs of `sqrt` share, and the theorems: `Nearest` proves what the clauses `ieee` and `only` of `sqrt::sqrt` say.
 pub mod Squares
 mod Newton
 mod Reciprocals
@@ -9,4 +9,3 @@ pub mod Encoding
 mod RootEncoding
 mod Comparisons
 pub mod Nearest
-pub mod Examples

@@ -5,7 +5,7 @@ ghost use Rattle.std.specs.Prelude.{◌≡◌, ◌+◌, ◌*◌, ◌/◌, ◌%�
 ghost use Rattle.std.specs.Float.Ieee.{of_bits};
 ghost use Rattle.std.specs.Float.{binary64};
 ghost use Rattle.sqrt.specs.Sqrt.{isqrt, sqrt_of};
-ghost use Rattle.sqrt.specs.Nearest.{IsRoot};
+ghost use Rattle.sqrt.specs.Nearest.{IsRoot, OnlyRoot};
 ghost use Rattle.sqrt.specs.Steps.{Seed, InSegment, Reciprocal, RootEstimate, IsNormalized, infinity_bits};
 
 // The bits of positive infinity: those of finite positive values are below it.
@@ -251,6 +251,7 @@ fn sqrt_bits(b: u64) -> u64
 pub fn sqrt(x: f64) -> f64
     ensures root { result ≡ sqrt_of x }
     ensures ieee { IsRoot x result }
+    ensures only { OnlyRoot x result }
 {
     if x > 0.0 {
         let b = f64::to_bits(x);

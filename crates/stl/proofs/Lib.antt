@@ -1,4 +1,3 @@
 -- The laws of `stl`.
 pub mod Sound
 pub mod Pairing
-pub mod Example

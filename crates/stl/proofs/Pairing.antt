@@ -1,4 +1,4 @@
--- Document 02's "exactly": question 32 refuses a file if and only if some directed edge occurs twice or has no reverse. Assumes nothing.
+-- Question 32 refuses a file if and only if some directed edge occurs twice or has no reverse. Assumes nothing.
 use Prim.Native.Nat.{ℕ, ◌<◌}
 use native.Mathlib.Omega.{arith}
 use native.Mathlib.Decide.{dec_lt}
@@ -66,8 +66,8 @@ module _ (s : List ℕ) where
       go (yes h) = either (lowest (is_paired s) (halfedge_count s)) h (lowest_found (is_paired s) (halfedge_count s) h)
       go (no h) = absurd (d (accepted_each Pairing (is_paired s) (halfedge_count s) (λ e l. lowest_before (is_paired s) (halfedge_count s) e (omega arith))))
 
-pub refused_exactly : RefusedExactly
-refused_exactly s = (refused_means s, refused_then s)
+  refused_exactly : RefusedExactly s
+  refused_exactly = (refused_means, refused_then)
 
 -- ---- of an answer of the call
 answer_number : (c : Checked) (counts : MeshCounts) → number_of (answer_of c counts) ≡ number_of c
@@ -126,6 +126,7 @@ pub exactly_of : (s : List ℕ) (P : List Float) (L : List ℤ) (A : List Float)
 exactly_of s P L A e =
     rw e
     (record {
+      question = refused_exactly s;
       refused = λ h. refused_means s (last_refused s (length P) (length L) (length A) (sym (answer_number (check_lists s P L A) (counts_of s)) ∙ h));
       accepted = λ counts h. let fits = (file_fits s _ (then_accepted _ _ (answer_accepted (check_lists s P L A) (counts_of s) counts h)).1).1 in λ w. refused_then s w (accepted_each Pairing (is_paired s) (halfedge_count s) fits.paired);
     })

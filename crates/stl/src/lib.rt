@@ -124,7 +124,6 @@ fn write_lists(
 // each triangle keeps its place, and its first halfedge starts at its first corner; each directed edge is paired with its reverse, and
 // a halfedge's row is its own number. `points` and `normals` take three numbers for each point and triangle, `halfedges` four for
 // each halfedge; places beyond stay as lent.
-#[tactic(auto, using(crate::proofs::Pairing::exactly_of))]
 pub fn read_stl(
     file: &[u8],
     points: &mut [f64],

@@ -1,4 +1,4 @@
--- The calls of request 7 as C lends them: C are the control points, four numbers each, and L the list that is written. Question 2 asks for their lengths before 40 to 42 are asked.
+-- The calls along a curve as C lends them: C are the control points, four numbers each, and L the list that is written. Question 2 asks for their lengths before 40 to 42 are asked.
 use Rattle.std.specs.Prelude.{ℕ, List, Bool, ◌&&◌, length, Float}
 use Rattle.linalg.specs.declared.Vec3.{Vec3}
 use Rattle.linalg.specs.declared.Vec4.{Vec4}

@@ -1,6 +1,6 @@
 // The public calls as C functions: flat lists, counts as numbers, and the answer as numbers through a lent list (the number
-// of the refusal or 0, its place, and the two numbers of an accepted call). A slice is a pointer and a length.
-// include/tangents.h declares them.
+// of the refusal or 0, its place, and the two numbers of an accepted call). A slice is a pointer and a length; where the length
+// is 0 the pointer may be NULL, in whose place the compiler puts another address. include/tangents.h declares them.
 #![tactic(auto)]
 
 ghost use Rattle.std.specs.Prelude.{◌≡◌, not, set, replicate, eqb};

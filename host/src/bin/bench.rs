@@ -13,20 +13,29 @@
 //! `curve` and `point` are the curves of the first edges of the mesh of `straighten`, at most 256: for each, a list of 256 points, and as many calls for one point
 //! with its direction. The second column has the points, and a time is for each of them; the Rust's functions are those of src/interp_tri.rs, compiled here.
 //! The unit asks its questions in every call; the Rust asks none.
+//! The status is 0 after a whole run, 1 where it ends early, for a reason that stands on standard error, and 2 where the arguments are wrong.
 
 #[path = "../interp_tri.rs"]
 mod interp_tri;
 
 use interp_tri::{bezier_point, bezier_tangent, cubic_bezier_2_linear, Vec4};
 use std::collections::HashMap;
-use std::process::Command;
+use std::ffi::{OsStr, OsString};
+use std::path::Path;
+use std::process::{Command, ExitCode};
 use std::time::Instant;
 use tangents_host::case::{blocks, Block};
 use tangents_host::drawing;
+use tangents_host::output::{print, say};
 use tangents_host::*;
 
+type Failure = Box<dyn std::error::Error>;
+
+/// For each run the least time of the Rust, or of what stands in its column, and that of the unit.
+type Times = Vec<(f64, f64)>;
+
 /// ns per halfedge of the unit for an operation on a case, the least.
-fn unit(c: &Block, op: &str, repeats: usize) -> f64 {
+fn unit(c: &Block, op: &str, repeats: usize) -> Result<f64, Failure> {
     let (n, p) = c.counts();
     let (h, pos, vn, fnm, flags) = (c.halfedges(), c.floats("pos"), c.floats("vn"), c.floats("fn"), c.bytes("fl"));
     let lent = c.floats("tan");
@@ -42,24 +51,20 @@ fn unit(c: &Block, op: &str, repeats: usize) -> f64 {
         t.resize(4 * n, 0.0);
         let start = Instant::now();
         match op {
-            "straighten" => linearize_flat_tangents(n, p, &h, &pos, &mut t).expect("accepted"),
-            "check" => drop(std::hint::black_box(valid_tangents(n, p, &h, &pos, &t).expect("accepted"))),
-            "crease" => drop(sharpen_edges(n, p, &h, &fnm, 60.0, 0.0, &mut list, &mut smooth).expect("accepted")),
-            "clean" => drop(sharpen_edges_clean(n, p, &h, &fnm, 60.0, 0.0, &mut list, &mut smooth).expect("accepted")),
-            "spread" => drop(distribute_tangents(n, p, &h, &pos, &vn, &flags, &mut t, &mut current, &mut desired).expect("accepted")),
-            "preview" => drop(preview_tangents(n, p, &h, &pos, &vn, &flags, &t, &mut bytes).expect("accepted")),
-            "sharp" => {
-                create_tangents(n, p, &h, &pos, &vn, &fnm, &refs, &entries, &values, old, &mut t, &mut scratch).expect("accepted");
-            }
-            "normals" => {
-                create_tangents_from_normals(n, p, &h, &pos, &vn, &fnm, &refs, &rows, old, &mut t, &mut scratch2).expect("accepted");
-            }
-            op => panic!("no timing of {op}"),
+            "straighten" => linearize_flat_tangents(n, p, &h, &pos, &mut t)?,
+            "check" => drop(std::hint::black_box(valid_tangents(n, p, &h, &pos, &t)?)),
+            "crease" => drop(sharpen_edges(n, p, &h, &fnm, 60.0, 0.0, &mut list, &mut smooth)?),
+            "clean" => drop(sharpen_edges_clean(n, p, &h, &fnm, 60.0, 0.0, &mut list, &mut smooth)?),
+            "spread" => drop(distribute_tangents(n, p, &h, &pos, &vn, &flags, &mut t, &mut current, &mut desired)?),
+            "preview" => drop(preview_tangents(n, p, &h, &pos, &vn, &flags, &t, &mut bytes)?),
+            "sharp" => drop(create_tangents(n, p, &h, &pos, &vn, &fnm, &refs, &entries, &values, old, &mut t, &mut scratch)?),
+            "normals" => drop(create_tangents_from_normals(n, p, &h, &pos, &vn, &fnm, &refs, &rows, old, &mut t, &mut scratch2)?),
+            op => return Err(format!("the oracle answers a case of {op}, which is not timed").into()),
         }
         least = least.min(start.elapsed().as_nanos() as f64 / n as f64);
         std::hint::black_box((&t, &bytes));
     }
-    least
+    Ok(least)
 }
 
 /// What is taken from an STL file: points, halfedges and normals as `read_stl` gives them.
@@ -147,17 +152,19 @@ fn least<T>(n: usize, repeats: usize, mut job: impl FnMut() -> T) -> f64 {
     times.fold(f64::MAX, f64::min)
 }
 
-/// The halfedges of a file, and for each run the least time of the plain reader and that of the unit. Both have to take the same from it.
-fn file_times(file: &[u8], repeats: usize, runs: usize) -> (usize, Vec<(f64, f64)>) {
-    let n = (file.len() - 84) / 50 * 3;
+/// The halfedges of a file, and the times of the plain reader and of the unit. Both have to take the same from it.
+fn file_times(file: &[u8], repeats: usize, runs: usize) -> Result<(usize, Times), Failure> {
+    let n = file.len().saturating_sub(84) / 50 * 3;
     let mut lists = Taken { points: vec![0.0; 3 * n], halfedges: vec![0; 4 * n], normals: vec![0.0; n] };
     let times = (0..runs).map(|_| (least(n, repeats, || taken_by_maps(file)), least(n, repeats, || taken_by_unit(file, &mut lists)))).collect();
     let taken = taken_by_unit(file, &mut lists).map(|counts| {
         lists.points.truncate(3 * counts.points);
         lists
     });
-    assert!(taken == taken_by_maps(file), "unit and plain reader differ");
-    (n, times)
+    if taken != taken_by_maps(file) {
+        return Err("unit and plain reader differ".into());
+    }
+    Ok((n, times))
 }
 
 /// The points of a list: the most that the call gives.
@@ -218,8 +225,8 @@ fn bits(list: &[f64]) -> Vec<u64> {
     list.iter().map(|x| if x.is_nan() { f64::NAN.to_bits() } else { x.to_bits() }).collect()
 }
 
-/// The points of all curves, and for each run the least time of the Rust and that of the unit. Both have to give the same.
-fn curve_times(kind: &str, case: &Block, repeats: usize, runs: usize) -> (usize, Vec<(f64, f64)>) {
+/// The points of all curves, and the times of the Rust and of the unit. Both have to give the same.
+fn curve_times(kind: &str, case: &Block, repeats: usize, runs: usize) -> Result<(usize, Times), Failure> {
     type Job = fn(&[Control; 4], &mut [f64]);
     let (size, by_rust, by_unit): (usize, Job, Job) = match kind {
         "curve" => (3, list_by_rust, list_by_unit),
@@ -231,70 +238,127 @@ fn curve_times(kind: &str, case: &Block, repeats: usize, runs: usize) -> (usize,
     let (mut of_rust, mut of_unit) = (vec![0.0; size * n], vec![1.0; size * n]);
     all(by_rust, &mut of_rust);
     all(by_unit, &mut of_unit);
-    assert!(bits(&of_rust) == bits(&of_unit), "unit and Rust differ");
+    if bits(&of_rust) != bits(&of_unit) {
+        return Err("unit and Rust differ".into());
+    }
     let time = |job, lists: &mut [f64]| least(n, repeats, || all(job, lists));
     let times = (0..runs).map(|_| (time(by_rust, &mut of_rust), time(by_unit, &mut of_unit))).collect();
-    (n, times)
+    Ok((n, times))
 }
 
-fn run(path: &str, words: &[&str]) -> String {
-    let out = Command::new(path).args(words).output().unwrap_or_else(|e| panic!("{path}: {e}"));
-    assert!(out.status.success(), "the oracle failed");
-    String::from_utf8(out.stdout).expect("text")
+fn run(oracle: &OsStr, words: &[&OsStr]) -> Result<String, Failure> {
+    let name = Path::new(oracle).display();
+    let out = Command::new(oracle).args(words).output().map_err(|e| format!("{name}: {e}"))?;
+    if !out.status.success() {
+        return Err(format!("{name} ended with {}", out.status).into());
+    }
+    Ok(String::from_utf8(out.stdout)?)
 }
 
 /// The number after `least` in the oracle's line.
-fn rust(line: &str) -> f64 {
+fn rust(line: &str) -> Result<f64, Failure> {
     let mut words = line.split([' ', ',']).skip_while(|w| *w != "least");
-    words.nth(1).and_then(|w| w.parse().ok()).expect("a timing")
+    words.nth(1).and_then(|w| w.parse().ok()).ok_or_else(|| format!("the oracle answers no timing: {line}").into())
 }
 
-/// The halfedges of a mesh, and for each run the least time of the Rust (for a preview, of the unit's spreading) and that of the unit.
-fn mesh_times(oracle: &str, kind: &str, text: &str, repeats: usize, runs: usize) -> (usize, Vec<(f64, f64)>) {
+/// The halfedges of a mesh, and the times of the Rust (for a preview, of the unit's spreading) and of the unit.
+fn mesh_times(oracle: &OsStr, kind: &str, text: &str, case: &Block, repeats: usize, runs: usize) -> Result<(usize, Times), Failure> {
     let file = std::env::temp_dir().join(format!("tangents-bench-{}.txt", std::process::id()));
-    std::fs::write(&file, text).expect("a temporary file");
-    let case = &blocks(text.as_bytes()).next().expect("a case");
+    std::fs::write(&file, text).map_err(|e| format!("{}: {e}", file.display()))?;
     let beside = || match kind {
         "preview" => unit(case, "spread", repeats),
-        _ => rust(&run(oracle, &["bench", file.to_str().unwrap(), &repeats.to_string()])),
+        _ => rust(&run(oracle, &["bench".as_ref(), file.as_os_str(), repeats.to_string().as_ref()])?),
     };
     let op = if matches!(kind, "preview" | "clean") { kind } else { case.op() };
-    let times = (0..runs).map(|_| (beside(), unit(case, op, repeats))).collect();
+    let times = (0..runs).map(|_| Ok((beside()?, unit(case, op, repeats)?))).collect::<Result<_, Failure>>();
     let _ = std::fs::remove_file(&file);
-    (case.counts().0, times)
+    Ok((case.counts().0, times?))
 }
 
-fn main() {
-    let args: Vec<String> = std::env::args().skip(1).collect();
-    assert!(args.len() >= 5, "bench ORACLE MESH HALFEDGES REPEATS RUNS [KIND..]");
-    let all = ["straighten", "check", "crease", "clean", "spread", "preview", "sharp", "normals", "rows", "stl", "apart", "curve", "point"];
-    let all = all.map(String::from);
-    let (job, all) = match args[1].as_str() {
-        "torus" => ("big", &all[..]),
-        "mixed" => ("mixed", &all[..8]),
-        mesh => panic!("no mesh {mesh}"),
-    };
-    let (repeats, runs): (usize, usize) = (args[3].parse().expect("repeats"), args[4].parse().expect("runs"));
-    let kinds = if args.len() > 5 { &args[5..] } else { all };
-    println!("| call | halfedges | unit | Rust | ratio | least to greatest |");
-    println!("|---|---|---|---|---|---|");
-    for kind in kinds {
-        let (of, mesh) = match kind.as_str() {
+const KINDS: [&str; 13] =
+    ["straighten", "check", "crease", "clean", "spread", "preview", "sharp", "normals", "rows", "stl", "apart", "curve", "point"];
+
+const TORUS_ONLY: [&str; 3] = ["rows", "stl", "apart"];
+
+struct Arguments {
+    oracle: OsString,
+    /// The oracle's word for the mesh.
+    mesh: &'static str,
+    halfedges: usize,
+    repeats: usize,
+    runs: usize,
+    kinds: Vec<&'static str>,
+}
+
+impl Arguments {
+    /// The arguments, or `None` where they are wrong.
+    fn of(words: &[OsString]) -> Option<Arguments> {
+        let (oracle, words) = words.split_first()?;
+        let words: Vec<&str> = words.iter().map(|word| word.to_str()).collect::<Option<_>>()?;
+        let ([mesh, numbers @ ..], kinds) = words.split_first_chunk::<4>()?;
+        let (mesh, own, all) = match *mesh {
+            "torus" => ("big", &[][..], &KINDS[..]),
+            "mixed" => ("mixed", &TORUS_ONLY[..], &KINDS[..8]),
+            _ => return None,
+        };
+        let kind = |word: &&str| KINDS.into_iter().find(|kind| kind == word && !own.contains(kind));
+        let kinds = kinds.iter().map(kind).collect::<Option<Vec<_>>>()?;
+        let kinds = if kinds.is_empty() { all.to_vec() } else { kinds };
+        let number = |word: &str| word.parse().ok().filter(|&number| number > 0);
+        let [halfedges, repeats, runs] = numbers.map(number);
+        Some(Arguments { oracle: oracle.clone(), mesh, halfedges: halfedges?, repeats: repeats?, runs: runs?, kinds })
+    }
+
+    /// The line of a kind.
+    fn line(&self, kind: &str) -> Result<String, Failure> {
+        let &Arguments { ref oracle, repeats, runs, .. } = self;
+        let (of, mesh) = match kind {
             "preview" => ("spread ", "spread"),
             "clean" => ("crease ", "crease"),
-            "stl" | "apart" => ("maps ", kind.as_str()),
+            "stl" | "apart" => ("maps ", kind),
             "curve" | "point" => ("", "straighten"),
-            _ => ("", kind.as_str()),
+            _ => ("", kind),
         };
-        let text = run(&args[0], &[job, mesh, &args[2], "1"]);
-        let (n, times) = match kind.as_str() {
-            "stl" | "apart" => file_times(&blocks(text.as_bytes()).next().expect("a case").file(), repeats, runs),
-            "curve" | "point" => curve_times(kind, &blocks(text.as_bytes()).next().expect("a case"), repeats, runs),
-            _ => mesh_times(&args[0], kind, &text, repeats, runs),
+        let text = run(oracle, &[self.mesh, mesh, &self.halfedges.to_string(), "1"].map(OsStr::new))?;
+        let case = blocks(text.as_bytes()).next().ok_or("the oracle gives no case")?;
+        let (n, times) = match kind {
+            "stl" | "apart" => file_times(&case.file(), repeats, runs)?,
+            "curve" | "point" => curve_times(kind, &case, repeats, runs)?,
+            _ => mesh_times(oracle, kind, &text, &case, repeats, runs)?,
         };
+        if n == 0 {
+            return Err(format!("the oracle makes no mesh of {} halfedges", self.halfedges).into());
+        }
         let mut ratios: Vec<f64> = times.iter().map(|(r, u)| u / r).collect();
         ratios.sort_by(f64::total_cmp);
         let (r, u) = times.iter().fold((f64::MAX, f64::MAX), |(r, u), t| (r.min(t.0), u.min(t.1)));
-        println!("| {kind} | {n} | {u:.2} | {of}{r:.2} | {:.2} | {:.2} to {:.2} |", ratios[runs / 2], ratios[0], ratios[runs - 1]);
+        Ok(format!("| {kind} | {n} | {u:.2} | {of}{r:.2} | {:.2} | {:.2} to {:.2} |\n", ratios[runs / 2], ratios[0], ratios[runs - 1]))
+    }
+
+    fn print_table(&self) -> Result<(), Failure> {
+        print("| call | halfedges | unit | Rust | ratio | least to greatest |\n|---|---|---|---|---|---|\n")?;
+        for kind in &self.kinds {
+            print(self.line(kind)?)?;
+        }
+        Ok(())
+    }
+}
+
+fn main() -> ExitCode {
+    let words: Vec<OsString> = std::env::args_os().skip(1).collect();
+    let Some(arguments) = Arguments::of(&words) else {
+        say(format_args!(
+            "bench ORACLE MESH HALFEDGES REPEATS RUNS [KIND..], where MESH is torus or mixed, KIND is {} ({} on the torus only), and the others are above 0",
+            KINDS.join(", "),
+            TORUS_ONLY.join(", ")
+        ));
+        return ExitCode::from(2);
+    };
+    match arguments.print_table() {
+        Ok(()) => ExitCode::SUCCESS,
+        Err(failure) => {
+            say(failure);
+            ExitCode::from(1)
+        }
     }
 }

@@ -12,12 +12,15 @@
 //! The status is 0 after a whole run in which nothing differs, 1 after one in which something does, and another where the run ends early.
 
 use std::collections::BTreeMap;
+use std::ffi::{OsStr, OsString};
 use std::fmt;
 use std::io::{self, BufReader, Write as _};
 use std::panic::catch_unwind;
+use std::path::Path;
 use std::process::{Child, ChildStdin, Command, ExitCode, ExitStatus, Stdio};
 use std::sync::mpsc::{sync_channel, Receiver, SyncSender};
 use tangents_host::case::{answer, blocks, Block};
+use tangents_host::output::{print, say};
 
 const KINDS: [&str; 20] = [
     "straighten", "spread", "preview", "check", "crease", "clean", "crease2", "sharp", "normals", "rows", "count", "stl", "curve", "any", "refuse",
@@ -63,9 +66,15 @@ impl Sums {
         self.compared += 1;
         if !lines.iter().all(|l| rust.has_line(l)) && !of_another_length(case, &lines, rust) {
             self.differ += 1;
-            writeln!(io::stdout(), "differs: {}", case.name())?;
+            print(format_args!("differs: {}\n", case.name()))?;
         }
         Ok(())
+    }
+
+    /// The refused cases, a line for each operation and number, and the last line.
+    fn report(&self, kind: &str) -> String {
+        let refusals = self.refusals.iter().map(|((op, number), count)| format!("{op} refused {number}: {count}\n"));
+        refusals.chain([format!("{kind}: {self}\n")]).collect()
     }
 }
 
@@ -74,9 +83,9 @@ fn of_another_length(case: &Block, lines: &[String], rust: &Block) -> bool {
     case.op() == "check" && case.floats("tan").len() % 4 != 0 && lines == ["valid 1"] && !rust.has("refused")
 }
 
-fn start(oracle: &str, words: &[&str], input: Stdio) -> Result<Child, Failure> {
+fn start(oracle: &OsStr, words: &[&str], input: Stdio) -> Result<Child, Failure> {
     let child = Command::new(oracle).args(words).stdin(input).stdout(Stdio::piped()).spawn();
-    child.map_err(|e| format!("{oracle}: {e}").into())
+    child.map_err(|e| format!("{}: {e}", Path::new(oracle).display()).into())
 }
 
 /// Hands each generated case to the oracle that answers it, and to `waiting`. Where either takes no more, the generator is stopped.
@@ -102,7 +111,7 @@ fn compare_each(waiting: Receiver<Block>, answers: &mut impl Iterator<Item = Blo
 }
 
 /// Compares the cases that the oracle generates for these words, `count` of them: anything else is a failure.
-fn compare_all(oracle: &str, words: &[&str], count: usize, sums: &mut Sums) -> Result<(), Failure> {
+fn compare_all(oracle: &OsStr, words: &[&str], count: usize, sums: &mut Sums) -> Result<(), Failure> {
     let generator = start(oracle, words, Stdio::null())?;
     let mut answerer = start(oracle, &["run"], Stdio::piped())?;
     let (input, output) = (answerer.stdin.take().expect("a pipe"), answerer.stdout.take().expect("a pipe"));
@@ -125,27 +134,25 @@ fn compare_all(oracle: &str, words: &[&str], count: usize, sums: &mut Sums) -> R
 }
 
 fn main() -> ExitCode {
-    let args: Vec<String> = std::env::args().skip(1).collect();
-    let words: Vec<&str> = args.iter().map(|a| a.as_str()).collect();
-    let &[oracle, kind, seed, number] = &words[..] else { return usage() };
+    let args: Vec<OsString> = std::env::args_os().skip(1).collect();
+    let [oracle, words @ ..] = &args[..] else { return usage() };
+    let words: Option<Vec<&str>> = words.iter().map(|word| word.to_str()).collect();
+    let Some(&[kind, seed, number]) = words.as_deref() else { return usage() };
     let Ok(count) = number.parse() else { return usage() };
     if !KINDS.contains(&kind) {
         return usage();
     }
     let words = if kind.starts_with("refuse") { vec![kind, seed, number] } else { vec!["gen", kind, seed, number] };
     let mut sums = Sums::default();
-    if let Err(why) = compare_all(oracle, &words, count, &mut sums) {
-        eprintln!("{kind} ended early: {why}; of {count} cases {sums}");
+    let compared = compare_all(oracle, &words, count, &mut sums);
+    if let Err(why) = compared.and_then(|()| Ok(print(sums.report(kind))?)) {
+        say(format_args!("{kind} ended early: {why}; of {count} cases {sums}"));
         return ExitCode::from(2);
     }
-    for ((op, number), count) in &sums.refusals {
-        println!("{op} refused {number}: {count}");
-    }
-    println!("{kind}: {sums}");
     ExitCode::from((sums.differ > 0) as u8)
 }
 
 fn usage() -> ExitCode {
-    eprintln!("compare ORACLE KIND SEED COUNT, where KIND is {}", KINDS.join(", "));
+    say(format_args!("compare ORACLE KIND SEED COUNT, where KIND is {}", KINDS.join(", ")));
     ExitCode::from(2)
 }

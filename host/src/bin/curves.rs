@@ -1,9 +1,9 @@
 //! Draws the edges of a binary STL file as curves, each curve by the unit. `curves --help` says more.
 
 use std::error::Error;
-use std::io::{self, Write};
 use std::process::ExitCode;
 use tangents_host::drawing::Drawing;
+use tangents_host::output::print;
 use tangents_host::solid::arguments::{start, Arguments};
 use tangents_host::solid::Solid;
 
@@ -26,17 +26,17 @@ curves, and the edges of each kind that have none.
 The view is from above, the front, and a little from the right, without perspective. The same arguments
 give the same bytes.
 
-A file that is refused gives the line `refused NUMBER PLACE: ` and its meaning on standard error, and
-status 1. Status 1 with another line says that the file cannot be read, that it looks like ASCII STL, or
-that the picture cannot be written; status 2 that the arguments are wrong.
+Status 0 says that the picture, or this help, is written. A file that is refused gives the line `refused
+NUMBER PLACE: ` and its meaning on standard error, and status 1. Status 1 with another line says that the
+file cannot be read, that it looks like ASCII STL, or that the output cannot be written. Status 2 says
+that the arguments are wrong.
 ";
 
 fn run(arguments: &Arguments) -> Result<(), Box<dyn Error>> {
     let solid = Solid::read(&arguments.file)?;
     let creases = solid.creases(arguments.angle, arguments.rule)?;
     let (tangents, _) = solid.tangents(&creases)?;
-    let picture = Drawing::of(&solid.mesh, &tangents)?.svg();
-    Ok(io::stdout().write_all(picture.as_bytes())?)
+    Ok(print(Drawing::of(&solid.mesh, &tangents)?.svg())?)
 }
 
 fn main() -> ExitCode {

@@ -3,6 +3,7 @@
 use std::error::Error;
 use std::io::{self, BufWriter, Write};
 use std::process::ExitCode;
+use tangents_host::output::Unwritten;
 use tangents_host::solid::arguments::{start, Arguments};
 use tangents_host::solid::{Creases, Solid};
 use tangents_host::Made;
@@ -26,12 +27,13 @@ stored for it. With an ANGLE below 90 its edges are listed as creases, also with
 --clean lists no edge that touches a sliver, and makes the tangents from the others. Where a sliver lies
 along a true crease, that edge is left out too.
 
---tangents prints the tangents below, as document 01's program does: the line `tangents` with the count
-of halfedges, and for each halfedge its number and the bits of x, y, z and the weight in 16 hex digits.
+--tangents prints the tangents below: the line `tangents` with the count of halfedges, and for each
+halfedge its number and the bits of x, y, z and the weight in 16 hex digits.
 
-A file that is refused gives the line `refused NUMBER PLACE: ` and its meaning on standard error, and
-status 1. Status 1 with another line says that the file cannot be read, or that it looks like ASCII STL;
-status 2 that the arguments are wrong.
+Status 0 says that all is printed. A file that is refused gives the line `refused NUMBER PLACE: ` and its
+meaning on standard error, and status 1. Status 1 with another line says that the file cannot be read,
+that it looks like ASCII STL, or that the output cannot be written. Status 2 says that the arguments are
+wrong.
 ";
 
 fn write_counts(out: &mut impl Write, solid: &Solid, creases: &Creases, made: Made) -> io::Result<()> {
@@ -59,16 +61,21 @@ fn write_tangents(out: &mut impl Write, tangents: &[f64]) -> io::Result<()> {
     Ok(())
 }
 
+fn print(solid: &Solid, creases: &Creases, made: Made, tangents: Option<&[f64]>) -> io::Result<()> {
+    let mut out = BufWriter::new(io::stdout().lock());
+    write_counts(&mut out, solid, creases, made)?;
+    if let Some(tangents) = tangents {
+        write_tangents(&mut out, tangents)?;
+    }
+    out.flush()
+}
+
 fn run(arguments: &Arguments) -> Result<(), Box<dyn Error>> {
     let solid = Solid::read(&arguments.file)?;
     let creases = solid.creases(arguments.angle, arguments.rule)?;
     let (tangents, made) = solid.tangents(&creases)?;
-    let mut out = BufWriter::new(io::stdout().lock());
-    write_counts(&mut out, &solid, &creases, made)?;
-    if arguments.has("--tangents") {
-        write_tangents(&mut out, &tangents)?;
-    }
-    Ok(out.flush()?)
+    let listed = arguments.has("--tangents").then_some(&tangents[..]);
+    Ok(print(&solid, &creases, made, listed).map_err(Unwritten)?)
 }
 
 fn main() -> ExitCode {

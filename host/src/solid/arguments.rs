@@ -1,6 +1,7 @@
 //! The arguments of a program that takes an STL file: `FILE [ANGLE] [--clean]`, and options of its own.
 
 use super::Rule;
+use crate::output::{print, say};
 use std::error::Error;
 use std::ffi::OsString;
 use std::process::ExitCode;
@@ -34,19 +35,19 @@ impl Arguments {
 /// arguments are wrong.
 pub fn start(usage: &str, help: &str, own: &[&str], run: impl FnOnce(&Arguments) -> Result<(), Box<dyn Error>>) -> ExitCode {
     let words: Vec<OsString> = std::env::args_os().skip(1).collect();
-    if words == ["--help"] {
-        print!("{usage}\n{help}");
-        return ExitCode::SUCCESS;
-    }
-    let Some(arguments) = Arguments::of(words.into_iter(), own) else {
+    let done = if words == ["--help"] {
+        print(format_args!("{usage}\n{help}")).map_err(Into::into)
+    } else if let Some(arguments) = Arguments::of(words.into_iter(), own) {
+        run(&arguments)
+    } else {
         let name = usage.split(' ').next().unwrap_or_default();
-        eprintln!("{usage}, where ANGLE is a number of degrees; {name} --help says more");
+        say(format_args!("{usage}, where ANGLE is a number of degrees; {name} --help says more"));
         return ExitCode::from(2);
     };
-    match run(&arguments) {
+    match done {
         Ok(()) => ExitCode::SUCCESS,
         Err(failure) => {
-            eprintln!("{failure}");
+            say(failure);
             ExitCode::from(1)
         }
     }

@@ -2,7 +2,9 @@
 use mathlib.Core.Path.{◌≡◌}
 use Rattle.std.proofs.Common.{Ok}
 use Rattle.normals_core.proofs.Core.{from_normals_within}
+use Rattle.normals_weights.proofs.Weights.{weights}
 use Rattle.create_from_normals.proofs.Accepted.{Lists, lists_of}
+use Rattle.create_from_normals.proofs.OldNormals.{old_tangents, old_count}
 use Rattle.create_from_normals.proofs.create_tangents_from_normals.Goals as goal
 use Rattle.create_from_normals.proofs.create_tangents_from_normals.Goals.{After-check_normals-checked}
 
@@ -31,3 +33,18 @@ pub returns-clause-bound : goal.returns-clause-bound
 returns-clause-bound c =
     let w = lists (goal.at.returns-clause-bound c).After-check_normals-checked c.in-Ok.is in
     rw c.make_tangents-directionless.ensures.directionless (from_normals_within w.sound _ _ _ _ _ _ _ _)
+
+pub returns-clause-weights : goal.returns-clause-weights
+returns-clause-weights c =
+    let w = lists (goal.at.returns-clause-weights c).After-check_normals-checked c.in-Ok.is in
+    rw c.make_tangents-directionless.ensures.tangents (weights _ _ _ _ _ _ _ _ _ _ w.sound)
+
+pub returns-clause-old_tangents : goal.returns-clause-old_tangents
+returns-clause-old_tangents c =
+    let w = lists (goal.at.returns-clause-old_tangents c).After-check_normals-checked c.in-Ok.is in
+    rw c.make_tangents-directionless.ensures.tangents (old_tangents _ w.sound _ _ _ _ _ _ _ _)
+
+pub returns-clause-old_count : goal.returns-clause-old_count
+returns-clause-old_count c =
+    let w = lists (goal.at.returns-clause-old_count c).After-check_normals-checked c.in-Ok.is in
+    rw c.make_tangents-directionless.ensures.directionless (old_count _ w.sound _ _ _ _ _ _ _ _)

@@ -12,7 +12,7 @@ loop-current-init c =
 
 pub loop-current-smaller : goal.loop-current-smaller
 loop-current-smaller c =
-    around_less (next_permutes c.args.lists.now.creases.lists.sound) c.loop-current.invariant.0 c.next_around-current.ensures c.if-current-through.false
+    around_less (next_permutes c.args.lists.now.creases.lists.sound) c.loop-current.invariant.0 c.next_around-current.ensures c.if-current-first.false
 
 pub loop-current-preserved : goal.loop-current-preserved
 loop-current-preserved c =
@@ -20,9 +20,9 @@ loop-current-preserved c =
     let l = c.loop-current in
     let a = c.args in
     let Q = next_permutes c.args.lists.now.creases.lists.sound in (
-      around_step Q l.invariant.0 c.next_around-current.ensures c.if-current-through.false,
+      around_step Q l.invariant.0 c.next_around-current.ensures c.if-current-first.false,
       m.auto.t ∙ l.invariant.1,
-      around_fold_step Q l.invariant.0 c.next_around-current.ensures (sharpen_side a.through.now.first a.through.now.second a.through.now.beyond) (sides_of l.t l.s) l.invariant.2 m.ensures c.if-current-through.false,
+      around_fold_step Q l.invariant.0 c.next_around-current.ensures (sharpen_side a.first a.second a.beyond) (sides_of l.t l.s) l.invariant.2 m.ensures c.if-current-first.false,
     )
 
 pub returns : goal.returns
@@ -32,4 +32,4 @@ returns c =
     let l = c.loop-current in
     let a = c.args in
     ap (λ (k : Sides). k.tangents)
-    (around_fold_stop (next_permutes c.args.lists.now.creases.lists.sound) l.invariant.0 c.next_around-current.ensures (sharpen_side a.through.now.first a.through.now.second a.through.now.beyond) (sides_of l.t l.s) l.invariant.2 m.ensures c.if-current-through.true)
+    (around_fold_stop (next_permutes c.args.lists.now.creases.lists.sound) l.invariant.0 c.next_around-current.ensures (sharpen_side a.first a.second a.beyond) (sides_of l.t l.s) l.invariant.2 m.ensures c.if-current-first.true)

@@ -12,8 +12,8 @@ use Rattle.create_sharpen.proofs.sharpen_sides.Given as goal
 
 abbrev pub invariant-loop-current : goal.invariant-loop-current
 invariant-loop-current l =
-    Walking (next_around (mesh_of l.lists)) l.lists.creases.n (is_at l.through.first) l.lists.creases.n l.through.first l.current × (length l.t ≡ length l.initial.t)
-    × (foldl (sharpen_side l.through.first l.through.second l.through.beyond) (sides_of l.t l.s) (cycle_from (next_around (mesh_of l.lists)) l.lists.creases.n l.through.first l.current) ≡ foldl (sharpen_side l.through.first l.through.second l.through.beyond) (sides_of l.initial.t l.through.between) (vertex_cycle (mesh_of l.lists) l.lists.creases.n l.through.first))
+    Walking (next_around (mesh_of l.lists)) l.lists.creases.n (is_at l.first) l.lists.creases.n l.first l.current × (length l.t ≡ length l.initial.t)
+    × (foldl (sharpen_side l.first l.second l.beyond) (sides_of l.t l.s) (cycle_from (next_around (mesh_of l.lists)) l.lists.creases.n l.first l.current) ≡ foldl (sharpen_side l.first l.second l.beyond) (sides_of l.initial.t l.between) (vertex_cycle (mesh_of l.lists) l.lists.creases.n l.first))
 
 abbrev pub decreases-loop-current : goal.decreases-loop-current
-decreases-loop-current l = steps_left (next_around (mesh_of l.lists)) (is_at l.through.first) l.lists.creases.n l.current
+decreases-loop-current l = steps_left (next_around (mesh_of l.lists)) (is_at l.first) l.lists.creases.n l.current

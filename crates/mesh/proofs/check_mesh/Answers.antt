@@ -1,11 +1,12 @@
 -- `mesh::check_mesh` meets its contract.
-use Rattle.std.proofs.Common.{◌≡◌, sym, ◌∙◌, true, ◌&&◌, length}
+use Rattle.std.proofs.Common.{◌≡◌, sym, ◌∙◌, true, ◌&&◌, length, Ok, rules}
 use Rattle.mesh.specs.declared.Question.TheVariants.{Counts, Lengths}
 use Rattle.mesh.specs.Mesh.{halfedge_stride, as_halfedges}
 use Rattle.mesh.specs.Questions.{counts_fit, has_length}
-use Rattle.mesh.specs.All.{triangles_hold}
+use Rattle.mesh.specs.Check.{check_mesh}
+use Rattle.mesh.specs.All.{triangles_hold, ask_each}
 use Rattle.std.proofs.lemmas.Bool.{and_parts}
-use Rattle.mesh.proofs.Accepted.{asked_accepted, sound_accepted, counts_fit_lem}
+use Rattle.mesh.proofs.Accepted.{asked_accepted, sound_accepted, mesh_exactly, counts_fit_lem}
 use Rattle.mesh.proofs.TriangleLaws.{triangles_sound}
 use Rattle.mesh.proofs.check_mesh.Goals as goal
 
@@ -18,4 +19,11 @@ returns-then-all_hold c =
     let all : has_length (length a.h.now) a.n halfedge_stride && triangles_hold H a.n a.p ≡ true = sym c.all_hold.ensures ∙ c.if-all_hold.true in
     let few = counts_fit_lem a.n a.p fit in
     let yes : triangles_hold H a.n a.p ≡ true = (and_parts (has_length (length a.h.now) a.n halfedge_stride) _ all).1 in
-    rw long (sym (sound_accepted H a.n a.p (triangles_sound H a.n a.p few.0 few.1 few.2 yes)))
+    let answer : Ok tt ≡ check_mesh H a.n a.p a.lengths = rw long (sym (sound_accepted H a.n a.p (triangles_sound H a.n a.p few.0 few.1 few.2 yes))) in
+    record { answer = answer; accepted = mesh_exactly H a.n a.p a.lengths answer }
+
+pub returns-clause-accepted : goal.returns-clause-accepted
+unfolding check_mesh ask_each
+returns-clause-accepted c =
+    let a = c.args in
+    mesh_exactly (as_halfedges a.h.now) a.n a.p a.lengths (search rules)

@@ -1,7 +1,5 @@
 -- `records::check_bodies` meets its contract: before each turn `place` is within the input, and the records that are left are asked about from there. Assumes nothing.
-use Rattle.std.proofs.Common.{arith, rules, sym, ◌∙◌}
-use Rattle.std.proofs.lemmas.List.{drop_all}
-use Rattle.records.specs.Records.{check_bodies}
+use Rattle.std.proofs.Common.{arith, sym, ◌∙◌}
 use Rattle.records.proofs.Parse.{within, next_body}
 use Rattle.records.proofs.check_bodies.Goals as goal
 

@@ -7,4 +7,4 @@ use Rattle.replay_mesh_faces.proofs.asked_flags.Goals as goal
 pub same_flags-requires : goal.same_flags-requires
 unfolding as_halfedges
 same_flags-requires c =
-    asked (as_halfedges _) _ _ _ c.has_length-lengths.ensures (sym c.check_mesh-checked.ensures ∙ c.in-Ok.is)
+    asked (as_halfedges _) _ _ _ c.has_length-lengths.ensures (sym c.check_mesh-checked.ensures.answer ∙ c.in-Ok.is)

@@ -7,4 +7,4 @@ use Rattle.replay_mesh_leaves.proofs.asked_normals.Goals as goal
 pub same_tangents-requires : goal.same_tangents-requires
 unfolding as_halfedges
 same_tangents-requires c =
-    normal_lists _ _ _ _ _ _ (sym c.check_mesh-checked.ensures ∙ c.in-Ok.is) c.has_length.ensures c.has_length-2.ensures c.has_length-3.ensures c.has_length-4.ensures
+    normal_lists _ _ _ _ _ _ (sym c.check_mesh-checked.ensures.answer ∙ c.in-Ok.is) c.has_length.ensures c.has_length-2.ensures c.has_length-3.ensures c.has_length-4.ensures

@@ -6,4 +6,4 @@ use Rattle.replay_mesh_leaves.proofs.asked_quads.Goals as goal
 
 pub same_quads-requires : goal.same_quads-requires
 unfolding as_halfedges
-same_quads-requires c = quad_lists _ _ _ _ (sym c.check_mesh-checked.ensures ∙ c.in-Ok.is) c.has_length.ensures c.has_length-2.ensures
+same_quads-requires c = quad_lists _ _ _ _ (sym c.check_mesh-checked.ensures.answer ∙ c.in-Ok.is) c.has_length.ensures c.has_length-2.ensures

@@ -1,5 +1,5 @@
 -- `sqrt::sqrt` meets its contract: the clause `root` by what its comparisons say of x (`proofs/Comparisons.antt`) and by what `sqrt_bits` ensures,
--- and the clause `ieee` by `correct` (`proofs/Nearest.antt`), since x is an f64. Assumes nothing.
+-- and the clauses `ieee` and `only` by `correct` and `unique` (`proofs/Nearest.antt`), since x is an f64. Assumes nothing.
 use mathlib.Core.Path.{◌≡◌, refl, sym, ap, ◌∙◌, subst}
 use mathlib.Core.Bool.{Bool, true, not}
 use Prim.Native.Nat.{ℕ, ◌<◌}
@@ -9,19 +9,23 @@ use lib.Dec.{T, ltb, lit≤}
 use lib.Ieee.{Float, nan, binary64, lt, eq, div, fits, nan_bits, of_bits}
 use lib.Ieee.Bits.{of_bits-to_bits, nan_bits_above}
 use Rattle.sqrt.specs.Sqrt.{square_root, sqrt_of}
-use Rattle.sqrt.specs.Nearest.{IsRoot}
+use Rattle.sqrt.specs.Nearest.{IsRoot, OnlyRoot}
 use Rattle.sqrt.specs.Steps.{infinity_bits}
 use Rattle.sqrt.proofs.Comparisons.{zero⁺, zero_bits, above_below, above_pos, at_infinity, at_zero, otherwise}
-use Rattle.sqrt.proofs.Nearest.{correct}
+use Rattle.sqrt.proofs.Nearest.{correct, unique}
 use Rattle.sqrt.proofs.sqrt.Goals as goal
 
 representable : (x : Float) → fits binary64 x ≡ true → T (fits binary64 x)
 representable x e = subst T (sym e) tt
 
--- both clauses, from the first
+-- all clauses, from the first
 module _ (x r : Float) (f : fits binary64 x ≡ true) (e : r ≡ sqrt_of x) where
-  clauses : record { root : r ≡ sqrt_of x; ieee : IsRoot x r }
-  clauses = record { root = e; ieee = subst (IsRoot x) (sym e) (correct x (representable x f)) }
+  clauses : record { root : r ≡ sqrt_of x; ieee : IsRoot x r; only : OnlyRoot x r }
+  clauses = record {
+    root = e;
+    ieee = subst (IsRoot x) (sym e) (correct x (representable x f));
+    only = subst (OnlyRoot x) (sym e) (unique x (representable x f));
+  }
 
 no_nan_bits : (n : ℕ) → n < infinity_bits → T (not (nan_bits binary64 n))
 no_nan_bits n h =

@@ -1,8 +1,8 @@
 -- `read_stl` meets its contract: what it fills in is a mesh, and question 32 is refused exactly where it has to be. Assumes nothing.
-use Rattle.std.proofs.Common.{sym, ap, ◌∙◌, Ok}
+use Rattle.std.proofs.Common.{sym, ap, ◌∙◌, rules, Ok}
 use Rattle.stl.specs.Stl.{counts_of}
 use Rattle.stl.proofs.Sound.{mesh_of}
-use Rattle.stl.proofs.Pairing.{exactly_then}
+use Rattle.stl.proofs.Pairing.{exactly_of, exactly_then}
 use Rattle.stl.proofs.read_stl.Goals as goal
 
 pub returns-clause-mesh : goal.returns-clause-mesh
@@ -11,6 +11,10 @@ returns-clause-mesh c =
     let fits = rw c.has_room.ensures at (sym c.check_file-checked.ensures ∙ c.in-Ok-checked.is) in
     let lists = c.write_lists.ensures in
     rw (lists.counts, lists.points, lists.halfedges, lists.normals) (mesh_of _ _ _ _ long fits)
+
+pub returns-in_default-clause-paired : goal.returns-in_default-clause-paired
+returns-in_default-clause-paired c =
+    exactly_of c.args.file.now c.args.points.now c.args.halfedges.now c.args.normals.now (search rules)
 
 pub returns-in_default-checked-clause-paired : goal.returns-in_default-checked-clause-paired
 returns-in_default-checked-clause-paired c =

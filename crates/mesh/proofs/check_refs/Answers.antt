@@ -1,0 +1,12 @@
+-- `mesh::check_refs` meets its contract.
+use Rattle.std.proofs.Common.{rules}
+use Rattle.mesh.specs.Check.{check_refs}
+use Rattle.mesh.specs.Questions.{has_mesh}
+use Rattle.mesh.proofs.Accepted.{refs_exactly}
+use Rattle.mesh.proofs.check_refs.Goals as goal
+
+pub returns-clause-accepted : goal.returns-clause-accepted
+unfolding check_refs
+returns-clause-accepted c =
+    let a = c.args in
+    refs_exactly a.sofar a.n a.refs.now (rw c.in_ok-sofar.was (c.ask.ensures (has_mesh a.refs.now) (λ k b h post. search rules)))

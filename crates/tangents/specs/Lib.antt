@@ -1,0 +1,2 @@
+-- The specs of `tangents`.
+pub mod Streams
