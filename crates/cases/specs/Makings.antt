@@ -1,4 +1,4 @@
--- What a making on the pillow does with the tangents that it is handed: which halfedges it fixes, how many tangents have no direction, and how the creases that meet at a point sharpen them.
+-- What a making on the pillow does with the tangents that it is handed: which halfedges it fixes, how many circular tangents it computes on an edge without direction, and how the creases that meet at a point sharpen them.
 use Rattle.std.specs.Prelude.{ℕ, ◌≡◌, true, false, List, [], ◌∷◌, ◌++◌, replicate, Float}
 use Rattle.std.specs.Float.Ieee.{neg}
 use Rattle.float.specs.Ops.{zero, half, one}
@@ -43,7 +43,7 @@ shaped entries =
     shaped_tangents (as_halfedges pillow) one_place one_place (replicate 6 one) refs (is_inside_quad (as_halfedges pillow) refs marks true)
     (vert_tangents (as_halfedges pillow) (edges_of (as_halfedges pillow) (sharpened_edges (as_halfedges pillow) refs (is_flat (flat_faces (as_halfedges pillow) refs 6)) entries 6)) 6) 6 3
 
--- how many tangents have no direction, at these points, without old tangents; no halfedge is inside a quad
+-- how many circular tangents are computed on an edge without direction, at these points, without old tangents; no halfedge is inside a quad
 abbrev pub counted : List Float → List Smoothness → ℕ
 counted points entries = create_directionless (as_halfedges pillow) points refs entries [] false 6 3
 

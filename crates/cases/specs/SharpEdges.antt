@@ -8,7 +8,7 @@ use Rattle.mesh.specs.Mesh.{as_halfedges}
 use Rattle.mesh.specs.Check.{refused}
 use Rattle.mesh.specs.declared.Question.TheVariants.{Lengths}
 use Rattle.sharpen.specs.Entries.{Entries, entries_in}
-use Rattle.sharpen.specs.Sharpen.{listed_of, sharpen_edges, entries_after}
+use Rattle.sharpen.specs.Sharpen.{sharpen_edges, entries_after}
 use Rattle.sharpen.specs.declared.edge.Rule.{Rule}
 use Rattle.sharpen.specs.declared.edge.Rule.TheVariants.{Ported, Clean}
 
@@ -39,7 +39,7 @@ zeros = replicate 6 zero
 
 -- the answer of a rule, with so many entries and so many edges in the tally
 abbrev pub Answers : Rule → List Float → Float → ℕ → ℕ → Type 0
-Answers rule normals limit entries tally = sharpen_edges rule (as_halfedges pillow) normals limit half places zeros 6 3 ≡ Ok (listed_of entries tally)
+Answers rule normals limit entries tally = sharpen_edges rule (as_halfedges pillow) normals limit half places zeros 6 3 ≡ Ok (record { entries = entries; tally = tally })
 
 -- what it leaves
 abbrev pub Lists : Rule → List Float → Entries → Type 0
