@@ -32,7 +32,7 @@ ZERO = 1 << 31  # -0
 INFINITE = 0x7F80_0000
 LARGEST_FINITE = INFINITE - 1
 NOT_FINITE = INFINITE, INFINITE | ZERO, 0x7FC0_0000, INFINITE + 1, 2**32 - 1
-# The factors of a key's hash in crates/stl_table/src/lib.rt, and the prime.
+# The factors of a key's hash in crates/stl/src/table.rt, and the prime.
 FIRST = 0x1E37_79B1, 0x15EB_CA77, 0x1A85_EBCB
 SECOND = 0x12B2_AE3D, 0x0765_71F7, 0x1165_667B
 PRIME = 4294967291

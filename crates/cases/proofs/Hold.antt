@@ -19,8 +19,8 @@ use Rattle.validate.specs.Validate.{no_marked_neighbor, valid_at, valid_tangents
 use Rattle.mesh.specs.Check.{check_flags}
 use Rattle.linalg.specs.Vec.{cross_of}
 use Rattle.cycles.specs.Cycles.{next_around}
-use Rattle.distribute_spread.specs.Spread.{first_walk, fixed_from, pass, second_walk, spread, spread_from, spread_on, walks_from}
-use Rattle.distribute_steps.specs.FloatSteps.{begin, next_normal, gather_edge, turns_none, tangent_direction}
+use Rattle.distribute.specs.Spread.Spread.{first_walk, fixed_from, pass, second_walk, spread, spread_from, spread_on, walks_from}
+use Rattle.distribute.specs.Steps.FloatSteps.{begin, next_normal, gather_edge, turns_none, tangent_direction}
 use Rattle.distribute.specs.Distribute.{check_lists}
 use Rattle.cases.specs.Lines.{LinesHold}
 

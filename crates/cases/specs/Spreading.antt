@@ -1,8 +1,8 @@
 -- Spreading on the pillow, with numbers for tangents: the last digit is the weight, 9 the mark. And the bytes of a preview of it: 1 where a halfedge was turned.
 use Rattle.std.specs.Prelude.{ℕ, suc, ◌+◌, ◌*◌, ◌%◌, ◌≡◌, Bool, true, false, eqb, List, [], ◌∷◌, get_or, set}
-use Rattle.distribute_spread.specs.Steps.{Steps}
-use Rattle.distribute_spread.specs.Spread.{spread, pass}
-use Rattle.preview_walks.specs.Bytes.{turned_bytes}
+use Rattle.distribute.specs.Spread.Steps.{Steps}
+use Rattle.distribute.specs.Spread.Spread.{spread, pass}
+use Rattle.distribute.specs.PreviewWalks.Bytes.{turned_bytes}
 
 -- with these flags; the rounds are {0, 3}, {1, 5} and {2, 4}
 abbrev pub steps : List Bool → Steps

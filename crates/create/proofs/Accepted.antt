@@ -14,11 +14,11 @@ use Rattle.mesh.specs.Check.{Checked, check_mesh, check_refs, answer_of}
 use Rattle.std.proofs.lemmas.Bool.{and_parts}
 use Rattle.mesh.proofs.Tests.{has_length_lem, has_one}
 use Rattle.mesh.proofs.Accepted.{accepted, refs_accepted, entries_accepted}
-use Rattle.create_smoothness.specs.EntrySmoothness.{EntriesIn, entry_smoothness}
-use Rattle.create_smoothness.specs.declared.Smoothness.{Smoothness}
-use Rattle.create_core.specs.Core.{create_directionless}
-use Rattle.create_core.specs.Filled.{Lists, create_filled, filled_directionless}
-use Rattle.create_core.proofs.Filled.{filled_same, create_within}
+use Rattle.create.specs.Sharp.EntrySmoothness.{EntriesIn, entry_smoothness}
+use Rattle.create.specs.declared.sharp.Smoothness.{Smoothness}
+use Rattle.create.specs.Whole.Core.{create_directionless}
+use Rattle.create.specs.Whole.Filled.{Lists, create_filled, filled_directionless}
+use Rattle.create.proofs.WholeLaws.Filled.{filled_same, create_within}
 use Rattle.create_shared.proofs.Lengths.{MeshListsFit, mesh_lists_fit_lem}
 use Rattle.create.specs.Create.{lists_fit, scratch_fits, check_create, check_lists, tangents_after}
 

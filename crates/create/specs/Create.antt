@@ -5,9 +5,9 @@ use Rattle.mesh.specs.Questions.{has_length}
 use Rattle.mesh.specs.Check.{Checked, check_mesh, check_refs, check_entries, answer_of, when_accepted}
 use Rattle.create_shared.specs.Lengths.{mesh_lists_fit}
 use Rattle.create_shared.specs.Answer.{Making}
-use Rattle.create_smoothness.specs.declared.Smoothness.{Smoothness}
-use Rattle.create_smoothness.specs.Entries.{entries_of}
-use Rattle.create_core.specs.Core.{create_tangents, create_directionless}
+use Rattle.create.specs.declared.sharp.Smoothness.{Smoothness}
+use Rattle.create.specs.Sharp.Entries.{entries_of}
+use Rattle.create.specs.Whole.Core.{create_tangents, create_directionless}
 
 -- ---- the questions
 

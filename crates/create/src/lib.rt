@@ -2,13 +2,21 @@
 // questions, the smoothness that the entries give, and then `create_core`.
 #![tactic(auto)]
 
+pub mod sharp;
+mod edges;
+mod creases;
+mod initial;
+mod shapes;
+mod whole;
+pub mod entries;
+
 ghost use Rattle.std.specs.Prelude.{◌≡◌, ◌*◌, ◌≤◌, length, replicate};
 ghost use Rattle.float.specs.Ops.{zero};
 ghost use Rattle.mesh.specs.Mesh.{as_halfedges};
 ghost use Rattle.mesh.specs.Check.{when_accepted};
 ghost use Rattle.create_shared.specs.Answer.{directionless_of, checked_of, Values};
-ghost use Rattle.create_smoothness.specs.Entries.{entries_of};
-ghost use Rattle.create_core.specs.Core.{create_directionless};
+ghost use Rattle.create.specs.Sharp.Entries.{entries_of};
+ghost use Rattle.create.specs.Whole.Core.{create_directionless};
 ghost use Rattle.create.specs.Create.{lists_fit, scratch_fits, check_create, check_lists, tangents_after, create_answer};
 
 use create_shared::MeshLists;
@@ -144,7 +152,7 @@ pub fn create_tangents(
     let Ok(()) = checked else {
         return mesh::refused(checked);
     };
-    create_smoothness::entry_smoothness(entries, values, smooth);
+    sharp::entry_smoothness(entries, values, smooth);
     let mesh = MeshLists {
         n: n,
         p: p,
@@ -154,7 +162,7 @@ pub fn create_tangents(
         normals: normals,
         face_normals: face_normals,
     };
-    let directionless = create_core::make_tangents(
+    let directionless = whole::make_tangents(
         mesh, old, t, fixed, flat, smooth, desired, at, link,
     );
     Ok(directionless)

@@ -17,8 +17,8 @@ use Rattle.std.specs.Prelude.{Ok}
 use Rattle.std.proofs.lemmas.Bool.{and_parts}
 use Rattle.mesh.proofs.Tests.{has_length_lem, has_one}
 use Rattle.mesh.proofs.Accepted.{accepted, rows_accepted, refs_accepted, list_numbers}
-use Rattle.normals_state.specs.State.{RowIn}
-use Rattle.normals_core.specs.Core.{ScratchIn}
+use Rattle.create_from_normals.specs.State.State.{RowIn}
+use Rattle.create_from_normals.specs.Whole.Core.{ScratchIn}
 use Rattle.create_shared.proofs.Lengths.{MeshListsFit, mesh_lists_fit_lem}
 use Rattle.create_from_normals.specs.FromNormals.{lists_fit, scratch_fits, check_normals, check_lists}
 

@@ -5,8 +5,8 @@ use Rattle.mesh.specs.Questions.{has_length}
 use Rattle.mesh.specs.Check.{Checked, check_mesh, check_rows, check_refs, answer_of, when_accepted}
 use Rattle.create_shared.specs.Lengths.{mesh_lists_fit}
 use Rattle.create_shared.specs.Answer.{Making}
-use Rattle.normals_state.specs.State.{get_normal}
-use Rattle.normals_core.specs.Core.{create_tangents_from_normals, from_normals_directionless}
+use Rattle.create_from_normals.specs.State.State.{get_normal}
+use Rattle.create_from_normals.specs.Whole.Core.{create_tangents_from_normals, from_normals_directionless}
 
 -- ---- the questions
 

@@ -2,20 +2,26 @@
 // questions, and then `normals_core`.
 #![tactic(auto)]
 
+mod state;
+mod steps;
+mod walks;
+mod whole;
+mod weights;
+
 ghost use Rattle.std.specs.Prelude.{◌≡◌, ◌*◌, ◌≤◌, length, replicate, IfOk, OnOk};
 ghost use Rattle.float.specs.Ops.{zero};
 ghost use Rattle.mesh.specs.Mesh.{as_halfedges};
 ghost use Rattle.mesh.specs.Check.{when_accepted};
 ghost use Rattle.create_shared.specs.Answer.{directionless_of, checked_of, Values};
-ghost use Rattle.normals_state.specs.State.{get_normal};
-ghost use Rattle.normals_core.specs.Core.{from_normals_directionless};
-ghost use Rattle.normals_weights.specs.Weights.{Weights};
+ghost use Rattle.create_from_normals.specs.State.State.{get_normal};
+ghost use Rattle.create_from_normals.specs.Whole.Core.{from_normals_directionless};
+ghost use Rattle.create_from_normals.specs.Weights.Weights.{Weights};
 ghost use Rattle.create_from_normals.specs.FromNormals.{lists_fit, scratch_fits, check_normals, check_lists, tangents_after, create_answer};
 ghost use Rattle.create_from_normals.specs.OldNormals.{OldTangents, OldCount};
 
 use create_shared::MeshLists;
 use mesh::Refusal;
-use normals_walks::NormalLists;
+use walks::NormalLists;
 
 // Question 2 of the lists that the call reads, and of the tangents, from the length of each. No struct, here or for scratch: what its
 // ghost fields would say is what is asked.
@@ -146,7 +152,7 @@ pub fn create_tangents_from_normals<'a>(
         face_normals,
     };
     let read = NormalLists { mesh, rows };
-    let directionless = normals_core::make_tangents(
+    let directionless = whole::make_tangents(
         &read, old, t, fixed, inside, current, desired, first,
     );
     Ok(directionless)

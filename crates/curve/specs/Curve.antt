@@ -8,7 +8,7 @@ use Rattle.linalg.specs.declared.Vec3.{Vec3}
 use Rattle.linalg.specs.declared.Vec4.{Vec4}
 use Rattle.mesh.specs.Check.{number_of, place_of, answer_of, when_accepted}
 use Rattle.mesh.specs.declared.Refusal.{Refusal}
-use Rattle.interp_tri.specs.Bezier.{cubic_bezier_2_linear, bezier_point, bezier_tangent}
+use Rattle.curve.specs.InterpTri.Bezier.{cubic_bezier_2_linear, bezier_point, bezier_tangent}
 use Rattle.curve.specs.Questions.{check_parameter, check_points}
 use Rattle.curve.specs.declared.CurvePoint.{CurvePoint}
 

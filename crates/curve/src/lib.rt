@@ -2,6 +2,8 @@
 // is four control points, as `cubic_bezier_2_linear` takes them.
 #![tactic(auto)]
 
+mod interp_tri;
+
 ghost use Rattle.std.specs.Prelude.{◌≡◌, ◌*◌, ◌<◌, ◌≤◌, true, length, OnOk};
 ghost use Rattle.mesh.specs.Check.{Values as Checks};
 ghost use Rattle.curve.specs.Questions.{is_parameter, count_fits, check_points};

@@ -4,3 +4,8 @@ pub mod Values
 pub mod Accepted
 pub mod Order
 pub mod Claims
+pub mod SpreadLaws
+pub mod StepsLaws
+pub mod WalksLaws
+pub mod PreviewWalks
+pub mod PreviewLaws

@@ -1,8 +1,8 @@
 -- Number, place, looked and turned of the answer.
 use Rattle.std.proofs.Common.{◌≡◌, refl, Ok, Err}
 use Rattle.mesh.specs.Check.{Checked, answer_of}
-use Rattle.distribute_spread.specs.Steps.{Steps}
-use Rattle.distribute_spread.specs.Spread.{State}
+use Rattle.distribute.specs.Spread.Steps.{Steps}
+use Rattle.distribute.specs.Spread.Spread.{State}
 use Rattle.distribute.specs.Distribute.{Spreading, counts_of, Values}
 
 module _ (S : Steps) (st : State S) where

@@ -5,11 +5,11 @@ use Rattle.mesh.specs.Mesh.{halfedge_stride, Halfedges}
 use Rattle.mesh.specs.Questions.{has_length}
 use Rattle.mesh.specs.Check.{Checked, number_of, place_of, check_mesh, check_flags, answer_of, when_accepted}
 use Rattle.mesh.specs.declared.Refusal.{Refusal}
-use Rattle.distribute_spread.specs.Steps.{Steps}
-use Rattle.distribute_spread.specs.Spread.{State, pass}
-use Rattle.distribute_spread.specs.Order.{NamesFixed, OrderFree}
-use Rattle.distribute_steps.specs.FloatSteps.{float_steps}
-use Rattle.distribute_walks.specs.declared.Counts.{Counts}
+use Rattle.distribute.specs.Spread.Steps.{Steps}
+use Rattle.distribute.specs.Spread.Spread.{State, pass}
+use Rattle.distribute.specs.Spread.Order.{NamesFixed, OrderFree}
+use Rattle.distribute.specs.Steps.FloatSteps.{float_steps}
+use Rattle.distribute.specs.declared.walks.Counts.{Counts}
 
 -- ---- document 01's values of an answer
 

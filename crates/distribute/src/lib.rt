@@ -2,15 +2,21 @@
 // float steps are the crate `distribute_steps`, the walks `distribute_walks`, and the theorem of demand 3 is in `distribute_spread`.
 #![tactic(auto)]
 
+mod spread;
+mod steps;
+pub mod walks;
+mod preview_walks;
+pub mod preview;
+
 ghost use Rattle.std.specs.Prelude.{◌≡◌, length, replicate};
 ghost use Rattle.float.specs.Ops.{zero};
 ghost use Rattle.mesh.specs.Mesh.{as_halfedges};
-ghost use Rattle.distribute_steps.specs.FloatSteps.{float_steps};
-ghost use Rattle.distribute_walks.specs.Walks.{Written, steps_of};
+ghost use Rattle.distribute.specs.Steps.FloatSteps.{float_steps};
+ghost use Rattle.distribute.specs.Walks.Walks.{Written, steps_of};
 ghost use Rattle.distribute.specs.Distribute.{looked_of, turned_of, lists_fit, lengths_fit, check_lists, spread_tangents, Reports, distribute_tangents, tangents_after, scratch_after, AnyOrder, Values};
 ghost use Rattle.distribute.specs.Claims.{GuardsNeverFire, AnglesInLists, OwnStartsNamed};
 
-pub use distribute_walks::{Counts, SpreadLists};
+pub use walks::{Counts, SpreadLists};
 use mesh::Refusal;
 
 // How many steps were looked at; 0 where the call is refused. Here and below there is one function for each value of an answer, as
@@ -47,7 +53,7 @@ pub fn spread_tangents(
         turned: 0,
     };
     for start in 0..lists.n {
-        counts = distribute_walks::spread_at(lists, t, current, desired, start, counts);
+        counts = walks::spread_at(lists, t, current, desired, start, counts);
     }
     current.fill(0.0);
     desired.fill(0.0);

@@ -19,10 +19,10 @@ use Rattle.records.specs.declared.Input.{Input}
 use Rattle.records.proofs.Accepted.{never_short, counts_bound}
 use Rattle.std.specs.Prelude.{Result, Ok, Err}
 use Rattle.mesh.specs.declared.Refusal.{Refusal}
-use Rattle.program_lines.specs.Lines.{lines_of, printed, rendered}
-use Rattle.program_lines.proofs.Whole.{whole}
-use Rattle.program_lines.specs.declared.Output.{Output}
-use Rattle.program_operations.specs.Operations.{operation_lines, operation_tangents, operation_scratch, Shows}
+use Rattle.program.specs.Lines.Lines.{lines_of, printed, rendered}
+use Rattle.program.proofs.LinesLaws.Whole.{whole}
+use Rattle.program.specs.declared.lines.Output.{Output}
+use Rattle.program.specs.Operations.Operations.{operation_lines, operation_tangents, operation_scratch, Shows}
 use Rattle.program.specs.Program.{output_of, halfedges_of, positions_of, tangents_of, normals_of, flags_of, positions_after, halfedges_after, normals_after, flags_after, tangents_after, scratch_after, when_spreading, tangent_room, flag_room, output_room, Room}
 
 -- what is rendered of an output that shows the program's lines, where there is room

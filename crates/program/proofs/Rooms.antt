@@ -12,11 +12,11 @@ use Rattle.mesh.specs.declared.Refusal.{Refusal}
 use Rattle.records.specs.Records.{max_input, check_input, parse_input}
 use Rattle.records.specs.declared.Input.{Input}
 use Rattle.records.proofs.Accepted.{counts_bound}
-use Rattle.program_lines.specs.Text.{Put}
-use Rattle.program_lines.specs.Lines.{printed}
-use Rattle.program_lines.proofs.Put.{put_front}
-use Rattle.program_lines.proofs.Lengths.{lines_length}
-use Rattle.program_operations.proofs.Lengths.{operation_length}
+use Rattle.program.specs.Lines.Text.{Put}
+use Rattle.program.specs.Lines.Lines.{printed}
+use Rattle.program.proofs.LinesLaws.Put.{put_front}
+use Rattle.program.proofs.LinesLaws.Lengths.{lines_length}
+use Rattle.program.proofs.OperationsLaws.Lengths.{operation_length}
 use Rattle.program.specs.Program.{positions_of, halfedges_of, tangents_of, normals_of, flags_of, lines_for, output_of, position_room, halfedge_room, tangent_room, flag_room, output_room, has_room, FitsRooms, RoomsSuffice}
 
 module _ (s : List ℕ) where

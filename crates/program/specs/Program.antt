@@ -9,8 +9,8 @@ use Rattle.records.specs.declared.Operation.TheVariants.{Straighten, Spread, Che
 use Rattle.records.specs.declared.Kind.TheVariants.{Positions, Halfedges, Tangents, Normals, Flags}
 use Rattle.records.specs.declared.Input.{Input}
 use Rattle.mesh.specs.declared.Refusal.{Refusal}
-use Rattle.program_lines.specs.Lines.{lines_of, printed, line_bytes}
-use Rattle.program_operations.specs.Operations.{operation_lines, operation_tangents, operation_scratch}
+use Rattle.program.specs.Lines.Lines.{lines_of, printed, line_bytes}
+use Rattle.program.specs.Operations.Operations.{operation_lines, operation_tangents, operation_scratch}
 
 -- ---- the lists of an accepted input
 

@@ -2,14 +2,17 @@
 // into lent lists, the operation is done, and the answer goes as lines into a lent buffer.
 #![tactic(auto)]
 
+mod lines;
+mod operations;
+
 ghost use Rattle.std.specs.Prelude.{◌≡◌, cond, [], length};
-ghost use Rattle.program_lines.specs.Text.{Put};
-ghost use Rattle.program_operations.specs.Operations.{Shows};
+ghost use Rattle.program.specs.Lines.Text.{Put};
+ghost use Rattle.program.specs.Operations.Operations.{Shows};
 ghost use Rattle.program.specs.Program.{output_of, positions_after, halfedges_after, tangents_after, normals_after, flags_after, scratch_after, lists_have_room, flag_room, Room, RoomsSuffice};
 ghost use Rattle.program.specs.Rows.{InputRowsUnread};
 
 use mesh::Refusal;
-use program_lines::Output;
+use lines::Output;
 
 // The lengths of lists with room for every input: its positions or point normals, its halfedges, its tangents, one place
 // for each halfedge (flags, scratch), and its output, a line of each halfedge and two more.
@@ -21,7 +24,7 @@ pub const TANGENT_ROOM: usize = 4 * records::MAX_HALFEDGES;
 
 pub const FLAG_ROOM: usize = records::MAX_HALFEDGES;
 
-pub const OUTPUT_ROOM: usize = program_lines::LINE_BYTES * (records::MAX_HALFEDGES + 2);
+pub const OUTPUT_ROOM: usize = lines::LINE_BYTES * (records::MAX_HALFEDGES + 2);
 
 // Law: the lists of every input that is accepted fit these lengths, and the output of every input its own
 // (specs/Program.antt, `RoomsSuffice`).
@@ -51,7 +54,7 @@ fn respond(
     ensures desired { desired.new ≡ scratch_after input.now desired.old }
 {
     let read = records::read_input(input, pos, h, t, normals, flags)?;
-    program_operations::perform(
+    operations::perform(
         read.operation,
         usize::from(read.counts.halfedges),
         usize::from(read.counts.points),
@@ -104,7 +107,7 @@ pub fn answer(
         return 0;
     }
     let answer = respond(input, pos, h, t, normals, flags, current, desired);
-    program_lines::render(Output::from(answer), t, out)
+    lines::render(Output::from(answer), t, out)
 }
 
 // Law: two inputs that are the same but for the rows of the halfedges have the same output, and leave the same tangents and scratch

@@ -1,6 +1,7 @@
 // The calls of the makings on a case: do they answer as the oracle did, and leave their scratch lists so?
 
-use create_smoothness::Smoothness;
+use create::entries;
+use create::sharp::Smoothness;
 use replay_cases::{Creation, agrees};
 
 // Making from sharp edges, with the entries as two lists.
@@ -59,7 +60,7 @@ pub fn create_entries(case: Creation<'_>) -> bool {
         case,
         case.n,
         |t, fixed, flags, smooth, desired, points, link| {
-            create_entries::create_entries(
+            entries::create_entries(
                 case.n,
                 case.p,
                 case.h,

@@ -8,10 +8,10 @@ use Rattle.validate.specs.Validate as Validate
 use Rattle.sharpen.specs.Sharpen as Sharpen
 use Rattle.sharpen.specs.declared.edge.Rule.{Rule}
 use Rattle.distribute.specs.Distribute as Distribute
-use Rattle.preview.specs.Preview as Preview
-use Rattle.create_smoothness.specs.declared.Smoothness.{Smoothness}
+use Rattle.distribute.specs.Preview.Preview as Preview
+use Rattle.create.specs.declared.sharp.Smoothness.{Smoothness}
 use Rattle.create.specs.Create as Create
-use Rattle.create_entries.specs.CreateEntries as CreateEntries
+use Rattle.create.specs.Entries.CreateEntries as CreateEntries
 
 -- a value that a contract names has the same value for both lists of halfedges
 unfoldable pub Same : {X : Type 0} → List ℤ → List ℤ → (Halfedges → X) → Type 0

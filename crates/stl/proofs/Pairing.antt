@@ -20,10 +20,10 @@ use Rattle.mesh.specs.declared.Question.{Question}
 use Rattle.mesh.specs.declared.Question.TheVariants.{Lengths, Size, Corners, Pairing}
 use Rattle.mesh.proofs.Lowest.{lowest_found, lowest_before}
 use Rattle.mesh.proofs.Accepted.{then_accepted, each_accepted, accepted_each}
-use Rattle.stl_file.specs.File.{length_fits, triangle_count, halfedge_count}
-use Rattle.stl_file.specs.Points.{point_count}
-use Rattle.stl_file.specs.Edges.{same_edge, pair_of, is_paired}
-use Rattle.stl_file.proofs.Edges.{count_other, false_or_true, corners_edge, edge_corners, twice_bad, alone_bad, unpaired, pair_least}
+use Rattle.stl.specs.File.File.{length_fits, triangle_count, halfedge_count}
+use Rattle.stl.specs.File.Points.{point_count}
+use Rattle.stl.specs.File.Edges.{same_edge, pair_of, is_paired}
+use Rattle.stl.proofs.FileLaws.Edges.{count_other, false_or_true, corners_edge, edge_corners, twice_bad, alone_bad, unpaired, pair_least}
 use Rattle.stl.specs.Questions.{has_room, triangle_fits, check_file, check_stl}
 use Rattle.stl.specs.Stl.{Reading, counts_of, check_lists, read_stl}
 use Rattle.stl.specs.Pairing.{OccursTwice, HasNoReverse, RefusedExactly, PairedExactly}

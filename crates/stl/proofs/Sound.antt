@@ -20,12 +20,12 @@ use Rattle.mesh.proofs.Accepted.{then_accepted, asked_accepted, each_accepted, s
 use Rattle.mesh.proofs.Halfedges.{next_below, next_cases}
 use Rattle.little_endian.specs.Filled.{items, filled}
 use Rattle.little_endian.proofs.Filled.{items_length, items_at, filled_items}
-use Rattle.stl_file.specs.File.{length_fits, triangle_count, halfedge_count, corner_at, normal_item}
-use Rattle.stl_file.specs.Points.{same_point, point_of, point_count}
-use Rattle.stl_file.specs.Edges.{pair_of, is_paired}
-use Rattle.stl_file.specs.Lists.{point_item, halfedge_number, halfedge_item}
-use Rattle.stl_file.proofs.Points.{equal_same, same_number, number_same, number_below}
-use Rattle.stl_file.proofs.Edges.{pair_below, pair_corners, pair_back}
+use Rattle.stl.specs.File.File.{length_fits, triangle_count, halfedge_count, corner_at, normal_item}
+use Rattle.stl.specs.File.Points.{same_point, point_of, point_count}
+use Rattle.stl.specs.File.Edges.{pair_of, is_paired}
+use Rattle.stl.specs.File.Lists.{point_item, halfedge_number, halfedge_item}
+use Rattle.stl.proofs.FileLaws.Points.{equal_same, same_number, number_same, number_below}
+use Rattle.stl.proofs.FileLaws.Edges.{pair_below, pair_corners, pair_back}
 use Rattle.stl.specs.Questions.{finite_corner, triangle_fits, check_file, has_room}
 use Rattle.stl.specs.Stl.{counts_of, IsMesh}
 

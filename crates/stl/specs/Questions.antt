@@ -3,10 +3,10 @@ use Rattle.std.specs.Prelude.{ℕ, ◌+◌, ◌*◌, ◌%◌, List, Bool, not, �
 use Rattle.mesh.specs.Mesh.{max_points}
 use Rattle.mesh.specs.Check.{Checked, asked, each, ◌then◌}
 use Rattle.mesh.specs.declared.Question.TheVariants.{Lengths, Size, Corners, Pairing}
-use Rattle.stl_file.specs.File.{triangle_count, halfedge_count, length_fits, corner_at}
-use Rattle.stl_file.specs.Points.{same_point, point_count}
-use Rattle.stl_file.specs.Edges.{is_paired}
-use Rattle.stl_file.specs.declared.Corner.{Corner}
+use Rattle.stl.specs.File.File.{triangle_count, halfedge_count, length_fits, corner_at}
+use Rattle.stl.specs.File.Points.{same_point, point_count}
+use Rattle.stl.specs.File.Edges.{is_paired}
+use Rattle.stl.specs.declared.file.Corner.{Corner}
 
 -- 2: have the lists, of these lengths, room for three points, three halfedges and one normal for each triangle?
 abbrev pub has_room : List ℕ → ℕ → ℕ → ℕ → Bool

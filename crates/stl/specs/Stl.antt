@@ -5,9 +5,9 @@ use Rattle.mesh.specs.Questions.{has_length}
 use Rattle.mesh.specs.Check.{Checked, number_of, place_of, answer_of, when_accepted, check_mesh, check_rows}
 use Rattle.mesh.specs.declared.Refusal.{Refusal}
 use Rattle.little_endian.specs.Filled.{filled}
-use Rattle.stl_file.specs.File.{triangle_count, halfedge_count, normal_item}
-use Rattle.stl_file.specs.Points.{point_count}
-use Rattle.stl_file.specs.Lists.{point_item, halfedge_item}
+use Rattle.stl.specs.File.File.{triangle_count, halfedge_count, normal_item}
+use Rattle.stl.specs.File.Points.{point_count}
+use Rattle.stl.specs.File.Lists.{point_item, halfedge_item}
 use Rattle.stl.specs.Questions.{check_stl}
 use Rattle.stl.specs.declared.MeshCounts.{MeshCounts}
 

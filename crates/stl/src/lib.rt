@@ -2,18 +2,23 @@
 // is the call's own, on its stack, and the lists are written only when the file is accepted.
 #![tactic(auto)]
 
+mod file;
+mod table;
+mod points;
+mod pairs;
+
 ghost use Rattle.std.specs.Prelude.{◌≡◌, Ok, ◌*◌, ◌<◌, ◌≤◌, length};
 ghost use Rattle.mesh.specs.Mesh.{halfedge_stride};
 ghost use Rattle.little_endian.specs.Filled.{filled};
-ghost use Rattle.stl_file.specs.File.{triangle_count, halfedge_count, normal_item};
-ghost use Rattle.stl_file.specs.Points.{point_count};
-ghost use Rattle.stl_file.specs.Lists.{point_item, halfedge_item};
+ghost use Rattle.stl.specs.File.File.{triangle_count, halfedge_count, normal_item};
+ghost use Rattle.stl.specs.File.Points.{point_count};
+ghost use Rattle.stl.specs.File.Lists.{point_item, halfedge_item};
 ghost use Rattle.stl.specs.Questions.{has_room, finite, finite_corner, triangle_fits, check_file};
 ghost use Rattle.stl.specs.Stl.{halfedges_of, points_of, counts_of, check_lists, read_stl, points_after, halfedges_after, normals_after, Values, IsMesh};
 ghost use Rattle.stl.specs.Pairing.{PairedExactly};
 
 use mesh::{Question, Refusal};
-use stl_file::{Corner, File, Triangle};
+use file::{Corner, File, Triangle};
 
 // How many halfedges and points the lists have.
 #[derive(Clone, Copy)]
@@ -59,12 +64,12 @@ fn finite_corner(a: Corner) -> bool
 }
 
 // Question 31 of triangle t.
-#[tactic(auto, unfolding(crate::specs::Questions::triangle_fits, stl_file::specs::File::triangle_at, stl_file::specs::Points::same_point, stl_file::specs::Points::same_corner))]
+#[tactic(auto, unfolding(crate::specs::Questions::triangle_fits, crate::specs::File::File::triangle_at, crate::specs::File::Points::same_point, crate::specs::File::Points::same_corner))]
 fn triangle_fits(file: &File<'_>, t: usize) -> bool
     requires { t < file.now.triangles }
     ensures { result ≡ triangle_fits file.now.bytes.now t }
 {
-    let Triangle { a, b, c } = stl_file::triangle_at(file, t);
+    let Triangle { a, b, c } = file::triangle_at(file, t);
     if !(finite_corner(a) & finite_corner(b) & finite_corner(c)) {
         return false;
     }
@@ -82,8 +87,8 @@ fn check_file(file: &File<'_>, room: bool) -> Result<(), Refusal>
         file.triangles,
         |t| triangle_fits(file, t),
     )?;
-    mesh::ask_at(Question::Size, 0, stl_points::points_fit(file))?;
-    let unpaired = stl_pairs::lowest_unpaired(file);
+    mesh::ask_at(Question::Size, 0, points::points_fit(file))?;
+    let unpaired = pairs::lowest_unpaired(file);
     mesh::ask_at(Question::Pairing, unpaired, unpaired >= 3 * file.triangles)
 }
 
@@ -94,7 +99,7 @@ fn write_normals(file: &File<'_>, normals: &mut [f64])
     ensures { normals.new ≡ filled (normal_item file.now.bytes.now) (3 * file.now.triangles) normals.old }
 {
     for i in 0..3 * file.triangles {
-        normals[i] = stl_file::normal_number(file, i);
+        normals[i] = file::normal_number(file, i);
     }
 }
 
@@ -111,8 +116,8 @@ fn write_lists(
     ensures halfedges { halfedges.new ≡ filled (halfedge_item file.now.bytes.now) (halfedge_count file.now.bytes.now * halfedge_stride) halfedges.old }
     ensures normals { normals.new ≡ filled (normal_item file.now.bytes.now) (3 * triangle_count file.now.bytes.now) normals.old }
 {
-    let written = stl_points::write_points(file, points, halfedges);
-    stl_pairs::write_pairs(file, halfedges);
+    let written = points::write_points(file, points, halfedges);
+    pairs::write_pairs(file, halfedges);
     write_normals(file, normals);
     MeshCounts {
         halfedges: 3 * file.triangles,
@@ -138,12 +143,12 @@ pub fn read_stl(
     ensures mesh { IsMesh result points.new halfedges.new normals.new }
     ensures paired { PairedExactly file.now result }
 {
-    let sized = mesh::ask_at(Question::Size, 0, stl_file::length_fits(file));
+    let sized = mesh::ask_at(Question::Size, 0, file::length_fits(file));
     // Document 01's form by place: the check's answer is opened by `let .. else`.
     let Ok(()) = sized else {
         return mesh::refused(sized);
     };
-    let triangles = stl_file::triangle_count(file);
+    let triangles = file::triangle_count(file);
     let file = File {
         bytes: file,
         triangles,

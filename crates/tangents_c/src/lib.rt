@@ -11,10 +11,10 @@ ghost use Rattle.sharpen.specs.declared.edge.Rule.TheVariants.{Ported, Clean};
 ghost use Rattle.sharpen.specs.Sharpen.{sharpen_edges, entries_after};
 ghost use Rattle.distribute.specs.Distribute.{distribute_tangents, scratch_after, check_lists};
 ghost use Rattle.distribute.specs.Distribute.{tangents_after as spread_after};
-ghost use Rattle.preview.specs.Preview.{preview_tangents, bytes_after};
+ghost use Rattle.distribute.specs.Preview.Preview.{preview_tangents, bytes_after};
 ghost use Rattle.mesh.specs.Mesh.{as_halfedges};
 ghost use Rattle.mesh.specs.Check.{number_of, place_of, when_accepted};
-ghost use Rattle.create_smoothness.specs.Entries.{entries_of};
+ghost use Rattle.create.specs.Sharp.Entries.{entries_of};
 ghost use Rattle.create_shared.specs.Answer.{checked_of};
 ghost use Rattle.create.specs.Create.{create_answer, tangents_after as created_tangents};
 ghost use Rattle.create_from_normals.specs.FromNormals.{create_answer as from_normals_answer, tangents_after as tangents_from_normals};
@@ -25,6 +25,7 @@ ghost use Rattle.tangents_c.specs.Answers.{put, put_checked, put_validity, put_l
 
 mod controls;
 
+use distribute::preview;
 use distribute::Counts;
 use mesh::Refusal;
 use sharpen::Listed;

@@ -10,9 +10,9 @@ use Rattle.mesh.specs.Mesh.{as_halfedges}
 use Rattle.std.proofs.Common.{Ok, rules}
 use Rattle.mesh.specs.Check.{Checked}
 use Rattle.create_shared.proofs.Answered.{values_of}
-use Rattle.create_smoothness.specs.Entries.{entries_of}
-use Rattle.create_smoothness.specs.EntrySmoothness.{EntriesIn}
-use Rattle.create_smoothness.proofs.Flat.{flat_entries_in}
+use Rattle.create.specs.Sharp.Entries.{entries_of}
+use Rattle.create.specs.Sharp.EntrySmoothness.{EntriesIn}
+use Rattle.create.proofs.SharpLaws.Flat.{flat_entries_in}
 use Rattle.create.specs.Create.{lists_fit, scratch_fits, check_create, check_lists}
 use Rattle.create.proofs.Accepted.{AcceptedLists, accepted_lists, written, made}
 use Rattle.create.proofs.create_tangents.Goals as goal

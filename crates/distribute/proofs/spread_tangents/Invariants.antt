@@ -1,7 +1,7 @@
 -- `distribute::spread_tangents` meets its contract: before each turn, what is left of the pass gives the whole.
 use Prim.Native.Nat.{◌*◌, ◌≤◌}
 use Rattle.mesh.specs.Mesh.{max_halfedges}
-use Rattle.distribute_walks.specs.Walks.{steps_of}
+use Rattle.distribute.specs.Walks.Walks.{steps_of}
 use Rattle.distribute.proofs.Pass.{PassAt}
 use Rattle.distribute.proofs.spread_tangents.Given as goal
 

@@ -2,7 +2,7 @@
 use Rattle.std.proofs.Common.{arith, pos, ◌∙◌, ◌*◌}
 use Rattle.mesh.specs.Mesh.{halfedge_stride}
 use Rattle.little_endian.proofs.Filled.{filled_rest}
-use Rattle.stl_file.specs.Lists.{halfedge_item}
+use Rattle.stl.specs.File.Lists.{halfedge_item}
 use Rattle.stl.proofs.Sound.{lists_fit}
 use Rattle.stl.proofs.write_lists.Goals as goal
 

@@ -1,7 +1,7 @@
 -- `write_normals` meets its contract: after i turns the first i places are filled. Assumes nothing.
 use Rattle.std.proofs.Common.{◌≡◌}
 use Rattle.little_endian.specs.Filled.{filled}
-use Rattle.stl_file.specs.File.{normal_item}
+use Rattle.stl.specs.File.File.{normal_item}
 use Rattle.stl.proofs.write_normals.Given as goal
 
 abbrev pub invariant-loop-i : goal.invariant-loop-i

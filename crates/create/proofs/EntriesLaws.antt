@@ -1,0 +1,2 @@
+-- The laws of `create_entries`.
+pub mod Answer

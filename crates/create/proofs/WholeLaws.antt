@@ -1,0 +1,4 @@
+-- The laws of `create_core`: those that the crates above cite are public.
+pub mod Shape
+pub mod Core
+pub mod Filled

@@ -1,0 +1,128 @@
+// `create_tangents` of src/smoothing_tangents.rs with its sharp entries as the Rust lends them, a list of structs: a public call as
+// `create` is. It lends the list of structs on.
+
+ghost use Rattle.std.specs.Prelude.{◌≡◌, ◌*◌, ◌≤◌, ◌&&◌, length, replicate};
+ghost use Rattle.float.specs.Ops.{zero};
+ghost use Rattle.mesh.specs.Mesh.{as_halfedges};
+ghost use Rattle.mesh.specs.Check.{check_mesh, check_refs, check_entries, when_accepted};
+ghost use Rattle.create_shared.specs.Answer.{directionless_of, checked_of, Values};
+ghost use Rattle.create.specs.Sharp.Entries.{halfedges_of, smoothness_of};
+ghost use Rattle.create.specs.Create.{lists_fit, scratch_fits, tangents_after};
+ghost use Rattle.create.specs.Whole.Core.{create_directionless};
+ghost use Rattle.create.specs.Entries.CreateEntries.{check_lists, create_answer};
+
+use crate::sharp;
+use crate::whole;
+use create_shared::MeshLists;
+use crate::sharp::Smoothness;
+use mesh::Refusal;
+
+// The questions 1 to 10, as `crate::check_create` puts them to two flat lists. Of the lists that are written only the lengths are asked. No struct of the lengths: its fields would be
+// these by the same names, and the caller would write each twice.
+#[tactic(auto, unfolding(mesh::specs::Mesh::as_halfedges))]
+fn check_lists(
+    n: usize,
+    p: usize,
+    h: &[i32],
+    pos: &[f64],
+    normals: &[f64],
+    face_normals: &[f64],
+    refs: &[i32],
+    sharp: &[Smoothness],
+    t: usize,
+    fixed: usize,
+    flat: usize,
+    smooth: usize,
+    desired: usize,
+    at: usize,
+    link: usize,
+) -> Result<(), Refusal>
+    ensures { result ≡ check_entries (check_refs (check_mesh (as_halfedges h.now) n p (lists_fit (as_halfedges h.now).numbers (length pos.now) (length normals.now) (length face_normals.now) (length refs.now) (length sharp.now) (length sharp.now) t n p && scratch_fits fixed flat smooth desired at link n p)) refs.now n) (halfedges_of sharp.now) (smoothness_of sharp.now) n }
+{
+    let entries = sharp.len();
+    let lists = crate::lists_fit(
+        n,
+        p,
+        h.len(),
+        pos.len(),
+        normals.len(),
+        face_normals.len(),
+        refs.len(),
+        entries,
+        entries,
+        t,
+    );
+    let scratch = crate::scratch_fits(n, p, fixed, flat, smooth, desired, at, link);
+    let checked = mesh::check_mesh(h, n, p, lists & scratch);
+    sharp::check_sharp(mesh::check_refs(checked, refs, n), sharp, n)
+}
+
+// Making from sharp edges, for lists of any length and content: `crate::create_tangents` with the sharp entries as structs.
+// The parameters are in the order of that call: the C interface's counts, lists read, lists written, scratch.
+// It stands beside that call by document 01's form by place for the sharp entries: a lent slice of structs, read by one thin entry
+// point, after a core over two flat lists.
+pub fn create_entries(
+    n: usize,
+    p: usize,
+    h: &[i32],
+    pos: &[f64],
+    normals: &[f64],
+    face_normals: &[f64],
+    refs: &[i32],
+    sharp: &[Smoothness],
+    old: bool,
+    t: &mut [f64],
+    fixed: &mut [u8],
+    flat: &mut [u8],
+    smooth: &mut [f64],
+    desired: &mut [f64],
+    at: &mut [usize],
+    link: &mut [usize],
+) -> Result<usize, Refusal>
+    ensures answer { result ≡ create_answer (as_halfedges h.now) pos.now normals.now face_normals.now refs.now sharp.now t.old fixed.old flat.old smooth.old desired.old at.old link.old old n p }
+    ensures tangents { t.new ≡ tangents_after (checked_of result) (as_halfedges h.now) pos.now normals.now face_normals.now refs.now sharp.now t.old old n p }
+    ensures fixed { fixed.new ≡ when_accepted (checked_of result) (replicate n 0) fixed.old }
+    ensures flat { flat.new ≡ when_accepted (checked_of result) (replicate n 0) flat.old }
+    ensures smooth { smooth.new ≡ when_accepted (checked_of result) (replicate n zero) smooth.old }
+    ensures desired { desired.new ≡ when_accepted (checked_of result) (replicate n zero) desired.old }
+    ensures at { at.new ≡ when_accepted (checked_of result) (replicate p 0) at.old }
+    ensures link { link.new ≡ when_accepted (checked_of result) (replicate n 0) link.old }
+    ensures bound { directionless_of result ≤ 2 * n }
+    ensures values { Values (check_lists (as_halfedges h.now) pos.now normals.now face_normals.now refs.now sharp.now t.old fixed.old flat.old smooth.old desired.old at.old link.old n p) (create_directionless (as_halfedges h.now) pos.now refs.now sharp.now t.old old n p) result }
+{
+    let checked = check_lists(
+        n,
+        p,
+        h,
+        pos,
+        normals,
+        face_normals,
+        refs,
+        sharp,
+        t.len(),
+        fixed.len(),
+        flat.len(),
+        smooth.len(),
+        desired.len(),
+        at.len(),
+        link.len(),
+    );
+    // Document 01's form by place: the check's answer is opened by `let .. else`.
+    let Ok(()) = checked else {
+        return mesh::refused(checked);
+    };
+    sharp::sharp_smoothness(sharp, smooth);
+    let mesh = MeshLists {
+        n: n,
+        p: p,
+        h: h,
+        refs: refs,
+        pos: pos,
+        normals: normals,
+        face_normals: face_normals,
+    };
+    let directionless = whole::make_tangents(
+        mesh, old, t, fixed, flat, smooth, desired, at, link,
+    );
+    Ok(directionless)
+}

@@ -1,0 +1,4 @@
+-- The laws of `preview`, for the crates above.
+pub mod Pass
+pub mod Accepted
+pub mod Order
