@@ -11,10 +11,9 @@ ghost use Rattle.create.specs.Create.{lists_fit, scratch_fits, tangents_after};
 ghost use Rattle.create.specs.Whole.Core.{create_directionless};
 ghost use Rattle.create.specs.Entries.CreateEntries.{check_lists, create_answer};
 
-use crate::sharp;
-use crate::whole;
-use create_shared::MeshLists;
 use crate::sharp::Smoothness;
+use crate::{sharp, whole};
+use create_shared::MeshLists;
 use mesh::Refusal;
 
 // The questions 1 to 10, as `crate::check_create` puts them to two flat lists. Of the lists that are written only the lengths are asked. No struct of the lengths: its fields would be
@@ -121,8 +120,6 @@ pub fn create_entries(
         normals: normals,
         face_normals: face_normals,
     };
-    let directionless = whole::make_tangents(
-        mesh, old, t, fixed, flat, smooth, desired, at, link,
-    );
+    let directionless = whole::make_tangents(mesh, old, t, fixed, flat, smooth, desired, at, link);
     Ok(directionless)
 }

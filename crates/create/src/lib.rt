@@ -2,13 +2,13 @@
 // questions, the smoothness that the entries give, and then `create_core`.
 #![tactic(auto)]
 
-pub mod sharp;
-mod edges;
 mod creases;
+mod edges;
+pub mod entries;
 mod initial;
 mod shapes;
+pub mod sharp;
 mod whole;
-pub mod entries;
 
 ghost use Rattle.std.specs.Prelude.{◌≡◌, ◌*◌, ◌≤◌, length, replicate};
 ghost use Rattle.float.specs.Ops.{zero};
@@ -162,8 +162,6 @@ pub fn create_tangents(
         normals: normals,
         face_normals: face_normals,
     };
-    let directionless = whole::make_tangents(
-        mesh, old, t, fixed, flat, smooth, desired, at, link,
-    );
+    let directionless = whole::make_tangents(mesh, old, t, fixed, flat, smooth, desired, at, link);
     Ok(directionless)
 }

@@ -13,12 +13,10 @@ ghost use Rattle.create.specs.Whole.Lent.{CreateLists, pairs_of};
 ghost use Rattle.create.specs.Whole.Core.{directionless_with};
 ghost use Rattle.create.specs.Whole.Filled.{Lists, create_filled, filled_directionless};
 
-use crate::creases;
-use crate::initial;
-use crate::shapes;
 use crate::creases::LinkedCreases;
-use create_shared::MeshLists;
 use crate::shapes::ShapeLists;
+use crate::{creases, initial, shapes};
+use create_shared::MeshLists;
 use distribute::walks::SpreadLists;
 
 // The tangents and the fixed flags, and the count, where `smooth` holds the smoothness of the caller's entries, and whatever the

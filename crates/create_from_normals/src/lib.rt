@@ -5,8 +5,8 @@
 mod state;
 mod steps;
 mod walks;
-mod whole;
 mod weights;
+mod whole;
 
 ghost use Rattle.std.specs.Prelude.{◌≡◌, ◌*◌, ◌≤◌, length, replicate, IfOk, OnOk};
 ghost use Rattle.float.specs.Ops.{zero};
@@ -152,8 +152,6 @@ pub fn create_tangents_from_normals<'a>(
         face_normals,
     };
     let read = NormalLists { mesh, rows };
-    let directionless = whole::make_tangents(
-        &read, old, t, fixed, inside, current, desired, first,
-    );
+    let directionless = whole::make_tangents(&read, old, t, fixed, inside, current, desired, first);
     Ok(directionless)
 }

@@ -17,9 +17,9 @@ ghost use Rattle.create_from_normals.specs.Steps.Steps.{FaceEdgesIn, signed_dir,
 ghost use Rattle.create_from_normals.specs.Steps.Carried.{faces_of, halfedges_of, FacesAt, is_inside, direction_between, tangent_between_of, directionless_of, tangent_step_of, normal_step_of, normal_step_directionless_of, vert_normal_step_of, vert_normal_directionless_of, fill_tangent_of, put_fill_tangent_of, fill_step_of, fill_directionless_of};
 
 use crate::state;
+use crate::state::{CycleState, FaceEdges, NormalPair};
 use create_shared::{Counted, MeshLists};
 use linalg::{Vec3, Vec4};
-use crate::state::{CycleState, FaceEdges, NormalPair};
 use smoothing::CircularTangent;
 
 // The lists of a mesh that the steps read: a position for each point, and a normal for each triangle.

@@ -10,13 +10,12 @@ ghost use Rattle.create_from_normals.specs.Steps.Steps.{StartIn, StateIn, walk_o
 ghost use Rattle.create_from_normals.specs.Walks.Lists.{normal_walk_by, vert_normal_walk_by, fill_walk_by, fill_missing_by, finish_vert_by, normals_vert_by, normals_verts_by};
 ghost use Rattle.create_from_normals.specs.Walks.Lists.{normal_walk_count, vert_normal_walk_count, fill_walk_count, fill_missing_count, finish_vert_count, normals_vert_count, normals_verts_count};
 
-use crate::state;
-use crate::steps;
-pub use crate::walks::lists::{NormalLists, WalkLists};
-use create_shared::Counted;
-use linalg::Vec3;
 use crate::state::{CycleState, NormalPair, StartHalfedge};
 use crate::steps::FaceLists;
+pub use crate::walks::lists::{NormalLists, WalkLists};
+use crate::{state, steps};
+use create_shared::Counted;
+use linalg::Vec3;
 
 // ---- a vertex cycle
 
@@ -46,14 +45,7 @@ fn normal_walk(
     let mut current = e;
     loop {
         let following = cycles::next_around(h, current);
-        let next = state::normal_after(
-            h,
-            face_units,
-            rows,
-            here.normal,
-            here.unit,
-            following,
-        );
+        let next = state::normal_after(h, face_units, rows, here.normal, here.unit, following);
         let normals = NormalPair { here, next };
         let step = steps::normal_step(&faces, inside, t, fixed, state, &normals, current);
         state = step.value;

@@ -14,10 +14,9 @@ ghost use Rattle.create_from_normals.specs.Whole.Core.{MadeIn, ScratchIn};
 ghost use Rattle.create_from_normals.specs.Whole.Lists.{normal_tangents_by, create_tangents_by, from_normals_count};
 ghost use Rattle.create_from_normals.specs.Whole.Flags.{halfedges_of, quad_flag_by, inside_quads, inside_quad_step};
 
-use crate::state;
-use crate::walks;
-use distribute::walks::SpreadLists;
 use crate::walks::{NormalLists, WalkLists};
+use crate::{state, walks};
+use distribute::walks::SpreadLists;
 use quad_lists::QuadLists;
 
 // The flag of halfedge e: 1 if it is inside a quad.

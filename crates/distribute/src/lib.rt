@@ -2,11 +2,11 @@
 // float steps are the crate `distribute_steps`, the walks `distribute_walks`, and the theorem of demand 3 is in `distribute_spread`.
 #![tactic(auto)]
 
+pub mod preview;
+mod preview_walks;
 mod spread;
 mod steps;
 pub mod walks;
-mod preview_walks;
-pub mod preview;
 
 ghost use Rattle.std.specs.Prelude.{◌≡◌, length, replicate};
 ghost use Rattle.float.specs.Ops.{zero};
@@ -16,8 +16,8 @@ ghost use Rattle.distribute.specs.Walks.Walks.{Written, steps_of};
 ghost use Rattle.distribute.specs.Distribute.{looked_of, turned_of, lists_fit, lengths_fit, check_lists, spread_tangents, Reports, distribute_tangents, tangents_after, scratch_after, AnyOrder, Values};
 ghost use Rattle.distribute.specs.Claims.{GuardsNeverFire, AnglesInLists, OwnStartsNamed};
 
-pub use walks::{Counts, SpreadLists};
 use mesh::Refusal;
+pub use walks::{Counts, SpreadLists};
 
 // How many steps were looked at; 0 where the call is refused. Here and below there is one function for each value of an answer, as
 // document 01 names each.

@@ -10,9 +10,9 @@ ghost use Rattle.distribute.specs.PreviewWalks.Walks.{steps_of, Shows};
 ghost use Rattle.distribute.specs.Preview.Preview.{check_lists, preview_tangents, bytes_after, AsSpreading, AnyOrder};
 
 use crate::preview_walks;
+use crate::preview_walks::PreviewLists;
 use crate::walks::Counts;
 use mesh::Refusal;
-use crate::preview_walks::PreviewLists;
 
 // The loop over the halfedges of an accepted mesh, after zeros in all bytes. The bytes are written, and so their length is a clause: of
 // a struct that lends them each clause would say `lists.new.bytes.now` for `bytes.new`.

@@ -16,9 +16,8 @@ ghost use Rattle.distribute.specs.PreviewWalks.Walks.{steps_of, add_tangent, Sum
 
 mod lists;
 
-use crate::steps;
-use crate::walks;
 use crate::walks::Counts;
+use crate::{steps, walks};
 use linalg::Vec3;
 pub use lists::PreviewLists;
 use lists::Walk;

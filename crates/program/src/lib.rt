@@ -11,8 +11,8 @@ ghost use Rattle.program.specs.Operations.Operations.{Shows};
 ghost use Rattle.program.specs.Program.{output_of, positions_after, halfedges_after, tangents_after, normals_after, flags_after, scratch_after, lists_have_room, flag_room, Room, RoomsSuffice};
 ghost use Rattle.program.specs.Rows.{InputRowsUnread};
 
-use mesh::Refusal;
 use lines::Output;
+use mesh::Refusal;
 
 // The lengths of lists with room for every input: its positions or point normals, its halfedges, its tangents, one place
 // for each halfedge (flags, scratch), and its output, a line of each halfedge and two more.

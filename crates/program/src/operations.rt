@@ -5,8 +5,8 @@ ghost use Rattle.std.specs.Prelude.{◌≡◌, ◌*◌, ◌++◌, length, take, 
 ghost use Rattle.mesh.specs.Mesh.{halfedge_stride, as_halfedges};
 ghost use Rattle.program.specs.Operations.Operations.{straighten_lines, spread_lines, check_lines, operation_lines, straighten_tangents, spread_tangents, spread_scratch, operation_tangents, operation_scratch, SpreadIn, Shows};
 
-use mesh::Refusal;
 use crate::lines::Output;
+use mesh::Refusal;
 use records::Operation;
 
 // The lists that an operation reads, cut to their lengths: n halfedges and p points. Only spreading reads the point normals

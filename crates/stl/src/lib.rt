@@ -3,9 +3,9 @@
 #![tactic(auto)]
 
 mod file;
-mod table;
-mod points;
 mod pairs;
+mod points;
+mod table;
 
 ghost use Rattle.std.specs.Prelude.{◌≡◌, Ok, ◌*◌, ◌<◌, ◌≤◌, length};
 ghost use Rattle.mesh.specs.Mesh.{halfedge_stride};
@@ -17,8 +17,8 @@ ghost use Rattle.stl.specs.Questions.{has_room, finite, finite_corner, triangle_
 ghost use Rattle.stl.specs.Stl.{halfedges_of, points_of, counts_of, check_lists, read_stl, points_after, halfedges_after, normals_after, Values, IsMesh};
 ghost use Rattle.stl.specs.Pairing.{PairedExactly};
 
-use mesh::{Question, Refusal};
 use file::{Corner, File, Triangle};
+use mesh::{Question, Refusal};
 
 // How many halfedges and points the lists have.
 #[derive(Clone, Copy)]

@@ -14,11 +14,10 @@ ghost use Rattle.stl.specs.File.Starts.{Starts, Further};
 ghost use Rattle.stl.specs.Pairs.Twins.{reverse_key, Covered, Scanned};
 ghost use Rattle.stl.specs.Pairs.Written.{AllPaired, EndsRows, CanEnd, Below, Done, Paired, Kept, CanPair};
 
-use crate::file;
-use crate::table;
-use mesh::HALFEDGE_STRIDE;
 use crate::file::{File, Triangle};
 use crate::table::{BLOCK, Block, Key, Keys, SLOTS};
+use crate::{file, table};
+use mesh::HALFEDGE_STRIDE;
 
 // No halfedge. An Option would take twice the room, and the arrays are the call's own, on its stack.
 const NONE: u32 = u32::MAX;

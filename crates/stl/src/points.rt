@@ -15,11 +15,10 @@ ghost use Rattle.stl.specs.Table.Tree.{Indexed};
 ghost use Rattle.stl.specs.Points.Firsts.{InBlock, Marked};
 ghost use Rattle.stl.specs.Points.CanStart.{put_point, Written, CanStart};
 
-use crate::file;
-use crate::table;
-use mesh::HALFEDGE_STRIDE;
 use crate::file::{Corner, File};
 use crate::table::{BLOCK, Block, Keys, SLOTS};
+use crate::{file, table};
+use mesh::HALFEDGE_STRIDE;
 
 // The block's places enter the table, and `first` gets the lowest of them with the key of each.
 #[tactic(auto, using(crate::proofs::PointsLaws::Marks::entered_few))]

@@ -12,8 +12,8 @@ ghost use Rattle.stl.specs.Table.Keys.{key_at, has_key, first_at};
 ghost use Rattle.stl.specs.Table.Tree.{hash_of, root_of, tag_of, tag_at, word_of, child_of, Indexed, Ends};
 
 use crate::file;
-pub use block::Block;
 use crate::file::{Corner, File};
+pub use block::Block;
 
 // The most places of a block: a node's number plus 1 fits a u16.
 pub const BLOCK: usize = 65535;
