@@ -2,7 +2,7 @@
 use mathlib.Core.Path.{refl}
 use lib.Ieee.{of_bits}
 use Rattle.common.specs.Count.{sum, count_below}
-use Rattle.mesh.specs.Lowest.{lowest, lowest_from}
+use Rattle.common.specs.Lowest.{lowest, lowest_from}
 use Rattle.mesh.specs.Mesh.{next_halfedge}
 use Rattle.little_endian.specs.Numbers.{little_endian}
 use Rattle.little_endian.specs.Filled.{items, filled}

@@ -10,8 +10,8 @@ use Rattle.math.specs.Acos.{acos_of}
 use Rattle.linalg.specs.declared.Vec3.{Vec3}
 use Rattle.linalg.specs.declared.Vec4.{Vec4}
 use Rattle.mesh.specs.Mesh.{as_halfedges, next_halfedge, prev_halfedge}
-use Rattle.mesh.specs.Check.{Checked, number_of, place_of}
-use Rattle.mesh.specs.declared.Question.TheVariants.{Mutual}
+use Rattle.questions.specs.Check.{Checked, number_of, place_of}
+use Rattle.questions.specs.declared.Question.TheVariants.{Mutual}
 use Rattle.smoothing.specs.Directions.{circular_tangent}
 use Rattle.linearize.specs.Linearize.{linearize_answer, tangents_after}
 use Rattle.validate.specs.Validate.{Validity, valid_answer}

@@ -5,7 +5,7 @@ use Rattle.float.specs.Ops.{zero, half, one}
 use Rattle.common.specs.Pillow.{pillow, refs, positions}
 use Rattle.mesh.specs.Mesh.{as_halfedges}
 use Rattle.smoothing.specs.Edges.{is_inside_quad}
-use Rattle.create_shared.specs.Faces.{flat_faces, is_flat}
+use Rattle.smoothing.specs.Faces.{flat_faces, is_flat}
 use Rattle.create_shared.specs.Makings.{Tangents, tangents_of}
 use Rattle.create.specs.declared.sharp.Smoothness.{Smoothness}
 use Rattle.create.specs.Edges.Edges.{side_of, sharpened_edges, edges_of}

@@ -2,8 +2,8 @@
 use Rattle.std.specs.Prelude.{ℕ, ◌/◌, ◌%◌, ◌≡◌, List, [], ◌∷◌, ◌++◌, map, replicate, ℤ, pos, Float, Ok}
 use Rattle.std.specs.Float.{nan}
 use Rattle.float.specs.Ops.{lit32}
-use Rattle.mesh.specs.Check.{refused}
-use Rattle.mesh.specs.declared.Question.TheVariants.{Lengths, Size, Corners, Pairing}
+use Rattle.questions.specs.Check.{refused}
+use Rattle.questions.specs.declared.Question.TheVariants.{Lengths, Size, Corners, Pairing}
 use Rattle.stl.specs.Questions.{check_stl}
 use Rattle.stl.specs.Stl.{read_stl, points_after, halfedges_after, normals_after}
 

@@ -8,12 +8,12 @@ use lib.IntN.{ℤ}
 use lib.Ieee.{Float, nan}
 use Rattle.mesh.specs.Mesh.{Halfedges}
 use Rattle.mesh.specs.Sound.{Sound}
-use Rattle.mesh.specs.Questions.{has_length, sign_clear}
+use Rattle.questions.specs.Questions.{has_length, sign_clear}
 use Rattle.std.specs.Prelude.{Ok}
-use Rattle.mesh.specs.Check.{Checked, check_mesh, check_refs, answer_of}
+use Rattle.questions.specs.Check.{Checked, check_mesh, check_refs, answer_of}
 use Rattle.std.proofs.lemmas.Bool.{and_parts}
-use Rattle.mesh.proofs.Tests.{has_length_lem, has_one}
-use Rattle.mesh.proofs.Accepted.{accepted, refs_accepted, entries_accepted}
+use Rattle.questions.proofs.Lengths.{has_length_lem, has_one}
+use Rattle.questions.proofs.Accepted.{accepted, refs_accepted, entries_accepted}
 use Rattle.create.specs.Sharp.EntrySmoothness.{EntriesIn, entry_smoothness}
 use Rattle.create.specs.declared.sharp.Smoothness.{Smoothness}
 use Rattle.create.specs.Whole.Core.{create_directionless}

@@ -1,8 +1,8 @@
 -- Making from sharp edges as a public call: `create_tangents` of src/smoothing_tangents.rs, with its questions. H are the halfedges, P the positions, N the point normals, A the face normals, R the face references, I and Q the halfedges and the smoothness of the sharp entries, T the tangents, `old` whether these are old tangents, X, F, M, D, W and L the scratch lists `fixed`, `flat`, `smooth`, `desired`, `at` and `link`, n and p the counts of halfedges and points.
 use Rattle.std.specs.Prelude.{ℕ, List, Bool, ◌&&◌, length, ℤ, Float}
 use Rattle.mesh.specs.Mesh.{Halfedges}
-use Rattle.mesh.specs.Questions.{has_length}
-use Rattle.mesh.specs.Check.{Checked, check_mesh, check_refs, check_entries, answer_of, when_accepted}
+use Rattle.questions.specs.Questions.{has_length}
+use Rattle.questions.specs.Check.{Checked, check_mesh, check_refs, check_entries, answer_of, when_accepted}
 use Rattle.create_shared.specs.Lengths.{mesh_lists_fit}
 use Rattle.create_shared.specs.Answer.{Making}
 use Rattle.create.specs.declared.sharp.Smoothness.{Smoothness}

@@ -6,7 +6,8 @@
 ghost use Rattle.std.specs.Prelude.{◌≡◌, ℕ, suc, ◌+◌, ◌<◌, ◌^◌, length, get_or, set};
 ghost use Rattle.mesh.specs.Mesh.{start_vert, as_halfedges};
 ghost use Rattle.mesh.specs.Inside.{Inside};
-ghost use Rattle.create_shared.specs.Faces.{is_flat, vert_halfedge};
+ghost use Rattle.smoothing.specs.Faces.{is_flat};
+ghost use Rattle.create_shared.specs.Verts.{vert_halfedge};
 ghost use Rattle.create.specs.Edges.Smoothness.{smoothness};
 ghost use Rattle.create.specs.Creases.Creases.{through_of, count_of, add_sides, sums_of, mean_of, crease_of};
 ghost use Rattle.create.specs.Creases.Linked.{halfedge_of, LinkedFrom, LinkedAll, Lists};

@@ -7,8 +7,8 @@ mod flat_lists;
 
 ghost use Rattle.std.specs.Prelude.{◌≡◌, ◌<◌, length};
 ghost use Rattle.mesh.specs.Mesh.{as_halfedges};
-ghost use Rattle.create_shared.specs.Faces.{is_flat};
-ghost use Rattle.create_shared.specs.Lent.{FlatIn};
+ghost use Rattle.smoothing.specs.Faces.{is_flat};
+ghost use Rattle.smoothing.specs.Lent.{FlatIn};
 ghost use Rattle.create.specs.Edges.Lent.{SidesIn};
 ghost use Rattle.create.specs.Edges.Smoothness.{is_flat_boundary, add_flat_boundary, smoothness, pair_smoothness, is_crease};
 

@@ -4,7 +4,7 @@
 ghost use Rattle.std.specs.Prelude.{◌≡◌, ◌*◌, ◌≤◌, ◌&&◌, length, replicate};
 ghost use Rattle.float.specs.Ops.{zero};
 ghost use Rattle.mesh.specs.Mesh.{as_halfedges};
-ghost use Rattle.mesh.specs.Check.{check_mesh, check_refs, check_entries, when_accepted};
+ghost use Rattle.questions.specs.Check.{check_mesh, check_refs, check_entries, when_accepted};
 ghost use Rattle.create_shared.specs.Answer.{directionless_of, checked_of, Values};
 ghost use Rattle.create.specs.Sharp.Entries.{halfedges_of, smoothness_of};
 ghost use Rattle.create.specs.Create.{lists_fit, scratch_fits, tangents_after};
@@ -14,7 +14,7 @@ ghost use Rattle.create.specs.Entries.CreateEntries.{check_lists, create_answer}
 use crate::sharp::Smoothness;
 use crate::{sharp, whole};
 use create_shared::MeshLists;
-use mesh::Refusal;
+use questions::Refusal;
 
 // The questions 1 to 10, as `crate::check_create` puts them to two flat lists. Of the lists that are written only the lengths are asked. No struct of the lengths: its fields would be
 // these by the same names, and the caller would write each twice.
@@ -52,8 +52,8 @@ fn check_lists(
         t,
     );
     let scratch = crate::scratch_fits(n, p, fixed, flat, smooth, desired, at, link);
-    let checked = mesh::check_mesh(h, n, p, lists & scratch);
-    sharp::check_sharp(mesh::check_refs(checked, refs, n), sharp, n)
+    let checked = questions::check_mesh(h, n, p, lists & scratch);
+    sharp::check_sharp(questions::check_refs(checked, refs, n), sharp, n)
 }
 
 // Making from sharp edges, for lists of any length and content: `crate::create_tangents` with the sharp entries as structs.
@@ -108,7 +108,7 @@ pub fn create_entries(
     );
     // Document 01's form by place: the check's answer is opened by `let .. else`.
     let Ok(()) = checked else {
-        return mesh::refused(checked);
+        return questions::refused(checked);
     };
     sharp::sharp_smoothness(sharp, smooth);
     let mesh = MeshLists {

@@ -7,14 +7,15 @@ mod face_lists;
 ghost use Rattle.std.specs.Prelude.{◌≡◌, true, false, cond, ◌+◌, ◌*◌, ◌≤◌, ◌<◌, length};
 ghost use Rattle.common.specs.Fold.{fold_to};
 ghost use Rattle.mesh.specs.Mesh.{as_halfedges};
-ghost use Rattle.create_shared.specs.Lent.{flat_flags};
+ghost use Rattle.smoothing.specs.Lent.{flat_flags};
 ghost use Rattle.smoothing.specs.Lists.{put_tangent};
 ghost use Rattle.smoothing.specs.Inner.{put_edge};
 ghost use Rattle.create.specs.Initial.First.{vert_normal, inside_quad_tangent, first_tangents};
 ghost use Rattle.create.specs.Initial.Faces.{FaceIn};
 ghost use Rattle.create.specs.Initial.Lent.{normal_at, inside_quad, first_at, counts_first, first_made, put_first, count_firsts, edge_tangents, edge_directionless};
 
-use create_shared::{FlatFace, MeshLists};
+use create_shared::MeshLists;
+use smoothing::faces::{self, FlatFace};
 use face_lists::FaceLists;
 use linalg::{Vec3, Vec4};
 use smoothing::{CircularTangent, TwoTangents};
@@ -43,7 +44,7 @@ fn normal_at(lists: &FaceLists<'_>, e: usize) -> Vec3
         mesh.normals,
         mesh.face_normals,
         v,
-        create_shared::flat_face(lists.at, v),
+        faces::flat_face(lists.at, v),
     )
 }
 
@@ -193,8 +194,8 @@ pub fn first_tangents(
     ensures tangents { let m = mesh.entry in t.new ≡ first_tangents (as_halfedges m.h.now) m.pos.now m.normals.now m.face_normals.now m.refs.now (inside_quad m t.old old) m.n }
     ensures directionless { result ≡ count_firsts mesh.entry t.old old }
 {
-    create_shared::flat_faces(mesh.h, mesh.refs, flat);
-    create_shared::vert_flat_face(mesh.h, mesh.refs, flat, at);
+    faces::flat_faces(mesh.h, mesh.refs, flat);
+    faces::vert_flat_face(mesh.h, mesh.refs, flat, at);
     let lists = FaceLists { mesh, at };
     put_first_tangents(&lists, old, t)
 }

@@ -13,14 +13,14 @@ mod whole;
 ghost use Rattle.std.specs.Prelude.{◌≡◌, ◌*◌, ◌≤◌, length, replicate};
 ghost use Rattle.float.specs.Ops.{zero};
 ghost use Rattle.mesh.specs.Mesh.{as_halfedges};
-ghost use Rattle.mesh.specs.Check.{when_accepted};
+ghost use Rattle.questions.specs.Check.{when_accepted};
 ghost use Rattle.create_shared.specs.Answer.{directionless_of, checked_of, Values};
 ghost use Rattle.create.specs.Sharp.Entries.{entries_of};
 ghost use Rattle.create.specs.Whole.Core.{create_directionless};
 ghost use Rattle.create.specs.Create.{lists_fit, scratch_fits, check_create, check_lists, tangents_after, create_answer};
 
 use create_shared::MeshLists;
-use mesh::Refusal;
+use questions::Refusal;
 
 // Question 2 of the lists that the call reads, and of the tangents, from the length of each. No struct, here or below: its fields
 // would be these lengths by the same names, and the caller would write each twice.
@@ -47,7 +47,7 @@ pub fn lists_fit(
         face_normals,
         refs,
     );
-    lists & mesh::has_length(values, entries, 1) & mesh::has_length(tangents, n, 4)
+    lists & questions::has_length(values, entries, 1) & questions::has_length(tangents, n, 4)
 }
 
 // Question 2 of the scratch lists, from the length of each.
@@ -63,9 +63,9 @@ pub fn scratch_fits(
 ) -> bool
     ensures { result ≡ scratch_fits fixed flat smooth desired at link n p }
 {
-    let flags = mesh::has_length(fixed, n, 1) & mesh::has_length(flat, n, 1);
-    let angles = flags & mesh::has_length(smooth, n, 1) & mesh::has_length(desired, n, 1);
-    angles & mesh::has_length(at, p, 1) & mesh::has_length(link, n, 1)
+    let flags = questions::has_length(fixed, n, 1) & questions::has_length(flat, n, 1);
+    let angles = flags & questions::has_length(smooth, n, 1) & questions::has_length(desired, n, 1);
+    angles & questions::has_length(at, p, 1) & questions::has_length(link, n, 1)
 }
 
 // The questions 1 to 10; `lengths` is the answer to question 2. For the two flat lists, as `create_entries::check_lists` is for the
@@ -82,8 +82,8 @@ fn check_create(
 ) -> Result<(), Refusal>
     ensures { result ≡ check_create (as_halfedges h.now) refs.now entries.now values.now n p lengths }
 {
-    let checked = mesh::check_mesh(h, n, p, lengths);
-    mesh::check_entries(mesh::check_refs(checked, refs, n), entries, values, n)
+    let checked = questions::check_mesh(h, n, p, lengths);
+    questions::check_entries(questions::check_refs(checked, refs, n), entries, values, n)
 }
 
 // Making from sharp edges, for lists of any length and content. `pos` and `normals` have three numbers for each point,
@@ -150,7 +150,7 @@ pub fn create_tangents(
     let checked = check_create(n, p, h, refs, entries, values, lengths);
     // Document 01's form by place: the check's answer is opened by `let .. else`.
     let Ok(()) = checked else {
-        return mesh::refused(checked);
+        return questions::refused(checked);
     };
     sharp::entry_smoothness(entries, values, smooth);
     let mesh = MeshLists {

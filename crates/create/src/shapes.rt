@@ -6,7 +6,7 @@
 mod shape_lists;
 
 ghost use Rattle.std.specs.Prelude.{◌≡◌, ◌+◌, ◌*◌, ◌≤◌, ◌<◌, length};
-ghost use Rattle.create_shared.specs.Faces.{is_flat};
+ghost use Rattle.smoothing.specs.Faces.{is_flat};
 ghost use Rattle.create_shared.specs.Makings.{tangents_of, aligned_directionless};
 ghost use Rattle.create.specs.Shapes.Sharpen.{sharpened, sharpen_tangent, new_tangent, sides_of, sharpen_side, sharpen_sides, meeting_smoothness, sharpen_meeting_at, sharpen_meeting};
 ghost use Rattle.create.specs.Shapes.Shapes.{fix_halfedge, shape_through, crease_directionless};

@@ -3,11 +3,11 @@
 
 ghost use Rattle.std.specs.Prelude.{◌≡◌, ◌+◌, ◌<◌, ◌^◌, length, replicate};
 ghost use Rattle.float.specs.Ops.{one};
-ghost use Rattle.mesh.specs.Check.{check_entries};
+ghost use Rattle.questions.specs.Check.{check_entries};
 ghost use Rattle.create.specs.Sharp.Entries.{halfedges_of, smoothness_of, entries_of};
 ghost use Rattle.create.specs.Sharp.EntrySmoothness.{EntriesIn, add_entry, entry_smoothness};
 
-use mesh::{Question, Refusal};
+use questions::{Question, Refusal};
 
 // A sharp entry: a halfedge, and how smooth its edge is to be.
 #[repr(C)]
@@ -17,11 +17,11 @@ pub struct Smoothness {
     pub smoothness: f64,
 }
 
-// The questions 9 and 10, after earlier answers: `mesh::check_entries` of a list of structs. It stands beside that one, and
+// The questions 9 and 10, after earlier answers: `questions::check_entries` of a list of structs. It stands beside that one, and
 // `sharp_smoothness` beside `entry_smoothness`, by document 01's form by place for the sharp entries: a lent slice of structs, read
 // by one thin entry point, after a core over two flat lists. The earlier answer is a parameter, since it is one of the definition,
 // too: without it the clause would say `check_entries (Ok tt)`, and each caller would have a line for the `?`.
-#[tactic(auto, unfolding(mesh::specs::Check::check_entries))]
+#[tactic(auto, unfolding(questions::specs::Check::check_entries))]
 pub fn check_sharp(
     sofar: Result<(), Refusal>,
     sharp: &[Smoothness],
@@ -30,11 +30,11 @@ pub fn check_sharp(
     ensures { result ≡ check_entries sofar (halfedges_of sharp.now) (smoothness_of sharp.now) n }
 {
     sofar?;
-    mesh::ask(Question::Entry, sharp.len(), |k| sharp[k].halfedge < n)?;
-    mesh::ask(
+    questions::ask(Question::Entry, sharp.len(), |k| sharp[k].halfedge < n)?;
+    questions::ask(
         Question::Sign,
         sharp.len(),
-        |k| mesh::sign_clear(sharp[k].smoothness),
+        |k| questions::sign_clear(sharp[k].smoothness),
     )
 }
 

@@ -10,13 +10,14 @@ use lib.Dec.{eqb}
 use lib.IntN.{ℤ}
 use lib.Ieee.{Float}
 use Rattle.mesh.specs.Mesh.{halfedge_stride, no_index, as_halfedges, prop_vert}
-use Rattle.mesh.specs.Questions.{has_length}
-use Rattle.mesh.specs.Check.{check_mesh, check_rows}
+use Rattle.questions.specs.Questions.{has_length}
+use Rattle.questions.specs.Check.{check_mesh, check_rows}
 use Rattle.mesh.specs.Sound.{Sound}
 use Rattle.std.specs.Prelude.{Ok}
 use Rattle.std.proofs.lemmas.Bool.{and_parts}
-use Rattle.mesh.proofs.Tests.{has_length_lem, has_one}
-use Rattle.mesh.proofs.Accepted.{accepted, rows_accepted, refs_accepted, list_numbers}
+use Rattle.questions.proofs.Lengths.{has_length_lem, has_one}
+use Rattle.questions.proofs.Accepted.{accepted, rows_accepted, refs_accepted}
+use Rattle.mesh.proofs.Inside.{list_numbers}
 use Rattle.create_from_normals.specs.State.State.{RowIn}
 use Rattle.create_from_normals.specs.Whole.Core.{ScratchIn}
 use Rattle.create_shared.proofs.Lengths.{MeshListsFit, mesh_lists_fit_lem}

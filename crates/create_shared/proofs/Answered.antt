@@ -1,7 +1,7 @@
 -- The answer of a making: its parts, and a bound of its count. Assumes nothing.
 use Rattle.std.proofs.Common.{ℕ, ◌≤◌, ◌≡◌, refl, sym, ap, ◌∙◌, arith, Ok, Err}
-use Rattle.mesh.specs.Check.{Checked, answer_of}
-use Rattle.mesh.specs.declared.Refusal.{Refusal}
+use Rattle.questions.specs.Check.{Checked, answer_of}
+use Rattle.questions.specs.declared.Refusal.{Refusal}
 use Rattle.create_shared.specs.Answer.{Making, directionless_of, checked_of, Values}
 
 values_are : (c : Checked) (k : ℕ) → Values c k (answer_of c k)

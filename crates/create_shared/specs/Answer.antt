@@ -1,7 +1,7 @@
 -- The answer of a making: request 3's count, or the refusal.
 use Rattle.std.specs.Prelude.{ℕ, ◌≡◌, Result, Ok, Err}
-use Rattle.mesh.specs.Check.{Checked, number_of, place_of, when_accepted}
-use Rattle.mesh.specs.declared.Refusal.{Refusal}
+use Rattle.questions.specs.Check.{Checked, number_of, place_of, when_accepted}
+use Rattle.questions.specs.declared.Refusal.{Refusal}
 
 -- how many circular tangents were computed on an edge without direction, or the refusal
 abbrev pub Making : Type 0

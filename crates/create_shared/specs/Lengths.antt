@@ -1,7 +1,7 @@
 -- Question 2 of the lists that both makings read.
 use Rattle.std.specs.Prelude.{ℕ, ◌/◌, Bool, ◌&&◌}
 use Rattle.mesh.specs.Mesh.{halfedge_stride, ref_stride}
-use Rattle.mesh.specs.Questions.{has_length}
+use Rattle.questions.specs.Questions.{has_length}
 
 -- what the lengths of the halfedges, the positions, the point normals, the face normals and the face references must be
 abbrev pub mesh_lists_fit : ℕ → ℕ → ℕ → ℕ → ℕ → ℕ → ℕ → Bool

@@ -25,9 +25,9 @@ use Rattle.common.proofs.Front.{range_next}
 use Rattle.float.specs.Ops.{◌⊘◌}
 use Rattle.float.specs.Ops as float
 use Rattle.linalg.specs.declared.Vec4.{Vec4}
-use Rattle.mesh.specs.Check.{Checked}
-use Rattle.mesh.specs.declared.Question.TheVariants.{CurveCount}
-use Rattle.mesh.proofs.Accepted.{then_accepted, asked_accepted}
+use Rattle.questions.specs.Check.{Checked}
+use Rattle.questions.specs.declared.Question.TheVariants.{CurveCount}
+use Rattle.questions.proofs.Accepted.{then_accepted, asked_accepted}
 use Rattle.curve.specs.Questions.{is_parameter, count_fits, check_points}
 use Rattle.curve.specs.Curve.{Point, curve_at, position_of, parameter_at, numbers_of, numbers_at, points_of, points_after}
 use Rattle.curve.specs.Parameters.{ParametersFit, PointsAnswered, SamePoints}

@@ -6,8 +6,8 @@ use Rattle.std.specs.Float.Ieee.{of_int}
 use Rattle.float.specs.Ops.{◌⊘◌, zero}
 use Rattle.linalg.specs.declared.Vec3.{Vec3}
 use Rattle.linalg.specs.declared.Vec4.{Vec4}
-use Rattle.mesh.specs.Check.{number_of, place_of, answer_of, when_accepted}
-use Rattle.mesh.specs.declared.Refusal.{Refusal}
+use Rattle.questions.specs.Check.{number_of, place_of, answer_of, when_accepted}
+use Rattle.questions.specs.declared.Refusal.{Refusal}
 use Rattle.curve.specs.InterpTri.Bezier.{cubic_bezier_2_linear, bezier_point, bezier_tangent}
 use Rattle.curve.specs.Questions.{check_parameter, check_points}
 use Rattle.curve.specs.declared.CurvePoint.{CurvePoint}

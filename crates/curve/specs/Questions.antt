@@ -2,9 +2,9 @@
 use Rattle.std.specs.Prelude.{ℕ, Bool, not, ◌&&◌, ◌||◌, leb, Float}
 use Rattle.std.specs.Float.Ieee.{lt, is_nan}
 use Rattle.float.specs.Ops.{zero, one}
-use Rattle.mesh.specs.Questions.{has_length}
-use Rattle.mesh.specs.Check.{Checked, asked, ◌then◌}
-use Rattle.mesh.specs.declared.Question.TheVariants.{Parameter, CurveCount, CurveRoom}
+use Rattle.questions.specs.Questions.{has_length}
+use Rattle.questions.specs.Check.{Checked, asked, ◌then◌}
+use Rattle.questions.specs.declared.Question.TheVariants.{Parameter, CurveCount, CurveRoom}
 
 -- 40: "parameter not a number, below 0 or above 1". Negative zero is not below 0.
 unfoldable pub is_parameter : Float → Bool

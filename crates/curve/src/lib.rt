@@ -5,13 +5,13 @@
 mod interp_tri;
 
 ghost use Rattle.std.specs.Prelude.{◌≡◌, ◌*◌, ◌<◌, ◌≤◌, true, length, OnOk};
-ghost use Rattle.mesh.specs.Check.{Values as Checks};
+ghost use Rattle.questions.specs.Check.{Values as Checks};
 ghost use Rattle.curve.specs.Questions.{is_parameter, count_fits, check_points};
 ghost use Rattle.curve.specs.Curve.{position_at, curve_at, position_of, direction_of, Values, parameter_at, points_of, points_after};
 ghost use Rattle.curve.specs.Parameters.{ParametersFit, PointsAnswered, SamePoints};
 
 use linalg::{Vec3, Vec4};
-use mesh::{Question, Refusal};
+use questions::{Question, Refusal};
 
 // Where a point of a curve is, and the direction of the curve there: of length 1 up to rounding, or zero where the length that is worked
 // out is below 1e-30. Its square can overflow, as with control points 1e200 apart: then the direction is zero though the curve has one.
@@ -49,10 +49,10 @@ pub fn curve_at(p0: Vec4, p1: Vec4, p2: Vec4, p3: Vec4, x: f64) -> Result<CurveP
     ensures answer { result ≡ curve_at p0 p1 p2 p3 x }
     ensures values { Values p0 p1 p2 p3 x result }
 {
-    let checked = mesh::ask_at(Question::Parameter, 0, is_parameter(x));
+    let checked = questions::ask_at(Question::Parameter, 0, is_parameter(x));
     // Document 01's form by place: the check's answer is opened by `let .. else`.
     let Ok(()) = checked else {
-        return mesh::refused(checked);
+        return questions::refused(checked);
     };
     let points = interp_tri::cubic_bezier_2_linear(p0, p1, p2, p3, x);
     Ok(CurvePoint {
@@ -92,8 +92,8 @@ fn fill_points(p0: Vec4, p1: Vec4, p2: Vec4, p3: Vec4, count: usize, points: &mu
 fn check_points(count: usize, room: usize) -> Result<(), Refusal>
     ensures { result ≡ check_points count room }
 {
-    mesh::ask_at(Question::CurveCount, 0, (count >= 2) & (count <= 256))?;
-    mesh::ask_at(Question::CurveRoom, 0, mesh::has_length(room, count, 3))
+    questions::ask_at(Question::CurveCount, 0, (count >= 2) & (count <= 256))?;
+    questions::ask_at(Question::CurveRoom, 0, questions::has_length(room, count, 3))
 }
 
 // Fills the list with 2 to 256 points, three numbers each: point i at parameter i/(count - 1).

@@ -1,7 +1,7 @@
 -- Vertex cycles (document 01's rounds): the halfedges that leave one point, reached one from the other by going to the pair and then to the next in that triangle.
 use Rattle.std.specs.Prelude.{ℕ, ◌≤◌, ◌<◌, ◌≡◌, Bool, List, length, Ok}
 use Rattle.mesh.specs.Mesh.{start_vert, paired_halfedge, next_halfedge, prev_halfedge, Halfedges}
-use Rattle.mesh.specs.Check.{check_mesh}
+use Rattle.questions.specs.Check.{check_mesh}
 use Rattle.cycles.specs.Count.{count, ◌∈◌}
 use Rattle.cycles.specs.Walk.{cycle_of}
 use Rattle.cycles.specs.Orbits.{Orbits}

@@ -11,7 +11,7 @@ use Rattle.mesh.specs.Mesh.{halfedge_stride, Halfedges}
 use Rattle.mesh.specs.Sound.{Sound}
 use Rattle.std.specs.Prelude.{Ok}
 use Rattle.std.proofs.lemmas.Bool.{and_parts}
-use Rattle.mesh.proofs.Accepted.{accepted, flags_accepted}
+use Rattle.questions.proofs.Accepted.{accepted, flags_accepted}
 use Rattle.distribute.specs.Distribute.{lists_fit, lengths_fit, check_lists}
 
 -- the lists that spreading and its preview read or turn have their lengths

@@ -1,6 +1,6 @@
 -- Number, place, looked and turned of the answer.
 use Rattle.std.proofs.Common.{◌≡◌, refl, Ok, Err}
-use Rattle.mesh.specs.Check.{Checked, answer_of}
+use Rattle.questions.specs.Check.{Checked, answer_of}
 use Rattle.distribute.specs.Spread.Steps.{Steps}
 use Rattle.distribute.specs.Spread.Spread.{State}
 use Rattle.distribute.specs.Distribute.{Spreading, counts_of, Values}

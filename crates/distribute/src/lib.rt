@@ -16,7 +16,7 @@ ghost use Rattle.distribute.specs.Walks.Walks.{Written, steps_of};
 ghost use Rattle.distribute.specs.Distribute.{looked_of, turned_of, lists_fit, lengths_fit, check_lists, spread_tangents, Reports, distribute_tangents, tangents_after, scratch_after, AnyOrder, Values};
 ghost use Rattle.distribute.specs.Claims.{GuardsNeverFire, AnglesInLists, OwnStartsNamed};
 
-use mesh::Refusal;
+use questions::Refusal;
 pub use walks::{Counts, SpreadLists};
 
 // How many steps were looked at; 0 where the call is refused. Here and below there is one function for each value of an answer, as
@@ -74,10 +74,10 @@ pub fn lists_fit(
 ) -> bool
     ensures { result ≡ lists_fit (as_halfedges h.now) pos.now normals.now fixed.now t.now n p }
 {
-    let points = mesh::has_length(h.len(), n, mesh::HALFEDGE_STRIDE)
-        & mesh::has_length(pos.len(), p, 3)
-        & mesh::has_length(normals.len(), p, 3);
-    points & mesh::has_length(fixed.len(), n, 1) & mesh::has_length(t.len(), n, 4)
+    let points = questions::has_length(h.len(), n, mesh::HALFEDGE_STRIDE)
+        & questions::has_length(pos.len(), p, 3)
+        & questions::has_length(normals.len(), p, 3);
+    points & questions::has_length(fixed.len(), n, 1) & questions::has_length(t.len(), n, 4)
 }
 
 // Question 2 of the lists that the call is lent.
@@ -95,7 +95,7 @@ fn lengths_fit(
     ensures { result ≡ lengths_fit (as_halfedges h.now) pos.now normals.now fixed.now t.now current.now desired.now n p }
 {
     let lists = lists_fit(n, p, h, pos, normals, fixed, t);
-    lists & mesh::has_length(current.len(), n, 1) & mesh::has_length(desired.len(), n, 1)
+    lists & questions::has_length(current.len(), n, 1) & questions::has_length(desired.len(), n, 1)
 }
 
 // The questions 1 to 7 and 11.
@@ -114,8 +114,8 @@ fn check_lists(
     ensures { result ≡ check_lists (as_halfedges h.now) pos.now normals.now fixed.now t.now current.now desired.now n p }
 {
     let lengths = lengths_fit(n, p, h, pos, normals, fixed, t, current, desired);
-    let checked = mesh::check_mesh(h, n, p, lengths);
-    mesh::check_flags(checked, fixed, n)
+    let checked = questions::check_mesh(h, n, p, lengths);
+    questions::check_flags(checked, fixed, n)
 }
 
 // Spreading, for lists of any length and content. `pos` and `normals` have three numbers for each point, `fixed` a flag
@@ -146,7 +146,7 @@ pub fn distribute_tangents(
     let checked = check_lists(n, p, h, pos, normals, fixed, t, current, desired);
     // Document 01's form by place: the check's answer is opened by `let .. else`.
     let Ok(()) = checked else {
-        return mesh::refused(checked);
+        return questions::refused(checked);
     };
     let lists = SpreadLists {
         n,

@@ -12,7 +12,7 @@ ghost use Rattle.distribute.specs.Preview.Preview.{check_lists, preview_tangents
 use crate::preview_walks;
 use crate::preview_walks::PreviewLists;
 use crate::walks::Counts;
-use mesh::Refusal;
+use questions::Refusal;
 
 // The loop over the halfedges of an accepted mesh, after zeros in all bytes. The bytes are written, and so their length is a clause: of
 // a struct that lends them each clause would say `lists.new.bytes.now` for `bytes.new`.
@@ -48,9 +48,9 @@ fn check_lists(
     ensures { result ≡ check_lists (as_halfedges h.now) pos.now normals.now fixed.now t.now bytes.now n p }
 {
     let lists = crate::lists_fit(n, p, h, pos, normals, fixed, t);
-    let lengths = lists & mesh::has_length(bytes.len(), n, 1);
-    let checked = mesh::check_mesh(h, n, p, lengths);
-    mesh::check_flags(checked, fixed, n)
+    let lengths = lists & questions::has_length(bytes.len(), n, 1);
+    let checked = questions::check_mesh(h, n, p, lengths);
+    questions::check_flags(checked, fixed, n)
 }
 
 // The preview, for lists of any length and content. `pos` and `normals` have three numbers for each point, `fixed` a flag
@@ -76,7 +76,7 @@ pub fn preview_tangents(
     let checked = check_lists(n, p, h, pos, normals, fixed, t, bytes);
     // Document 01's form by place: the check's answer is opened by `let .. else`.
     let Ok(()) = checked else {
-        return mesh::refused(checked);
+        return questions::refused(checked);
     };
     let lists = PreviewLists { n, p, h, fixed, t };
     let counts = preview_all(&lists, bytes);

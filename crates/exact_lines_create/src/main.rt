@@ -4,7 +4,7 @@
 #![tactic(auto)]
 
 use exact_lines_shared::{POSITIONS, halfedges, put};
-use mesh::Refusal;
+use questions::Refusal;
 
 // The pillow's point normals, face normals and references.
 const NORMALS: [f64; 9] = [1.0, 2.0, 3.0, 1.0, 2.0, 3.0, 1.0, 2.0, 3.0];

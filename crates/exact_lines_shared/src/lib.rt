@@ -1,7 +1,7 @@
 // What the programs of the exact lines share: the lists of the pillow, two triangles on three points, and the line of an answer.
 #![tactic(auto)]
 
-use mesh::Refusal;
+use questions::Refusal;
 
 // The pillow's positions.
 pub const POSITIONS: [f64; 9] = [0.0, 0.0, 0.0, 3.0, 0.0, 0.0, 0.0, 6.0, 0.0];
@@ -15,7 +15,7 @@ pub fn halfedges(vert: i32) -> [i32; 24] {
 
 // The call, what it is asked about, and the number and place of its answer: 0 0 if it is accepted. A failed write is silent.
 pub fn put<T: Copy>(rt: &impl Print, call: &str, asked: &str, answer: Result<T, Refusal>) {
-    let number = mesh::number_of(answer);
-    let place = mesh::place_of(answer);
+    let number = questions::number_of(answer);
+    let place = questions::place_of(answer);
     let _ = println!(rt; "{call}{asked}{number} {place}");
 }

@@ -11,7 +11,7 @@ use Rattle.linalg.specs.declared.Vec4.{Vec4}
 use Rattle.linalg.specs.Vec.{neg3}
 use Rattle.mesh.specs.Mesh.{Halfedges}
 use Rattle.std.specs.Prelude.{Ok}
-use Rattle.mesh.proofs.Accepted.{accepted}
+use Rattle.questions.proofs.Accepted.{accepted}
 use Rattle.linearize.specs.Linearize.{is_flat, linearize_end, linearize_edge, lengths_fit, linearize_answer, Lists}
 
 -- ---- an end that is not flat is left alone

@@ -6,11 +6,11 @@
 
 ghost use Rattle.std.specs.Prelude.{◌≡◌, ◌+◌, ◌*◌, ◌≤◌, length};
 ghost use Rattle.mesh.specs.Mesh.{as_halfedges};
-ghost use Rattle.mesh.specs.Check.{Values};
+ghost use Rattle.questions.specs.Check.{Values};
 ghost use Rattle.linearize.specs.Linearize.{is_flat, with_unit_weight, linearized, linearize_end, linearize_edge, linearize_at, linearize_flat_tangents, lengths_fit, linearize_answer, tangents_after, HalfedgeIn, Lists};
 
 use linalg::{Vec3, Vec4};
-use mesh::Refusal;
+use questions::Refusal;
 
 fn is_flat(tangent: Vec4) -> bool
     ensures { result ≡ is_flat tangent }
@@ -104,9 +104,9 @@ pub fn linearize_all(n: usize, p: usize, h: &[i32], pos: &[f64], t: &mut [f64])
 fn lengths_fit(n: usize, p: usize, h: &[i32], pos: &[f64], t: &[f64]) -> bool
     ensures { result ≡ lengths_fit (as_halfedges h.now) pos.now t.now n p }
 {
-    mesh::has_length(h.len(), n, mesh::HALFEDGE_STRIDE)
-        & mesh::has_length(pos.len(), p, 3)
-        & mesh::has_length(t.len(), n, 4)
+    questions::has_length(h.len(), n, mesh::HALFEDGE_STRIDE)
+        & questions::has_length(pos.len(), p, 3)
+        & questions::has_length(t.len(), n, 4)
 }
 
 // The public call, for lists of any length and content.
@@ -123,7 +123,7 @@ pub fn linearize_flat_tangents(
     ensures tangents { t.new ≡ tangents_after (as_halfedges h.now) pos.now t.old n p }
     ensures values { Values (linearize_answer (as_halfedges h.now) pos.now t.old n p) result }
 {
-    let checked = mesh::check_mesh(h, n, p, lengths_fit(n, p, h, pos, t));
+    let checked = questions::check_mesh(h, n, p, lengths_fit(n, p, h, pos, t));
     // Document 01's form by place: the check's answer is opened by `let .. else`.
     let Ok(()) = checked else {
         return checked;

@@ -18,7 +18,7 @@ use Rattle.records.specs.declared.Kind.TheVariants.{Tangents}
 use Rattle.records.specs.declared.Input.{Input}
 use Rattle.records.proofs.Accepted.{never_short, counts_bound}
 use Rattle.std.specs.Prelude.{Result, Ok, Err}
-use Rattle.mesh.specs.declared.Refusal.{Refusal}
+use Rattle.questions.specs.declared.Refusal.{Refusal}
 use Rattle.program.specs.Lines.Lines.{lines_of, printed, rendered}
 use Rattle.program.proofs.LinesLaws.Whole.{whole}
 use Rattle.program.specs.declared.lines.Output.{Output}

@@ -8,7 +8,7 @@ use mathlib.Core.List.{List, []}
 use lib.ListN.{length, take}
 use Rattle.std.specs.Prelude.{Result, Ok, Err}
 use Rattle.mesh.specs.Mesh.{as_halfedges}
-use Rattle.mesh.specs.declared.Refusal.{Refusal}
+use Rattle.questions.specs.declared.Refusal.{Refusal}
 use Rattle.records.specs.Records.{max_input, check_input, parse_input}
 use Rattle.records.specs.declared.Input.{Input}
 use Rattle.records.proofs.Accepted.{counts_bound}

@@ -11,7 +11,7 @@ use Rattle.records.specs.declared.Operation.{Operation}
 use Rattle.records.specs.declared.Operation.TheVariants.{Spread}
 use Rattle.records.specs.declared.Input.{Input}
 use Rattle.std.specs.Prelude.{Result, Ok, Err}
-use Rattle.mesh.specs.declared.Refusal.{Refusal}
+use Rattle.questions.specs.declared.Refusal.{Refusal}
 use Rattle.program.specs.Operations.Operations.{operation_lines, operation_tangents, operation_scratch}
 use Rattle.program.specs.Program.{positions_of, halfedges_of, tangents_of, normals_of, flags_of, output_of, tangents_after, scratch_after}
 use Rattle.program.specs.Rows.{SameLists, SameInputs, InputRowsUnread}

@@ -8,7 +8,7 @@ use Rattle.records.specs.declared.Operation.{Operation}
 use Rattle.records.specs.declared.Operation.TheVariants.{Straighten, Spread, Check}
 use Rattle.records.specs.declared.Kind.TheVariants.{Positions, Halfedges, Tangents, Normals, Flags}
 use Rattle.records.specs.declared.Input.{Input}
-use Rattle.mesh.specs.declared.Refusal.{Refusal}
+use Rattle.questions.specs.declared.Refusal.{Refusal}
 use Rattle.program.specs.Lines.Lines.{lines_of, printed, line_bytes}
 use Rattle.program.specs.Operations.Operations.{operation_lines, operation_tangents, operation_scratch}
 

@@ -12,7 +12,7 @@ ghost use Rattle.program.specs.Program.{output_of, positions_after, halfedges_af
 ghost use Rattle.program.specs.Rows.{InputRowsUnread};
 
 use lines::Output;
-use mesh::Refusal;
+use questions::Refusal;
 
 // The lengths of lists with room for every input: its positions or point normals, its halfedges, its tangents, one place
 // for each halfedge (flags, scratch), and its output, a line of each halfedge and two more.

@@ -6,7 +6,7 @@ ghost use Rattle.std.specs.Prelude.{◌≡◌, ◌+◌, ◌*◌, ◌<◌, ◌≤
 ghost use Rattle.program.specs.Lines.Text.{byte, decimal, hex, Put};
 ghost use Rattle.program.specs.Lines.Lines.{number_line, numbers_line, bits_field, tangent_line, tangent_lines, tangents_lines, lines_of, printed, halfedges_in, has_room, rendered};
 
-use mesh::Refusal;
+use questions::Refusal;
 
 // Room for a line: no line has more bytes.
 pub const LINE_BYTES: usize = 96;

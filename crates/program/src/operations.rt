@@ -6,7 +6,7 @@ ghost use Rattle.mesh.specs.Mesh.{halfedge_stride, as_halfedges};
 ghost use Rattle.program.specs.Operations.Operations.{straighten_lines, spread_lines, check_lines, operation_lines, straighten_tangents, spread_tangents, spread_scratch, operation_tangents, operation_scratch, SpreadIn, Shows};
 
 use crate::lines::Output;
-use mesh::Refusal;
+use questions::Refusal;
 use records::Operation;
 
 // The lists that an operation reads, cut to their lengths: n halfedges and p points. Only spreading reads the point normals

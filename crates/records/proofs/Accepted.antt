@@ -11,10 +11,10 @@ use Rattle.std.specs.Prelude.{◌⊎◌, Result, Ok, Err}
 use Rattle.std.proofs.Common.{inl, inr}
 use Rattle.std.proofs.lemmas.Bool.{and_parts}
 use Rattle.mesh.specs.Mesh.{halfedge_stride}
-use Rattle.mesh.specs.Check.{Checked, asked, answer_of}
-use Rattle.mesh.specs.declared.Question.TheVariants.{Lengths, Fits, End}
-use Rattle.mesh.specs.declared.Refusal.{Refusal}
-use Rattle.mesh.proofs.Accepted.{then_accepted, asked_accepted}
+use Rattle.questions.specs.Check.{Checked, asked, answer_of}
+use Rattle.questions.specs.declared.Question.TheVariants.{Lengths, Fits, End}
+use Rattle.questions.specs.declared.Refusal.{Refusal}
+use Rattle.questions.proofs.Accepted.{then_accepted, asked_accepted}
 use Rattle.records.specs.Records.{operation_number, is_operation, operation_of_number, check_operation, max_input, kinds, mesh_kinds, max_points, max_halfedges, body_bytes, records_length, bodies, check_record, check_bodies, check_records, check_input, operation_in, points_in, halfedges_in, input_in, parse_input, Values}
 use Rattle.records.specs.Lists.{if_spread, has_room, Lists, lists_have_room, check_reading, read_answer, MeshRoom, SpreadRoom}
 use Rattle.records.specs.declared.Operation.{Operation}

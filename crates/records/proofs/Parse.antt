@@ -14,11 +14,11 @@ use Rattle.std.specs.Prelude.{Ok, Err}
 use Rattle.std.proofs.lemmas.Bool.Decides.{nat_tests}
 use Rattle.little_endian.specs.Numbers.{u16_at, u32_at}
 use Rattle.std.proofs.lemmas.Bool.{and_parts}
-use Rattle.mesh.specs.Check.{Checked, asked, ◌then◌, answer_of}
-use Rattle.mesh.proofs.Accepted.{then_accepted, asked_accepted}
-use Rattle.mesh.specs.declared.Question.{Question}
-use Rattle.mesh.specs.declared.Question.TheVariants.{Fits, Kind as OtherKind, Body}
-use Rattle.mesh.specs.declared.Refusal.{Refusal}
+use Rattle.questions.specs.Check.{Checked, asked, ◌then◌, answer_of}
+use Rattle.questions.proofs.Accepted.{then_accepted, asked_accepted}
+use Rattle.questions.specs.declared.Question.{Question}
+use Rattle.questions.specs.declared.Question.TheVariants.{Fits, Kind as OtherKind, Body}
+use Rattle.questions.specs.declared.Refusal.{Refusal}
 use Rattle.records.specs.Records.{operation_of_number, check_operation, operation_answer, kind_number, record_fits, check_record, body_bytes, check_bodies}
 use Rattle.records.specs.declared.Operation.{Operation}
 use Rattle.records.specs.declared.Kind.{Kind}

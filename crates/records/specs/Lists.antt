@@ -3,9 +3,9 @@ use Rattle.std.specs.Prelude.{ℕ, ◌*◌, ◌≤◌, List, Bool, ◌&&◌, len
 use Rattle.little_endian.specs.Numbers.{f64_item, i32_item, byte_item}
 use Rattle.little_endian.specs.Filled.{filled}
 use Rattle.mesh.specs.Mesh.{halfedge_stride}
-use Rattle.mesh.specs.Check.{Checked, asked, ◌then◌, answer_of}
-use Rattle.mesh.specs.declared.Question.TheVariants.{Lengths}
-use Rattle.mesh.specs.declared.Refusal.{Refusal}
+use Rattle.questions.specs.Check.{Checked, asked, ◌then◌, answer_of}
+use Rattle.questions.specs.declared.Question.TheVariants.{Lengths}
+use Rattle.questions.specs.declared.Refusal.{Refusal}
 use Rattle.records.specs.Records.{kinds, mesh_kinds, records_length, body_at, check_input, input_in}
 use Rattle.records.specs.declared.Operation.{Operation}
 use Rattle.records.specs.declared.Operation.TheVariants.{Straighten, Spread, Check}

@@ -5,12 +5,12 @@ ghost use Rattle.std.specs.Prelude.{◌≡◌, ◌+◌, ◌*◌, ◌<◌, ◌≤
 ghost use Rattle.little_endian.specs.Numbers.{f64_item, i32_item, byte_item};
 ghost use Rattle.little_endian.specs.Filled.{filled};
 ghost use Rattle.mesh.specs.Mesh.{halfedge_stride};
-ghost use Rattle.mesh.specs.Check.{answer_of};
+ghost use Rattle.questions.specs.Check.{answer_of};
 ghost use Rattle.records.specs.Records.{operation_answer, check_record, body_bytes, body_at, bodies, positions_at, check_bodies, check_records, input_in, parse_input, Values};
 ghost use Rattle.records.specs.Lists.{MeshRoom, SpreadRoom, if_spread, has_room, lists_of, check_reading, read_answer, read_lists};
 
 use little_endian::LittleEndian;
-use mesh::{Question, Refusal};
+use questions::{Question, Refusal};
 
 // The longest input of the program.
 pub const MAX_INPUT: usize = 65536;
@@ -106,11 +106,11 @@ fn check_record(s: &[u8], at: usize, kind: Kind, bytes: usize) -> Result<(), Ref
     ensures { result ≡ check_record s.now at kind bytes }
 {
     let left = s.len() - at;
-    mesh::ask_at(Question::Fits, at, HEADER_BYTES <= left)?;
+    questions::ask_at(Question::Fits, at, HEADER_BYTES <= left)?;
     let body_length = u32::read(s, at) as usize;
-    mesh::ask_at(Question::Fits, at, body_length <= left - HEADER_BYTES)?;
-    mesh::ask_at(Question::Kind, at, u16::read(s, at + 4) == kind as u16)?;
-    mesh::ask_at(Question::Body, at, body_length == bytes)
+    questions::ask_at(Question::Fits, at, body_length <= left - HEADER_BYTES)?;
+    questions::ask_at(Question::Kind, at, u16::read(s, at + 4) == kind as u16)?;
+    questions::ask_at(Question::Body, at, body_length == bytes)
 }
 
 // The body length that the counts call for.
@@ -163,7 +163,7 @@ fn check_bodies(s: &[u8], kinds: &[Kind], counts: Counts) -> Result<(), Refusal>
         check_record(s, place, *kind, bytes)?;
         place += HEADER_BYTES + bytes;
     }
-    mesh::ask_at(Question::End, place, place == s.len())
+    questions::ask_at(Question::End, place, place == s.len())
 }
 
 // The records of an input of any length.
@@ -187,7 +187,7 @@ fn parse_records(s: &[u8]) -> Result<Input, Refusal>
 fn parse_input(s: &[u8]) -> Result<Input, Refusal>
     ensures { result ≡ parse_input s.now }
 {
-    mesh::ask_at(Question::Fits, 0, s.len() <= MAX_INPUT)?;
+    questions::ask_at(Question::Fits, 0, s.len() <= MAX_INPUT)?;
     parse_records(s)
 }
 
@@ -266,7 +266,7 @@ pub fn read_input(
 {
     let parsed = parse_input(input)?;
     let room = has_room(parsed, pos.len(), h.len(), t.len(), vn.len(), flags.len());
-    mesh::ask_at(Question::Lengths, 0, room)?;
+    questions::ask_at(Question::Lengths, 0, room)?;
     fill_mesh(input, parsed.counts, pos, h, t);
     match parsed.operation {
         Operation::Spread => fill_spread(input, parsed.counts, vn, flags),

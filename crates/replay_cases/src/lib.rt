@@ -52,7 +52,7 @@ impl TryFrom<usize> for Operation {
     }
 }
 
-// The first question answered no, by its number, and its lowest place. No `mesh::Refusal`: a question of a number would take a
+// The first question answered no, by its number, and its lowest place. No `questions::Refusal`: a question of a number would take a
 // match of 17 arms here, and an answer for a number of none, and would be compared by its number all the same.
 #[derive(Clone, Copy, PartialEq)]
 pub struct Refusal {
@@ -60,8 +60,8 @@ pub struct Refusal {
     pub place: usize,
 }
 
-impl From<mesh::Refusal> for Refusal {
-    fn from(refusal: mesh::Refusal) -> Self {
+impl From<questions::Refusal> for Refusal {
+    fn from(refusal: questions::Refusal) -> Self {
         Refusal {
             number: refusal.question as usize,
             place: refusal.place,
@@ -128,7 +128,7 @@ fn outcome_of(number: usize, place: usize) -> Result<(), Refusal> {
 
 // Does a call with this answer end so?
 pub fn ends_as<T: Copy + PartialEq>(
-    answer: Result<T, mesh::Refusal>,
+    answer: Result<T, questions::Refusal>,
     outcome: Result<T, Refusal>,
 ) -> bool {
     answer.map_err(Refusal::from) == outcome

@@ -114,7 +114,7 @@ where
         &mut [f64],
         &mut [usize],
         &mut [usize],
-    ) -> Result<usize, mesh::Refusal>,
+    ) -> Result<usize, questions::Refusal>,
     requires { F.IsAlwaysCallable call }
 {
     let mut t = [ANGLE; 128];

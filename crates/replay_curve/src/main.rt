@@ -3,7 +3,7 @@
 #![tactic(auto)]
 
 use linalg::Vec4;
-use mesh::Refusal;
+use questions::Refusal;
 use replay::{Reader, Stored};
 use replay_cases::next_record;
 use std::io;
@@ -24,7 +24,7 @@ fn control(record: &mut Reader<'_>) -> Vec4 {
 
 // Are the number and the place of an answer those of the record?
 fn same_refusal<T: Copy>(record: &mut Reader<'_>, answer: Result<T, Refusal>) -> bool {
-    record.holds(&[mesh::number_of(answer), mesh::place_of(answer)])
+    record.holds(&[questions::number_of(answer), questions::place_of(answer)])
 }
 
 // Asks for one point. Are the answer, the position and the direction those of the record? Both are zeros where it refuses.

@@ -55,7 +55,7 @@ fn same_entries(mut case: Case<'_>, listed: Listed, list: &[usize], smooth: &[f6
 
 // Is this how the call of the case ends?
 fn same_listing(
-    listing: Result<Listed, mesh::Refusal>,
+    listing: Result<Listed, questions::Refusal>,
     case: Case<'_>,
     list: &[usize],
     smooth: &[f64],
@@ -79,7 +79,7 @@ where
         f64,
         &mut [usize],
         &mut [f64],
-    ) -> Result<Listed, mesh::Refusal>,
+    ) -> Result<Listed, questions::Refusal>,
     requires { F.IsAlwaysCallable call }
 {
     let mut h = [0i32; 256];

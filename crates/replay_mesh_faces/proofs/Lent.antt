@@ -5,11 +5,11 @@ use mathlib.Core.List.{List}
 use mathlib.Core.Bool.{Bool}
 use lib.ListN.{length}
 use Rattle.mesh.specs.Mesh.{halfedge_stride, Halfedges}
-use Rattle.mesh.specs.Questions.{has_length}
-use Rattle.mesh.specs.Check.{check_mesh}
+use Rattle.questions.specs.Questions.{has_length}
+use Rattle.questions.specs.Check.{check_mesh}
 use Rattle.std.specs.Prelude.{Ok}
-use Rattle.mesh.proofs.Tests.{has_length_lem}
-use Rattle.mesh.proofs.Accepted.{accepted}
+use Rattle.questions.proofs.Lengths.{has_length_lem}
+use Rattle.questions.proofs.Accepted.{accepted}
 use Rattle.replay_mesh_faces.specs.Points.{Points}
 
 pub asked : (H : Halfedges) (F E : List ℕ) (lengths : Bool) → lengths ≡ has_length H.numbers (length F) halfedge_stride → check_mesh H (length F) (length E) lengths ≡ Ok tt → Points H F E (length E)

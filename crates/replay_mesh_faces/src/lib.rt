@@ -5,7 +5,7 @@ ghost use Rattle.std.specs.Prelude.{length};
 ghost use Rattle.mesh.specs.Mesh.{as_halfedges};
 ghost use Rattle.replay_mesh_faces.specs.Points.{Points};
 
-use create_shared::FlatFace;
+use smoothing::faces::{self, FlatFace};
 use replay::Reader;
 use replay_cases::{Case, ends_as};
 
@@ -50,7 +50,7 @@ fn same_flags(
     requires { Points (as_halfedges faces.h.now) flags.old points.old (length points.old) }
 {
     let triangles = flags.len() / 3;
-    create_shared::flat_faces(faces.h, faces.refs, flags);
+    faces::flat_faces(faces.h, faces.refs, flags);
     if !body.holds_list(&flags[..triangles]) {
         return false;
     }
@@ -60,9 +60,9 @@ fn same_flags(
 fn same_points(mut body: Reader<'_>, faces: Faces<'_>, flags: &[u8], points: &mut [usize]) -> bool
     requires { Points (as_halfedges faces.h.now) flags.now points.old (length points.old) }
 {
-    create_shared::vert_flat_face(faces.h, faces.refs, flags, points);
+    faces::vert_flat_face(faces.h, faces.refs, flags, points);
     body.skip(4);
-    let same = (0..points.len()).all(|v| face_number(create_shared::flat_face(points, v))
+    let same = (0..points.len()).all(|v| face_number(faces::flat_face(points, v))
         == Some(body.read()));
     if !same {
         return false;
@@ -73,8 +73,8 @@ fn same_points(mut body: Reader<'_>, faces: Faces<'_>, flags: &[u8], points: &mu
 }
 
 fn asked_flags(case: Case<'_>, faces: Faces<'_>, flags: &mut [u8], points: &mut [usize]) -> bool {
-    let lengths = mesh::has_length(faces.h.len(), flags.len(), mesh::HALFEDGE_STRIDE);
-    let checked = mesh::check_mesh(faces.h, flags.len(), points.len(), lengths);
+    let lengths = questions::has_length(faces.h.len(), flags.len(), mesh::HALFEDGE_STRIDE);
+    let checked = questions::check_mesh(faces.h, flags.len(), points.len(), lengths);
     let Ok(()) = checked else {
         return ends_as(checked, case.outcome);
     };

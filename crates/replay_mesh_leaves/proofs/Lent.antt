@@ -6,12 +6,12 @@ use mathlib.Core.Bool.{Bool, ◌&&◌}
 use lib.ListN.{length}
 use lib.Ieee.{Float}
 use Rattle.mesh.specs.Mesh.{halfedge_stride, Halfedges}
-use Rattle.mesh.specs.Questions.{has_length}
-use Rattle.mesh.specs.Check.{check_mesh}
+use Rattle.questions.specs.Questions.{has_length}
+use Rattle.questions.specs.Check.{check_mesh}
 use Rattle.std.specs.Prelude.{Ok}
 use Rattle.std.proofs.lemmas.Bool.{and_parts}
-use Rattle.mesh.proofs.Tests.{has_length_lem, has_one}
-use Rattle.mesh.proofs.Accepted.{accepted}
+use Rattle.questions.proofs.Lengths.{has_length_lem, has_one}
+use Rattle.questions.proofs.Accepted.{accepted}
 use Rattle.replay_mesh_leaves.specs.Lists.{NormalLists, QuadLists}
 
 module _ (H : Halfedges) (n p : ℕ) where

@@ -4,7 +4,7 @@
 ghost use Rattle.mesh.specs.Mesh.{as_halfedges};
 ghost use Rattle.replay_mesh_leaves.specs.Lists.{NormalLists, QuadLists};
 
-use mesh::has_length;
+use questions::has_length;
 use replay_cases::{Case, ends_as};
 
 // The lists of `tangent_from_normal`: `own` holds the normal of each halfedge.
@@ -40,7 +40,7 @@ fn asked_normals(case: Case<'_>, lists: Normals<'_>) -> bool {
         & has_length(lists.pos.len(), p, 3)
         & has_length(lists.faces.len(), n, 1)
         & has_length(lists.own.len(), n, 3);
-    let checked = mesh::check_mesh(lists.h, n, p, lengths);
+    let checked = questions::check_mesh(lists.h, n, p, lengths);
     let Ok(()) = checked else {
         return ends_as(checked, case.outcome);
     };
@@ -96,7 +96,7 @@ fn asked_quads(case: Case<'_>, lists: Quads<'_>) -> bool {
     let p = case.p;
     let lengths = has_length(lists.h.len(), n, mesh::HALFEDGE_STRIDE)
         & has_length(lists.t.len(), n, 4);
-    let checked = mesh::check_mesh(lists.h, n, p, lengths);
+    let checked = questions::check_mesh(lists.h, n, p, lengths);
     let Ok(()) = checked else {
         return ends_as(checked, case.outcome);
     };

@@ -2,7 +2,7 @@
 // the normals, the rows and the tangents the case has only the length.
 #![tactic(auto)]
 
-use mesh::{Refusal, has_length};
+use questions::{Refusal, has_length};
 use replay::Reader;
 use replay_cases::{Case, Operation, ends_as};
 
@@ -64,26 +64,26 @@ impl Lent<'_> {
 
     // Questions 1 to 7, and 2 of the lists of one operation too.
     fn check_mesh(&self, own_fit: bool) -> Result<(), Refusal> {
-        mesh::check_mesh(self.h, self.n, self.p, self.shared_fit() && own_fit)
+        questions::check_mesh(self.h, self.n, self.p, self.shared_fit() && own_fit)
     }
 
     fn check_spread(&self) -> Result<(), Refusal> {
         let checked = self.check_mesh(has_length(self.flags.len(), self.n, 1));
-        mesh::check_flags(checked, self.flags, self.n)
+        questions::check_flags(checked, self.flags, self.n)
     }
 
     fn check_create(&self) -> Result<(), Refusal> {
         let entries_fit = self.entries.len() == self.values.len();
         let checked = self.check_mesh(self.faces_fit() && entries_fit);
-        let numbered = mesh::check_refs(checked, self.refs, self.n);
-        mesh::check_entries(numbered, self.entries, self.values, self.n)
+        let numbered = questions::check_refs(checked, self.refs, self.n);
+        questions::check_entries(numbered, self.entries, self.values, self.n)
     }
 
     fn check_create_from_normals(&self) -> Result<(), Refusal> {
         let rows_fit = self.lengths.rows % 3 == 0;
         let checked = self.check_mesh(self.faces_fit() && rows_fit);
-        let named = mesh::check_rows(checked, self.h, self.lengths.rows / 3, self.n);
-        mesh::check_refs(named, self.refs, self.n)
+        let named = questions::check_rows(checked, self.h, self.lengths.rows / 3, self.n);
+        questions::check_refs(named, self.refs, self.n)
     }
 }
 

@@ -20,7 +20,7 @@ struct Lists<'a> {
 
 // Is this how the call of the case ends, whose counts looked and turned are these?
 fn ends_with(
-    spreading: Result<Counts, mesh::Refusal>,
+    spreading: Result<Counts, questions::Refusal>,
     case: Case<'_>,
     counts: (usize, usize),
 ) -> bool {

@@ -1,7 +1,7 @@
 -- The calls but making from normals carry the rows of the halfedges unread. Letters as in docs/ARCHITECTURE.md; `list` and `other` are lists of halfedges.
 use Rattle.std.specs.Prelude.{ℕ, ◌≡◌, List, Bool, ℤ, Float}
 use Rattle.mesh.specs.Mesh.{Halfedges, as_halfedges}
-use Rattle.mesh.specs.Check.{Checked, check_mesh}
+use Rattle.questions.specs.Check.{Checked, check_mesh}
 use Rattle.mesh.specs.Rows.{SameButRows}
 use Rattle.linearize.specs.Linearize as Linearize
 use Rattle.validate.specs.Validate as Validate

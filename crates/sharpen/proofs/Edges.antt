@@ -19,7 +19,7 @@ use Rattle.common.proofs.Front.{front_two, range_next}
 use Rattle.linalg.specs.Vec.{dot_of}
 use Rattle.mesh.specs.Mesh.{paired_halfedge, is_forward, Halfedges}
 use Rattle.mesh.specs.Sound.{Sound}
-use Rattle.mesh.specs.Check.{Checked}
+use Rattle.questions.specs.Check.{Checked}
 use Rattle.sharpen.specs.Crease.{min_radians, dihedral_of, is_zero, own_normal, other_normal, touches_zero, edge_kind, is_listed}
 use Rattle.sharpen.specs.Entries.{Entries, entries_in, push_entry, push_edge, list_edge, list_edges}
 use Rattle.sharpen.specs.Sharpen.{check_lists, creases, crease_tally, entries_after}

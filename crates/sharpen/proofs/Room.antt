@@ -12,7 +12,7 @@ use Rattle.mesh.specs.Sound.{Sound}
 use Rattle.std.specs.Prelude.{Ok}
 use Rattle.common.specs.Count.{count_below}
 use Rattle.common.proofs.Count.{count_room}
-use Rattle.mesh.proofs.Accepted.{accepted}
+use Rattle.questions.proofs.Accepted.{accepted}
 use Rattle.mesh.proofs.Pairs.{one_forward, paired_injective}
 use Rattle.sharpen.specs.Crease.{edge_kind, is_listed}
 use Rattle.sharpen.specs.Turn.{listed_by, EdgeFits}

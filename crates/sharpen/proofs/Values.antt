@@ -2,7 +2,7 @@
 use Rattle.std.proofs.Common.{ℕ, ◌≡◌, refl, ap, ap₂, List, Ok, Err}
 use lib.Ieee.{Float}
 use Rattle.mesh.specs.Mesh.{Halfedges}
-use Rattle.mesh.specs.Check.{Checked, answer_of}
+use Rattle.questions.specs.Check.{Checked, answer_of}
 use Rattle.sharpen.specs.Crease.{min_radians, is_listed}
 use Rattle.sharpen.specs.Entries.{Entries, entries_in}
 use Rattle.sharpen.specs.Sharpen.{check_lists, creases, crease_tally, Listing, listed_of, sharpen_edges, Values}

@@ -2,7 +2,7 @@
 use Rattle.std.specs.Prelude.{ℕ, ◌*◌, ◌≡◌, List, [], ◌∷◌, ◌++◌, not, filter, flat_map, length, take, drop, replicate, Float}
 use Rattle.std.specs.List.{range_with_len}
 use Rattle.mesh.specs.Mesh.{paired_halfedge, Halfedges}
-use Rattle.mesh.specs.Check.{when_accepted}
+use Rattle.questions.specs.Check.{when_accepted}
 use Rattle.sharpen.specs.Crease.{min_radians, touches_zero, is_listed}
 use Rattle.sharpen.specs.Entries.{Entries}
 use Rattle.sharpen.specs.Sharpen.{check_lists, entries_after}

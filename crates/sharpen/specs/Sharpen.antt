@@ -2,9 +2,9 @@
 use Rattle.std.specs.Prelude.{ℕ, ◌*◌, ◌/◌, ◌≡◌, List, Bool, ◌&&◌, length, Float, Result, Ok, Err}
 use Rattle.common.specs.Count.{count_below}
 use Rattle.mesh.specs.Mesh.{halfedge_stride, Halfedges}
-use Rattle.mesh.specs.Questions.{has_length}
-use Rattle.mesh.specs.Check.{Checked, number_of, place_of, check_mesh, answer_of, when_accepted}
-use Rattle.mesh.specs.declared.Refusal.{Refusal}
+use Rattle.questions.specs.Questions.{has_length}
+use Rattle.questions.specs.Check.{Checked, number_of, place_of, check_mesh, answer_of, when_accepted}
+use Rattle.questions.specs.declared.Refusal.{Refusal}
 use Rattle.sharpen.specs.Crease.{min_radians, is_listed}
 use Rattle.sharpen.specs.Entries.{Entries, entries_in, list_edges}
 use Rattle.sharpen.specs.declared.Listed.{Listed}

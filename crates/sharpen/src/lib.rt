@@ -19,7 +19,7 @@ mod edge;
 
 use crease_lists::CreaseLists;
 use edge::{Rule, edge_kind, is_crease, min_radians};
-use mesh::Refusal;
+use questions::Refusal;
 
 // How many entries the lists have, and the crease tally: how many edges the clean listing names.
 #[derive(Clone, Copy)]
@@ -114,9 +114,9 @@ fn lengths_fit(
 ) -> bool
     ensures { result ≡ lengths_fit (as_halfedges h.now) normals.now halfedges.now smoothness.now n }
 {
-    mesh::has_length(h.len(), n, mesh::HALFEDGE_STRIDE)
-        & mesh::has_length(normals.len(), n / 3, 3)
-        & (mesh::has_length(halfedges.len(), n, 1) & mesh::has_length(smoothness.len(), n, 1))
+    questions::has_length(h.len(), n, mesh::HALFEDGE_STRIDE)
+        & questions::has_length(normals.len(), n / 3, 3)
+        & (questions::has_length(halfedges.len(), n, 1) & questions::has_length(smoothness.len(), n, 1))
 }
 
 // The listing by a rule: what both calls do.
@@ -139,10 +139,10 @@ fn sharpen_by(
     ensures edges { HoldEdges (as_halfedges h.now) smooth halfedges.old smoothness.old (edges_after rule (as_halfedges h.now) normals.now angle halfedges.old smoothness.old n p) (entries_in halfedges.new smoothness.new (entries_of result)) }
     ensures counted { tally_of result ≡ length (edges_after Clean (as_halfedges h.now) normals.now angle halfedges.old smoothness.old n p) }
 {
-    let checked = mesh::check_mesh(h, n, p, lengths_fit(n, h, normals, halfedges, smoothness));
+    let checked = questions::check_mesh(h, n, p, lengths_fit(n, h, normals, halfedges, smoothness));
     // Document 01's form by place: the check's answer is opened by `let .. else`.
     let Ok(()) = checked else {
-        return mesh::refused(checked);
+        return questions::refused(checked);
     };
     let limit = min_radians(angle);
     let lists = CreaseLists {

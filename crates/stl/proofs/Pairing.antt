@@ -13,13 +13,13 @@ use lib.ListN.{length}
 use Rattle.std.specs.Prelude.{Ok, Err}
 use Rattle.std.proofs.lemmas.Bool.{ltb-false}
 use Rattle.mesh.specs.Mesh.{max_points}
-use Rattle.mesh.specs.Questions.{number}
-use Rattle.mesh.specs.Check.{Checked, refused, number_of, cond_checked, asked, each, ◌then◌, answer_of}
-use Rattle.mesh.specs.Lowest.{lowest}
-use Rattle.mesh.specs.declared.Question.{Question}
-use Rattle.mesh.specs.declared.Question.TheVariants.{Lengths, Size, Corners, Pairing}
-use Rattle.mesh.proofs.Lowest.{lowest_found, lowest_before}
-use Rattle.mesh.proofs.Accepted.{then_accepted, each_accepted, accepted_each}
+use Rattle.questions.specs.Questions.{number}
+use Rattle.questions.specs.Check.{Checked, refused, number_of, cond_checked, asked, each, ◌then◌, answer_of}
+use Rattle.common.specs.Lowest.{lowest}
+use Rattle.questions.specs.declared.Question.{Question}
+use Rattle.questions.specs.declared.Question.TheVariants.{Lengths, Size, Corners, Pairing}
+use Rattle.common.proofs.Lowest.{lowest_found, lowest_before}
+use Rattle.questions.proofs.Accepted.{then_accepted, each_accepted, accepted_each}
 use Rattle.stl.specs.File.File.{length_fits, triangle_count, halfedge_count}
 use Rattle.stl.specs.File.Points.{point_count}
 use Rattle.stl.specs.File.Edges.{same_edge, pair_of, is_paired}

@@ -13,10 +13,10 @@ use lib.Dec.{eqb, leb}
 use Rattle.std.specs.Prelude.{Ok}
 use Rattle.std.proofs.lemmas.Bool.{and_parts, and_from, eq-eqb, leb-true, not-true}
 use Rattle.mesh.specs.Mesh.{max_halfedges, max_points, halfedge_stride, number_at, index_of, field, start_vert, end_vert, paired_halfedge, prop_vert, next_halfedge, Halfedges, as_halfedges}
-use Rattle.mesh.specs.Check.{asked, check_mesh, check_rows}
+use Rattle.questions.specs.Check.{asked, check_mesh, check_rows}
 use Rattle.mesh.specs.Sound.{Sound}
-use Rattle.mesh.specs.declared.Question.TheVariants.{Lengths, Size, Corners, Pairing}
-use Rattle.mesh.proofs.Accepted.{then_accepted, asked_accepted, each_accepted, sound_accepted, accepted_rows}
+use Rattle.questions.specs.declared.Question.TheVariants.{Lengths, Size, Corners, Pairing}
+use Rattle.questions.proofs.Accepted.{then_accepted, asked_accepted, each_accepted, sound_accepted, accepted_rows}
 use Rattle.mesh.proofs.Halfedges.{next_below, next_cases}
 use Rattle.little_endian.specs.Filled.{items, filled}
 use Rattle.little_endian.proofs.Filled.{items_length, items_at, filled_items}

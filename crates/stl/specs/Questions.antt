@@ -1,8 +1,8 @@
 -- The questions that are put to a binary STL file and to the lists lent for it, 30, 2, 31, 30 for the points, and 32. s are the file's bytes.
 use Rattle.std.specs.Prelude.{ℕ, ◌+◌, ◌*◌, ◌%◌, List, Bool, not, ◌&&◌, leb, ltb}
 use Rattle.mesh.specs.Mesh.{max_points}
-use Rattle.mesh.specs.Check.{Checked, asked, each, ◌then◌}
-use Rattle.mesh.specs.declared.Question.TheVariants.{Lengths, Size, Corners, Pairing}
+use Rattle.questions.specs.Check.{Checked, asked, each, ◌then◌}
+use Rattle.questions.specs.declared.Question.TheVariants.{Lengths, Size, Corners, Pairing}
 use Rattle.stl.specs.File.File.{triangle_count, halfedge_count, length_fits, corner_at}
 use Rattle.stl.specs.File.Points.{same_point, point_count}
 use Rattle.stl.specs.File.Edges.{is_paired}

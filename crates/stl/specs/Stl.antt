@@ -1,9 +1,9 @@
 -- The reading of binary STL as a public call: its answer, and the lists after it. s are the file's bytes, P, L and A the lists that are lent for points, halfedges and normals.
 use Rattle.std.specs.Prelude.{ℕ, ◌*◌, ◌/◌, ◌≡◌, List, ◌&&◌, length, take, ℤ, Float, Result, Ok, Err, ⊤}
 use Rattle.mesh.specs.Mesh.{halfedge_stride, as_halfedges}
-use Rattle.mesh.specs.Questions.{has_length}
-use Rattle.mesh.specs.Check.{Checked, number_of, place_of, answer_of, when_accepted, check_mesh, check_rows}
-use Rattle.mesh.specs.declared.Refusal.{Refusal}
+use Rattle.questions.specs.Questions.{has_length}
+use Rattle.questions.specs.Check.{Checked, number_of, place_of, answer_of, when_accepted, check_mesh, check_rows}
+use Rattle.questions.specs.declared.Refusal.{Refusal}
 use Rattle.little_endian.specs.Filled.{filled}
 use Rattle.stl.specs.File.File.{triangle_count, halfedge_count, normal_item}
 use Rattle.stl.specs.File.Points.{point_count}

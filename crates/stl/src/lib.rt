@@ -18,7 +18,7 @@ ghost use Rattle.stl.specs.Stl.{halfedges_of, points_of, counts_of, check_lists,
 ghost use Rattle.stl.specs.Pairing.{PairedExactly};
 
 use file::{Corner, File, Triangle};
-use mesh::{Question, Refusal};
+use questions::{Question, Refusal};
 
 // How many halfedges and points the lists have.
 #[derive(Clone, Copy)]
@@ -81,15 +81,15 @@ fn triangle_fits(file: &File<'_>, t: usize) -> bool
 fn check_file(file: &File<'_>, room: bool) -> Result<(), Refusal>
     ensures { result ≡ check_file file.now.bytes.now room }
 {
-    mesh::ask_at(Question::Lengths, 0, room)?;
-    mesh::ask(
+    questions::ask_at(Question::Lengths, 0, room)?;
+    questions::ask(
         Question::Corners,
         file.triangles,
         |t| triangle_fits(file, t),
     )?;
-    mesh::ask_at(Question::Size, 0, points::points_fit(file))?;
+    questions::ask_at(Question::Size, 0, points::points_fit(file))?;
     let unpaired = pairs::lowest_unpaired(file);
-    mesh::ask_at(Question::Pairing, unpaired, unpaired >= 3 * file.triangles)
+    questions::ask_at(Question::Pairing, unpaired, unpaired >= 3 * file.triangles)
 }
 
 // The stored normals, widened.
@@ -143,10 +143,10 @@ pub fn read_stl(
     ensures mesh { IsMesh result points.new halfedges.new normals.new }
     ensures paired { PairedExactly file.now result }
 {
-    let sized = mesh::ask_at(Question::Size, 0, file::length_fits(file));
+    let sized = questions::ask_at(Question::Size, 0, file::length_fits(file));
     // Document 01's form by place: the check's answer is opened by `let .. else`.
     let Ok(()) = sized else {
-        return mesh::refused(sized);
+        return questions::refused(sized);
     };
     let triangles = file::triangle_count(file);
     let file = File {
@@ -158,7 +158,7 @@ pub fn read_stl(
         has_room(&file, points.len(), halfedges.len(), normals.len()),
     );
     let Ok(()) = checked else {
-        return mesh::refused(checked);
+        return questions::refused(checked);
     };
     Ok(write_lists(&file, points, halfedges, normals))
 }

@@ -4,7 +4,7 @@
 
 ghost use Rattle.std.specs.Prelude.{◌≡◌, ◌⊎◌, true, ◌+◌, ◌*◌, ◌<◌, ◌≤◌, length};
 ghost use Rattle.mesh.specs.Mesh.{halfedge_stride};
-ghost use Rattle.mesh.specs.Lowest.{lowest};
+ghost use Rattle.common.specs.Lowest.{lowest};
 ghost use Rattle.little_endian.specs.Filled.{filled};
 ghost use Rattle.stl.specs.File.Edges.{is_paired};
 ghost use Rattle.stl.specs.File.Lists.{halfedge_item};

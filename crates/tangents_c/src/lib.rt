@@ -13,7 +13,7 @@ ghost use Rattle.distribute.specs.Distribute.{distribute_tangents, scratch_after
 ghost use Rattle.distribute.specs.Distribute.{tangents_after as spread_after};
 ghost use Rattle.distribute.specs.Preview.Preview.{preview_tangents, bytes_after};
 ghost use Rattle.mesh.specs.Mesh.{as_halfedges};
-ghost use Rattle.mesh.specs.Check.{number_of, place_of, when_accepted};
+ghost use Rattle.questions.specs.Check.{number_of, place_of, when_accepted};
 ghost use Rattle.create.specs.Sharp.Entries.{entries_of};
 ghost use Rattle.create_shared.specs.Answer.{checked_of};
 ghost use Rattle.create.specs.Create.{create_answer, tangents_after as created_tangents};
@@ -27,7 +27,7 @@ mod controls;
 
 use distribute::preview;
 use distribute::Counts;
-use mesh::Refusal;
+use questions::Refusal;
 use sharpen::Listed;
 use stl::MeshCounts;
 
@@ -49,8 +49,8 @@ fn put_answer<T: Copy>(
 )
     ensures { answer.new ≡ put answer.old (number_of answered) (place_of answered) first second }
 {
-    let number = mesh::number_of(answered);
-    let place = mesh::place_of(answered);
+    let number = questions::number_of(answered);
+    let place = questions::place_of(answered);
     put_at(answer, 0, number);
     put_at(answer, 1, place);
     put_at(answer, 2, first);

@@ -14,10 +14,10 @@ use Rattle.common.specs.Fold.{fold_to}
 use Rattle.mesh.specs.Sound.{Sound}
 use Rattle.std.specs.Prelude.{Ok, Err}
 use Rattle.std.specs.List.{list_all, range_with_len}
-use Rattle.mesh.specs.Check.{Checked, check_mesh, answer_of}
+use Rattle.questions.specs.Check.{Checked, check_mesh, answer_of}
 use Rattle.std.proofs.lemmas.Bool.{and_parts, both_ways}
 use Rattle.common.proofs.Fold.{fold_next}
-use Rattle.mesh.proofs.Accepted.{accepted}
+use Rattle.questions.proofs.Accepted.{accepted}
 use Rattle.mesh.proofs.Halfedges.{next_cases, prev_is}
 use Rattle.smoothing.specs.Lists.{is_marked_inside_quad}
 use Rattle.validate.specs.Validate.{no_marked_neighbor, valid_at, valid_so_far, lengths_fit, Validity, Values}

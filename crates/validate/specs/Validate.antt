@@ -2,10 +2,10 @@
 use Rattle.std.specs.Prelude.{ℕ, ◌≡◌, List, Bool, true, false, cond, not, ◌&&◌, ◌||◌, length, Float, Result, Ok, Err}
 use Rattle.std.specs.Bool.{beq}
 use Rattle.mesh.specs.Mesh.{halfedge_stride, paired_halfedge, next_halfedge, prev_halfedge, Halfedges}
-use Rattle.mesh.specs.Questions.{has_length}
-use Rattle.mesh.specs.Check.{Checked, number_of, place_of, check_mesh, answer_of, when_accepted}
+use Rattle.questions.specs.Questions.{has_length}
+use Rattle.questions.specs.Check.{Checked, number_of, place_of, check_mesh, answer_of, when_accepted}
 use Rattle.common.specs.Fold.{fold_to}
-use Rattle.mesh.specs.declared.Refusal.{Refusal}
+use Rattle.questions.specs.declared.Refusal.{Refusal}
 use Rattle.smoothing.specs.Lists.{is_marked_inside_quad}
 
 -- ---- the marks

@@ -4,7 +4,7 @@
 
 ghost use Rattle.std.specs.Prelude.{◌≡◌, true, ◌+◌, ◌*◌, ◌<◌};
 ghost use Rattle.mesh.specs.Mesh.{halfedge_stride, as_halfedges};
-ghost use Rattle.mesh.specs.Check.{check_mesh};
+ghost use Rattle.questions.specs.Check.{check_mesh};
 ghost use Rattle.common.specs.Fold.{fold_to};
 ghost use Rattle.mesh.specs.Sound.{Sound};
 ghost use Rattle.validate.specs.Validate.{valid_so_far, valid_tangents, lengths_fit, valid_answer, value_of, Values};
@@ -13,7 +13,7 @@ ghost use Rattle.validate.specs.Marks.{mark_valid, triangle_valid};
 mod mark_lists;
 
 use mark_lists::MarkLists;
-use mesh::Refusal;
+use questions::Refusal;
 
 // The value of an answer: 1 for yes, 0 for no, and 0 where it is refused.
 pub fn value_of(validity: Result<bool, Refusal>) -> usize
@@ -24,7 +24,7 @@ pub fn value_of(validity: Result<bool, Refusal>) -> usize
 
 // Does the marked halfedge e pass? Neither of its neighbours is marked, and its pair is. This function and the next one ask for
 // their own place (`e < n`): the place differs from call to call, so no struct of the lists can hold it.
-#[tactic(auto, using(mesh::proofs::Accepted::inside))]
+#[tactic(auto, using(mesh::proofs::Inside::inside))]
 fn mark_valid(lists: &MarkLists, e: usize, next: bool, prev: bool) -> bool
     requires { e < lists.now.n }
     ensures { result ≡ mark_valid (as_halfedges lists.now.h.now) lists.now.t.now e next prev }
@@ -74,7 +74,7 @@ fn marks_valid(n: usize, p: usize, h: &[i32], t: &[f64]) -> bool
     requires { Sound (as_halfedges h.now) n p × ((as_halfedges h.now).numbers ≡ n * halfedge_stride) }
     ensures { result ≡ valid_tangents (as_halfedges h.now) t.now n }
 {
-    if !mesh::has_length(t.len(), n, 4) {
+    if !questions::has_length(t.len(), n, 4) {
         return true;
     }
     all_valid(&MarkLists { n, p, h, t })
@@ -84,7 +84,7 @@ fn marks_valid(n: usize, p: usize, h: &[i32], t: &[f64]) -> bool
 fn lengths_fit(n: usize, p: usize, h: &[i32], pos: &[f64]) -> bool
     ensures { result ≡ lengths_fit (as_halfedges h.now) pos.now n p }
 {
-    mesh::has_length(h.len(), n, mesh::HALFEDGE_STRIDE) & mesh::has_length(pos.len(), p, 3)
+    questions::has_length(h.len(), n, mesh::HALFEDGE_STRIDE) & questions::has_length(pos.len(), p, 3)
 }
 
 // The public call, for lists of any length and content. Of the positions only the length is asked about.
@@ -100,10 +100,10 @@ pub fn valid_tangents(
     ensures answer { result ≡ valid_answer (as_halfedges h.now) pos.now t.now n p }
     ensures values { Values (check_mesh (as_halfedges h.now) n p (lengths_fit (as_halfedges h.now) pos.now n p)) (valid_tangents (as_halfedges h.now) t.now n) result }
 {
-    let checked = mesh::check_mesh(h, n, p, lengths_fit(n, p, h, pos));
+    let checked = questions::check_mesh(h, n, p, lengths_fit(n, p, h, pos));
     // Document 01's form by place: the check's answer is opened by `let .. else`.
     let Ok(()) = checked else {
-        return mesh::refused(checked);
+        return questions::refused(checked);
     };
     Ok(marks_valid(n, p, h, t))
 }

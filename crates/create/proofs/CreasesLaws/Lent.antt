@@ -11,9 +11,9 @@ use borrow.Author.Tests.{eq-eqb, eqb-true}
 use Rattle.std.proofs.lemmas.Bool.{and_parts, and_from}
 use Rattle.mesh.specs.Mesh.{halfedge_stride, as_halfedges, Halfedges}
 use Rattle.mesh.specs.Sound.{Sound}
-use Rattle.mesh.proofs.Accepted.{inside}
+use Rattle.mesh.proofs.Inside.{inside}
 use Rattle.create.specs.Edges.Lent.{SidesIn}
-use Rattle.create_shared.specs.Faces.{vert_halfedge}
+use Rattle.create_shared.specs.Verts.{vert_halfedge}
 use Rattle.create.specs.Creases.Linked.{creases_at, Linked, is_linked, LinkedAll, Lists}
 use Rattle.create.specs.declared.creases.linked_creases.LinkedCreases.{LinkedCreases}
 

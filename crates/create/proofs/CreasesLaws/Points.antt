@@ -7,7 +7,7 @@ use lib.ListN.{length, get_or, drop}
 use lib.Ieee.{Float}
 use Rattle.mesh.specs.Mesh.{start_vert, as_halfedges, Halfedges}
 use Rattle.mesh.specs.Sound.{Sound}
-use Rattle.create_shared.specs.Faces.{vert_halfedge}
+use Rattle.create_shared.specs.Verts.{vert_halfedge}
 use Rattle.create_shared.proofs.Verts.{vert_halfedge_within}
 use Rattle.create.specs.declared.creases.Crease.TheVariants.{NoCrease, OneEnd, Through, Meeting}
 use Rattle.create.specs.declared.creases.Sums.{Sums}

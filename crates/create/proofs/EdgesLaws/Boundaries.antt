@@ -9,7 +9,7 @@ use lib.Ieee.{Float, of_bits}
 use Rattle.float.specs.Ops.{zero as 0f}
 use Rattle.mesh.specs.Mesh.{paired_halfedge, same_face, Halfedges}
 use Rattle.common.specs.Fold.{fold_to}
-use Rattle.mesh.specs.Questions.{sign_clear}
+use Rattle.questions.specs.Questions.{sign_clear}
 use Rattle.create.specs.declared.sharp.Smoothness.{Smoothness}
 use Rattle.create.specs.Sharp.EntrySmoothness.{EntriesIn, add_entry, add_smoothness}
 use Rattle.create.specs.Edges.Edges.{side_of, push, push_boundary, push_boundaries, sharpened_edges}

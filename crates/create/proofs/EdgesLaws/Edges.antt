@@ -16,7 +16,7 @@ use Rattle.float.specs.Ops.{one}
 use Rattle.float.specs.F64.{min_of}
 use Rattle.mesh.specs.Mesh.{paired_halfedge, is_forward, Halfedges}
 use Rattle.std.proofs.lemmas.Bool.{both_ways}
-use Rattle.mesh.specs.Questions.{sign_clear}
+use Rattle.questions.specs.Questions.{sign_clear}
 use Rattle.mesh.specs.Sound.{Sound}
 use Rattle.mesh.proofs.Pairs.{one_forward}
 use Rattle.create.specs.declared.sharp.Smoothness.{Smoothness}

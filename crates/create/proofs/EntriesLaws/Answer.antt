@@ -2,7 +2,7 @@
 use Rattle.std.proofs.Common.{ℕ, Bool, ◌≡◌, sym, ap, ◌∙◌, ◌&&◌, List, length, ℤ, Float}
 use Rattle.std.proofs.lemmas.List.{length-map}
 use Rattle.mesh.specs.Mesh.{Halfedges}
-use Rattle.mesh.specs.Check.{Checked, check_mesh, check_refs, check_entries}
+use Rattle.questions.specs.Check.{Checked, check_mesh, check_refs, check_entries}
 use Rattle.create.specs.Sharp.Entries.{halfedges_of, smoothness_of}
 use Rattle.create.specs.declared.sharp.Smoothness.{Smoothness}
 use Rattle.create.specs.Create.{lists_fit, scratch_fits, check_create}

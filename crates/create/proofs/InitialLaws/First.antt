@@ -11,9 +11,9 @@ use Rattle.float.specs.Ops as Ops
 use Rattle.mesh.specs.Mesh.{as_halfedges, start_vert, paired_halfedge, is_forward, Halfedges}
 use Rattle.common.specs.Fold.{fold_to}
 use Rattle.common.specs.Count.{sum, count_below}
-use Rattle.create_shared.specs.declared.FlatFace.{FlatFace}
-use Rattle.create_shared.specs.Faces.{flat_faces, is_flat, vert_flat_face}
-use Rattle.create_shared.proofs.Verts.{vert_face_in}
+use Rattle.smoothing.specs.declared.faces.FlatFace.{FlatFace}
+use Rattle.smoothing.specs.Faces.{flat_faces, is_flat, vert_flat_face}
+use Rattle.smoothing.proofs.VertFaces.{vert_face_in}
 use Rattle.common.proofs.Fold.{fold_turn, fold_same}
 use Rattle.common.proofs.Sums.{sum_turn, sum_mono}
 use Rattle.smoothing.specs.Lists.{put_tangent, weight_at}

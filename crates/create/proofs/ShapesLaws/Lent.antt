@@ -13,7 +13,7 @@ use Rattle.create.specs.declared.creases.Crease.TheVariants.{NoCrease, OneEnd, T
 use Rattle.create.specs.Creases.Creases.{crease_of, first_halfedge}
 use Rattle.create.specs.Creases.Linked.{pairs_at, first_crease}
 use Rattle.create.proofs.CreasesLaws.Points.{none_first, through_in, meeting_in, meeting_first}
-use Rattle.create_shared.specs.Faces.{vert_halfedge}
+use Rattle.create_shared.specs.Verts.{vert_halfedge}
 use Rattle.create.specs.Shapes.Shapes.{fix_halfedge, shape_meeting, shape_crease, shape_vert}
 use Rattle.create.specs.declared.shapes.shape_lists.ShapeLists.{ShapeLists}
 use Rattle.create.specs.Shapes.Lent.{CreaseIn, mesh_of}

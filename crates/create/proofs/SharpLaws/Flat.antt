@@ -6,7 +6,7 @@ use mathlib.Core.Bool.{true}
 use mathlib.Core.List.{List, [], ◌∷◌}
 use lib.ListN.{length, get_or, length-map}
 use lib.Ieee.{Float, nan}
-use Rattle.mesh.specs.Questions.{sign_clear}
+use Rattle.questions.specs.Questions.{sign_clear}
 use Rattle.create.specs.Sharp.Entries.{halfedges_of, smoothness_of, entries_of}
 use Rattle.create.specs.Sharp.EntrySmoothness.{EntriesIn}
 use Rattle.create.specs.declared.sharp.Smoothness.{Smoothness}

@@ -11,7 +11,7 @@ use Rattle.common.proofs.Count.{count_within}
 use Rattle.mesh.specs.Mesh.{Halfedges}
 use Rattle.mesh.specs.Sound.{Sound}
 use Rattle.smoothing.specs.Edges.{is_inside_quad}
-use Rattle.create_shared.specs.Faces.{flat_faces, is_flat}
+use Rattle.smoothing.specs.Faces.{flat_faces, is_flat}
 use Rattle.create.specs.Edges.Smoothness.{smoothness}
 use Rattle.create.specs.Creases.Linked.{pairs_at}
 use Rattle.create.specs.Initial.First.{first_tangents, first_directionless, firsts_directionless}

@@ -8,7 +8,7 @@ use lib.IntN.{ℤ}
 use lib.Ieee.{Float}
 use Rattle.mesh.specs.Mesh.{as_halfedges}
 use Rattle.std.proofs.Common.{Ok, rules}
-use Rattle.mesh.specs.Check.{Checked}
+use Rattle.questions.specs.Check.{Checked}
 use Rattle.create_shared.proofs.Answered.{values_of}
 use Rattle.create.specs.Sharp.Entries.{entries_of}
 use Rattle.create.specs.Sharp.EntrySmoothness.{EntriesIn}

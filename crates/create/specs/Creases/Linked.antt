@@ -2,7 +2,7 @@
 use Rattle.std.specs.Prelude.{ℕ, zero, suc, ◌+◌, ◌*◌, ◌-◌, ◌<◌, ◌≡◌, List, [], ◌∷◌, map, Bool, cond, ◌&&◌, length, get_or, eqb, leb, Float}
 use Rattle.mesh.specs.Mesh.{halfedge_stride, start_vert, paired_halfedge, Halfedges}
 use Rattle.mesh.specs.Sound.{Sound}
-use Rattle.create_shared.specs.Faces.{vert_halfedge}
+use Rattle.create_shared.specs.Verts.{vert_halfedge}
 use Rattle.create.specs.Edges.Edges.{Pair}
 use Rattle.create.specs.Edges.Smoothness.{is_crease, pair_at}
 

@@ -1,7 +1,7 @@
 -- Making from sharp edges as a public call, with the sharp entries E as a list of structs. The other letters are those of `create`.
 use Rattle.std.specs.Prelude.{ℕ, List, Bool, ℤ, Float}
 use Rattle.mesh.specs.Mesh.{Halfedges}
-use Rattle.mesh.specs.Check.{Checked, answer_of}
+use Rattle.questions.specs.Check.{Checked, answer_of}
 use Rattle.create_shared.specs.Answer.{Making}
 use Rattle.create.specs.Sharp.Entries.{halfedges_of, smoothness_of}
 use Rattle.create.specs.declared.sharp.Smoothness.{Smoothness}

@@ -1,8 +1,8 @@
 -- The flat faces at each point by the scratch list W that holds them, and which of them are in reach. Only contracts inside a call name these.
 use Rattle.std.specs.Prelude.{ℕ, ◌*◌, ◌+◌, ◌≤◌, ◌≡◌, List, get_or}
-use Rattle.create_shared.specs.declared.FlatFace.{FlatFace}
-use Rattle.create_shared.specs.declared.FlatFace.TheVariants.{OneFace}
-use Rattle.create_shared.specs.Lent.{face_of}
+use Rattle.smoothing.specs.declared.faces.FlatFace.{FlatFace}
+use Rattle.smoothing.specs.declared.faces.FlatFace.TheVariants.{OneFace}
+use Rattle.smoothing.specs.Lent.{face_of}
 
 -- those at point v
 abbrev pub face_at : List ℕ → ℕ → FlatFace

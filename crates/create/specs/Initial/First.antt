@@ -10,9 +10,9 @@ use Rattle.common.specs.Count.{count_below}
 use Rattle.smoothing.specs.Lists.{point_at, put_tangent}
 use Rattle.smoothing.specs.Directions.{directionless}
 use Rattle.smoothing.specs.Edges.{edge_vec, tangent_from_normal}
-use Rattle.create_shared.specs.declared.FlatFace.{FlatFace}
-use Rattle.create_shared.specs.declared.FlatFace.TheVariants.{NoFace, OneFace, MoreFaces}
-use Rattle.create_shared.specs.Faces.{flat_faces, is_flat, vert_flat_face}
+use Rattle.smoothing.specs.declared.faces.FlatFace.{FlatFace}
+use Rattle.smoothing.specs.declared.faces.FlatFace.TheVariants.{NoFace, OneFace, MoreFaces}
+use Rattle.smoothing.specs.Faces.{flat_faces, is_flat, vert_flat_face}
 
 -- ---- one halfedge
 

@@ -1,7 +1,7 @@
 -- What a case asks, and what the definitions say at the lists of a call, `ShapeLists`. Only contracts of functions inside the making cite these.
 use Rattle.std.specs.Prelude.{ℕ, ◌<◌, length}
 use Rattle.mesh.specs.Mesh.{Halfedges, as_halfedges}
-use Rattle.create_shared.specs.Faces.{is_flat}
+use Rattle.smoothing.specs.Faces.{is_flat}
 use Rattle.create_shared.specs.Makings.{Tangents}
 use Rattle.create.specs.declared.creases.Crease.{Crease}
 use Rattle.create.specs.declared.creases.Crease.TheVariants.{NoCrease, OneEnd, Through, Meeting}

@@ -3,7 +3,7 @@ use Rattle.std.specs.Prelude.{ℕ, List, Bool, cond, set, ltb, Float}
 use Rattle.common.specs.Fold.{fold_to}
 use Rattle.common.specs.Count.{sum}
 use Rattle.mesh.specs.Mesh.{Halfedges}
-use Rattle.create_shared.specs.Faces.{vert_halfedge}
+use Rattle.create_shared.specs.Verts.{vert_halfedge}
 use Rattle.create.specs.Edges.Edges.{Pair}
 use Rattle.create.specs.declared.creases.Crease.{Crease}
 use Rattle.create.specs.declared.creases.Crease.TheVariants.{NoCrease, OneEnd, Through, Meeting}

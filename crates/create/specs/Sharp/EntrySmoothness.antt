@@ -5,7 +5,7 @@ use Rattle.std.specs.Float.{nan}
 use Rattle.std.specs.Float.Ieee.{le}
 use Rattle.float.specs.Ops.{one}
 use Rattle.float.specs.F64.{min_of}
-use Rattle.mesh.specs.Questions.{sign_clear}
+use Rattle.questions.specs.Questions.{sign_clear}
 use Rattle.create.specs.Sharp.Entries.{halfedges_of, smoothness_of}
 use Rattle.create.specs.declared.sharp.Smoothness.{Smoothness}
 

@@ -2,7 +2,7 @@
 use Rattle.std.specs.Prelude.{ℕ, ◌+◌, List, Bool, ℤ, Float}
 use Rattle.mesh.specs.Mesh.{Halfedges}
 use Rattle.smoothing.specs.Edges.{is_inside_quad}
-use Rattle.create_shared.specs.Faces.{flat_faces, is_flat}
+use Rattle.smoothing.specs.Faces.{flat_faces, is_flat}
 use Rattle.create.specs.declared.sharp.Smoothness.{Smoothness}
 use Rattle.create.specs.Edges.Edges.{Pair, sharpened_edges, edges_of}
 use Rattle.create.specs.Creases.Creases.{vert_tangents}

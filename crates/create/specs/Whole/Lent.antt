@@ -1,7 +1,7 @@
 -- What the lists must be for a call inside `create_tangents`, and the pairs of each point by the scratch list that holds the smoothness of the caller's entries. Only contracts inside a call name these.
 use Rattle.std.specs.Prelude.{ℕ, ◌*◌, ◌≡◌, List, length, ℤ, Float}
 use Rattle.mesh.specs.Mesh.{Halfedges}
-use Rattle.create_shared.specs.Faces.{flat_faces, is_flat}
+use Rattle.smoothing.specs.Faces.{flat_faces, is_flat}
 use Rattle.create.specs.Edges.Edges.{Pair}
 use Rattle.create.specs.Edges.Smoothness.{smoothness}
 use Rattle.create.specs.Creases.Linked.{pairs_at}

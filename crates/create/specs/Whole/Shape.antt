@@ -1,7 +1,7 @@
 -- `create_tangents` up to straightening and spreading. H are the halfedges, R the face references, P the positions, N the point normals, A the face normals, `inside` is `is_inside_quad`, `vert` is the map `vert_tangents`.
 use Rattle.std.specs.Prelude.{ℕ, List, Bool, replicate, ℤ, Float}
 use Rattle.mesh.specs.Mesh.{Halfedges}
-use Rattle.create_shared.specs.Faces.{flat_faces, is_flat}
+use Rattle.smoothing.specs.Faces.{flat_faces, is_flat}
 use Rattle.create.specs.Edges.Edges.{Pair}
 use Rattle.create.specs.Initial.First.{first_tangents}
 use Rattle.create_shared.specs.Makings.{Tangents, tangents_of}

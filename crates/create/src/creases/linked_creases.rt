@@ -2,7 +2,7 @@
 
 ghost use Rattle.std.specs.Prelude.{ℕ, ◌≡◌, ◌<◌, true, length, get_or};
 ghost use Rattle.mesh.specs.Mesh.{as_halfedges};
-ghost use Rattle.create_shared.specs.Faces.{vert_halfedge};
+ghost use Rattle.create_shared.specs.Verts.{vert_halfedge};
 ghost use Rattle.create.specs.Creases.Linked.{creases_at, is_linked, Lists};
 
 // The smoothness of each of n halfedges, and the creases of each point, as `link_creases` leaves them: `at` has the number of a

@@ -2,7 +2,7 @@
 
 ghost use Rattle.std.specs.Prelude.{length};
 ghost use Rattle.mesh.specs.Mesh.{as_halfedges};
-ghost use Rattle.create_shared.specs.Lent.{FlatIn};
+ghost use Rattle.smoothing.specs.Lent.{FlatIn};
 
 // The halfedges and the face references of a mesh, and the flags of its triangles, in a list with a place for each halfedge.
 #[derive(Clone, Copy)]

@@ -20,7 +20,7 @@ use Rattle.cycles.specs.Cycles.{next_around, vertex_cycle, vertex_cycle_back}
 use Rattle.cycles.proofs.Around.{prev_permutes, cycle_two}
 use Rattle.cycles.proofs.Orbits.{cycle_within}
 use Rattle.cycles.proofs.Starts.{starts_at, cycle_starts, cycle_starts_back, points_bound}
-use Rattle.create_shared.specs.Faces.{vert_halfedge}
+use Rattle.create_shared.specs.Verts.{vert_halfedge}
 use Rattle.create_shared.specs.Makings.{Tangents}
 use Rattle.create_shared.proofs.Verts.{vert_halfedge_starts}
 use Rattle.create_from_normals.specs.declared.state.StartHalfedge.{StartHalfedge}

@@ -15,7 +15,7 @@ use Rattle.mesh.specs.Sound.{Sound}
 use Rattle.smoothing.specs.Lists.{point_at}
 use Rattle.cycles.specs.Cycles.{next_around, vertex_cycle, vertex_cycle_back}
 use Rattle.cycles.proofs.Around.{next_below, prev_below}
-use Rattle.create_shared.specs.Faces.{vert_halfedge}
+use Rattle.create_shared.specs.Verts.{vert_halfedge}
 use Rattle.create_shared.specs.Makings.{Tangents, tangents_of}
 use Rattle.create_from_normals.specs.declared.state.StartHalfedge.{StartHalfedge}
 use Rattle.create_from_normals.specs.declared.state.StartHalfedge.TheVariants.{NoneMissing, SomeMissing, StartAt}

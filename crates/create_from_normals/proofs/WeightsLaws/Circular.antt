@@ -16,7 +16,7 @@ use Rattle.float.specs.Ops.{◌⊕◌, ◌⊖◌, ◌⊗◌, ◌⊘◌, half, on
 use Rattle.float.specs.F64.{max_of}
 use Rattle.float.proofs.Signs.{round_neg}
 use Rattle.linalg.specs.declared.Vec3.{Vec3}
-use Rattle.mesh.specs.Questions.{sign_clear}
+use Rattle.questions.specs.Questions.{sign_clear}
 use Rattle.smoothing.specs.Directions.{circular_tangent}
 
 -- ---- the sign of a rounded number

@@ -20,7 +20,7 @@ use Rattle.cycles.specs.Cycles.{next_around, vertex_cycle, vertex_cycle_back}
 use Rattle.cycles.proofs.Paths.{iter_zero, iter_suc}
 use Rattle.cycles.proofs.Orbits.{cycle_reached, cycle_all, cycle_below, cycles_equal}
 use Rattle.cycles.proofs.Around.{next_permutes, cycle_ways}
-use Rattle.create_shared.specs.Faces.{vert_halfedge}
+use Rattle.create_shared.specs.Verts.{vert_halfedge}
 use Rattle.create_shared.specs.Makings.{Tangents, tangents_of}
 use Rattle.create_from_normals.specs.declared.state.StartHalfedge.{StartHalfedge}
 use Rattle.create_from_normals.specs.declared.state.StartHalfedge.TheVariants.{NoneMissing, SomeMissing, StartAt}

@@ -12,7 +12,7 @@ use lib.Ieee.{Float, nan, eq, neg, of_bits}
 use Rattle.float.specs.Ops.{zero}
 use Rattle.linalg.specs.declared.Vec3.{Vec3}
 use Rattle.mesh.specs.Mesh.{Halfedges}
-use Rattle.mesh.specs.Questions.{sign_clear}
+use Rattle.questions.specs.Questions.{sign_clear}
 use Rattle.mesh.specs.Sound.{Sound}
 use Rattle.common.proofs.Fold.{fold_keeps}
 use Rattle.smoothing.specs.Lists.{weight_at}

@@ -8,7 +8,7 @@ use Rattle.mesh.specs.Mesh.{Halfedges}
 use Rattle.smoothing.specs.Lists.{point_at}
 use Rattle.create_shared.specs.Makings.{Tangents, tangents_of}
 use Rattle.cycles.specs.Cycles.{next_around, vertex_cycle, vertex_cycle_back}
-use Rattle.create_shared.specs.Faces.{vert_halfedge}
+use Rattle.create_shared.specs.Verts.{vert_halfedge}
 use Rattle.create_from_normals.specs.declared.state.StartHalfedge.{StartHalfedge}
 use Rattle.create_from_normals.specs.declared.state.StartHalfedge.TheVariants.{NoneMissing, SomeMissing, StartAt}
 use Rattle.create_from_normals.specs.State.State.{is_zero, some_missing, start_state}

@@ -3,7 +3,7 @@ use Rattle.std.specs.Prelude.{ℕ, ◌<◌, ◌≡◌, ◌⊎◌, List, Bool, tr
 use Rattle.float.specs.Ops.{zero}
 use Rattle.linalg.specs.declared.Vec3.{Vec3}
 use Rattle.mesh.specs.Mesh.{Halfedges}
-use Rattle.mesh.specs.Questions.{sign_clear}
+use Rattle.questions.specs.Questions.{sign_clear}
 use Rattle.mesh.specs.Sound.{Sound}
 use Rattle.smoothing.specs.Directions.{circular_tangent}
 use Rattle.smoothing.specs.Lists.{weight_at}

@@ -2,7 +2,7 @@
 
 ghost use Rattle.std.specs.Prelude.{ℕ, ◌≡◌, ◌<◌, length, get_or};
 ghost use Rattle.mesh.specs.Mesh.{as_halfedges};
-ghost use Rattle.create_shared.specs.Faces.{vert_halfedge};
+ghost use Rattle.create_shared.specs.Verts.{vert_halfedge};
 ghost use Rattle.create_from_normals.specs.State.State.{RowIn};
 ghost use Rattle.create_from_normals.specs.State.Units.{UnitsIn};
 

@@ -10,7 +10,7 @@ use Rattle.mesh.specs.Sound.{Sound}
 use native.Mathlib.Omega.{arith}
 use Rattle.std.proofs.lemmas.Grind.{common_steps}
 use Rattle.std.specs.Prelude.{Ok}
-use Rattle.mesh.proofs.Accepted.{accepted, flags_accepted}
+use Rattle.questions.proofs.Accepted.{accepted, flags_accepted}
 use Rattle.distribute.specs.Distribute.{lists_fit}
 use Rattle.distribute.proofs.Accepted.{Read, read_of}
 use Rattle.distribute.specs.Preview.Preview.{lengths_fit, check_lists}

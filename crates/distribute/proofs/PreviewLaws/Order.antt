@@ -7,8 +7,8 @@ use Prim.Native.Nat.{ℕ, ◌<◌}
 use lib.ListN.{length, get_or}
 use lib.Ieee.{Float}
 use Rattle.mesh.specs.Mesh.{Halfedges}
-use Rattle.mesh.specs.Questions.{has_length}
-use Rattle.mesh.specs.Check.{check_mesh, check_flags, answer_of}
+use Rattle.questions.specs.Questions.{has_length}
+use Rattle.questions.specs.Check.{check_mesh, check_flags, answer_of}
 use Rattle.cycles.specs.Count.{count, ◌∈◌}
 use Rattle.cycles.proofs.Count.{zero_or_more}
 use Rattle.distribute.specs.Spread.Steps.{Steps, Lawful}

@@ -1,8 +1,8 @@
 -- Document 02's request 2, the preview of spreading as a public call: the answer of spreading, and for each halfedge a byte that says whether spreading a copy would turn it. Letters as in crates/distribute/specs/Distribute.antt; Y is the list of bytes.
 use Rattle.std.specs.Prelude.{ℕ, ◌<◌, ◌≡◌, List, Bool, ◌&&◌, length, get_or, Float, Ok}
 use Rattle.mesh.specs.Mesh.{Halfedges}
-use Rattle.mesh.specs.Questions.{has_length}
-use Rattle.mesh.specs.Check.{Checked, check_mesh, check_flags, answer_of, when_accepted}
+use Rattle.questions.specs.Questions.{has_length}
+use Rattle.questions.specs.Check.{Checked, check_mesh, check_flags, answer_of, when_accepted}
 use Rattle.distribute.specs.Spread.Steps.{Steps}
 use Rattle.distribute.specs.Spread.Spread.{spread, pass}
 use Rattle.distribute.specs.Spread.Order.{NamesFixed, WasTurned, OrderFree}

@@ -6,7 +6,7 @@ use lib.ListN.{length}
 use lib.Ieee.{Float}
 use Rattle.std.specs.Prelude.{Ok, Err}
 use Rattle.mesh.specs.Mesh.{Halfedges}
-use Rattle.mesh.specs.Check.{Checked}
+use Rattle.questions.specs.Check.{Checked}
 use Rattle.linearize.specs.Linearize.{linearize_answer}
 use Rattle.validate.specs.Validate.{Validity, valid_answer}
 use Rattle.distribute.specs.Distribute.{Spreading, distribute_tangents}

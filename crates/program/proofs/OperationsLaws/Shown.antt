@@ -13,7 +13,7 @@ use Rattle.program.specs.declared.lines.Output.{Output}
 use Rattle.program.specs.declared.lines.Output.TheVariants.{Tangents, Spread, Valid, Refused}
 use Rattle.std.specs.Prelude.{Result}
 use Rattle.mesh.specs.Mesh.{Halfedges}
-use Rattle.mesh.specs.declared.Refusal.{Refusal}
+use Rattle.questions.specs.declared.Refusal.{Refusal}
 use Rattle.distribute.specs.Distribute.{check_lists}
 use Rattle.program.specs.Operations.Operations.{Shows}
 

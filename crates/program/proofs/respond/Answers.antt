@@ -1,7 +1,7 @@
 -- `program::respond` meets its contract: an accepted input is operated on, and a refusal is the answer. Assumes nothing.
 use Rattle.std.proofs.Common.{rules, ℕ, ◌≡◌, List, length, Result, Err, arith}
 use Rattle.std.proofs.lemmas.Grind.{common_steps}
-use Rattle.mesh.specs.declared.Refusal.{Refusal}
+use Rattle.questions.specs.declared.Refusal.{Refusal}
 use Rattle.records.specs.Lists.{Lists, read_answer, read_lists}
 use Rattle.records.specs.declared.Input.{Input}
 use Rattle.program.specs.Program.{Room}

@@ -2,8 +2,8 @@
 use Rattle.std.specs.Prelude.{ℕ, zero, suc, ◌+◌, ◌*◌, Bool, cond, ◌&&◌, List, [], ◌++◌, length, get_or, leb, Float, Result, Ok, Err}
 use Rattle.std.specs.Float.{nan}
 use Rattle.float.specs.F64.{bits_of}
-use Rattle.mesh.specs.Questions.{number as question_number}
-use Rattle.mesh.specs.declared.Refusal.{Refusal}
+use Rattle.questions.specs.Questions.{number as question_number}
+use Rattle.questions.specs.declared.Refusal.{Refusal}
 use Rattle.program.specs.Lines.Text.{ascii, decimal, hex}
 use Rattle.program.specs.declared.lines.Output.{Output}
 use Rattle.program.specs.declared.lines.Output.TheVariants.{Tangents, Spread, Valid, Refused}

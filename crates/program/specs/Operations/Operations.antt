@@ -2,8 +2,8 @@
 use Rattle.std.specs.Prelude.{ℕ, ◌*◌, ◌≤◌, ◌≡◌, List, ◌++◌, replicate, drop, Float, Result, Ok, Err}
 use Rattle.float.specs.Ops.{zero}
 use Rattle.mesh.specs.Mesh.{halfedge_stride, Halfedges}
-use Rattle.mesh.specs.Check.{Checked, answer_of, when_accepted}
-use Rattle.mesh.specs.declared.Refusal.{Refusal}
+use Rattle.questions.specs.Check.{Checked, answer_of, when_accepted}
+use Rattle.questions.specs.declared.Refusal.{Refusal}
 use Rattle.linearize.specs.Linearize.{linearize_answer, tangents_after as straightened}
 use Rattle.validate.specs.Validate.{Validity, valid_answer}
 use Rattle.distribute.specs.Distribute.{Spreading, check_lists, distribute_tangents, tangents_after as spread}

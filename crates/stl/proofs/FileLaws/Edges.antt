@@ -11,8 +11,8 @@ use Rattle.std.proofs.lemmas.Bool.{and_parts, and_from, eqb-true, eqb-false, eq-
 use Rattle.common.specs.Count.{count_below}
 use Rattle.common.proofs.Count.{count_one, count_only}
 use Rattle.mesh.specs.Mesh.{next_halfedge}
-use Rattle.mesh.specs.Lowest.{lowest}
-use Rattle.mesh.proofs.Lowest.{lowest_within, lowest_found, lowest_least}
+use Rattle.common.specs.Lowest.{lowest}
+use Rattle.common.proofs.Lowest.{lowest_within, lowest_found, lowest_least}
 use Rattle.stl.specs.File.File.{halfedge_count, corner_at}
 use Rattle.stl.specs.File.Points.{same_point}
 use Rattle.stl.specs.File.Edges.{same_edge, is_reverse, pair_of, is_paired}

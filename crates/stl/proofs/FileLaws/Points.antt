@@ -10,7 +10,7 @@ use lib.Dec.{eqb}
 use Rattle.std.proofs.lemmas.Bool.{and_parts, eqb-true, eq-eqb, not-false}
 use Rattle.common.specs.Count.{count_below}
 use Rattle.common.proofs.Count.{count_above, count_within, count_injective}
-use Rattle.mesh.proofs.Lowest.{lowest_within, lowest_found, lowest_least, lowest_is}
+use Rattle.common.proofs.Lowest.{lowest_within, lowest_found, lowest_least, lowest_is}
 use Rattle.stl.specs.File.File.{halfedge_count, corner_at}
 use Rattle.stl.specs.File.Points.{same_corner, same_point, first_of, is_first, point_of, point_count, corner_of}
 use Rattle.stl.specs.declared.file.Corner.{Corner}

@@ -9,7 +9,7 @@ use mathlib.Core.Bool.{true, false, not}
 use Rattle.std.proofs.lemmas.Bool.{not-false}
 use Rattle.mesh.specs.Mesh.{next_halfedge}
 use Rattle.mesh.proofs.Halfedges.{next_cases}
-use Rattle.mesh.proofs.Lowest.{lowest_found, lowest_least}
+use Rattle.common.proofs.Lowest.{lowest_found, lowest_least}
 use Rattle.stl.specs.declared.file.Triangle.{Triangle}
 use Rattle.stl.specs.File.File.{triangle_at}
 use Rattle.stl.specs.File.Edges.{same_edge, is_reverse, is_paired}

@@ -10,8 +10,8 @@ use mathlib.Core.Bool.{Bool, true, false}
 use lib.Dec.{ltb}
 use lib.ListN.{get_or}
 use Rattle.std.proofs.lemmas.Bool.{ltb-true, ltb-false, not-false}
-use Rattle.mesh.specs.Lowest.{lowest}
-use Rattle.mesh.proofs.Lowest.{lowest_within, lowest_is, lowest_all}
+use Rattle.common.specs.Lowest.{lowest}
+use Rattle.common.proofs.Lowest.{lowest_within, lowest_is, lowest_all}
 use Rattle.stl.specs.File.File.{halfedge_count}
 use Rattle.stl.specs.File.Edges.{same_edge, is_reverse, pair_of, is_paired}
 use Rattle.stl.proofs.FileLaws.Edges.{false_or_true, count_other, corners_edge, reverses_same, reverse_back, pair_found, pair_there, pair_least, unpaired, edge_reverse}

@@ -10,7 +10,7 @@ use lib.Dec.{eqb}
 use lib.ListN.{get_or, length, set}
 use lib.Seq.{get_or-set_same, get_or-set_other}
 use Rattle.std.proofs.lemmas.Bool.{eqb-true, eqb-false, not-false}
-use Rattle.mesh.proofs.Lowest.{lowest_within, lowest_found, lowest_least}
+use Rattle.common.proofs.Lowest.{lowest_within, lowest_found, lowest_least}
 use Rattle.stl.specs.Table.Keys.{key_at, has_key, first_at}
 use Rattle.stl.specs.declared.table.Key.{Key}
 use Rattle.stl.specs.declared.table.block.Block.{Block}

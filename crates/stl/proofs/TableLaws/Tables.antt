@@ -12,7 +12,7 @@ use lib.ListN.{get_or, length, set, length-set, replicate, length-replicate}
 use lib.Seq.{get_or-set_same, get_or-set_other}
 use Rattle.std.specs.Prelude.{Result, Ok, Err}
 use Rattle.std.specs.Result.{result_unwrap_or}
-use Rattle.mesh.proofs.Lowest.{lowest_is, lowest_within, lowest_all}
+use Rattle.common.proofs.Lowest.{lowest_is, lowest_within, lowest_all}
 use Rattle.stl.specs.Table.Size.{block_size, roots, slots}
 use Rattle.stl.specs.Table.Keys.{key_at, has_key, first_at}
 use Rattle.stl.specs.Table.Tree.{root_of, tag_of, tag_at, child_of, Ends, Indexed}

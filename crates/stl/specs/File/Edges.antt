@@ -1,7 +1,7 @@
 -- The directed edges of a file: halfedge e runs from corner e to corner `next_halfedge e`. s are the file's bytes.
 use Rattle.std.specs.Prelude.{ℕ, List, Bool, not, ◌&&◌, eqb, ltb}
 use Rattle.common.specs.Count.{count_below}
-use Rattle.mesh.specs.Lowest.{lowest}
+use Rattle.common.specs.Lowest.{lowest}
 use Rattle.mesh.specs.Mesh.{next_halfedge}
 use Rattle.stl.specs.File.File.{halfedge_count}
 use Rattle.stl.specs.File.Points.{same_point}

@@ -1,7 +1,7 @@
 -- The points of a file: corners with equal bits are one point, and points are numbered by first appearance. s are the file's bytes, c is a corner.
 use Rattle.std.specs.Prelude.{ℕ, List, Bool, not, ◌&&◌, eqb}
 use Rattle.common.specs.Count.{count_below}
-use Rattle.mesh.specs.Lowest.{lowest}
+use Rattle.common.specs.Lowest.{lowest}
 use Rattle.stl.specs.File.File.{halfedge_count, corner_at}
 use Rattle.stl.specs.declared.file.Corner.{Corner}
 

@@ -1,7 +1,7 @@
 -- The keys of places, and the lowest place of a block that has one. Only contracts inside the reading of STL cite these.
 use Rattle.std.specs.Prelude.{ℕ, ◌+◌, List, Bool, not, ◌&&◌}
 use Rattle.mesh.specs.Mesh.{next_halfedge}
-use Rattle.mesh.specs.Lowest.{lowest}
+use Rattle.common.specs.Lowest.{lowest}
 use Rattle.stl.specs.File.File.{corner_at}
 use Rattle.stl.specs.File.Points.{same_corner}
 use Rattle.stl.specs.declared.table.Key.{Key}

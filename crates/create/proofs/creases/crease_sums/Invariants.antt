@@ -1,6 +1,6 @@
 -- `create_creases::crease_sums` meets its contract. The invariant: the sums over what is left of the list, from those so far, are the sums over all. Assumes nothing.
 use lib.ListN.{length}
-use Rattle.create_shared.specs.Faces.{vert_halfedge}
+use Rattle.create_shared.specs.Verts.{vert_halfedge}
 use Rattle.mesh.specs.Mesh.{as_halfedges}
 use Rattle.create.specs.Creases.Creases.{add_sides, sums_of}
 use Rattle.create.specs.Creases.Lists.{pair_by, pairs_by}

@@ -3,7 +3,7 @@ use mathlib.Core.Path.{refl, sym, ◌∙◌}
 use native.Mathlib.Omega.{arith}
 use lib.ListN.{length}
 use Rattle.mesh.specs.Mesh.{as_halfedges}
-use Rattle.create_shared.specs.Faces.{vert_halfedge}
+use Rattle.create_shared.specs.Verts.{vert_halfedge}
 use Rattle.create.proofs.CreasesLaws.Linked.{edge_passed, edge_linked}
 use Rattle.create.proofs.creases.link_edge.Goals as goal
 

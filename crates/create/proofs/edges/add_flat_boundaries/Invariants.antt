@@ -2,7 +2,7 @@
 use mathlib.Core.Path.{◌≡◌}
 use Rattle.common.specs.Fold.{fold_to}
 use Rattle.mesh.specs.Mesh.{as_halfedges}
-use Rattle.create_shared.specs.Faces.{is_flat}
+use Rattle.smoothing.specs.Faces.{is_flat}
 use Rattle.create.specs.Edges.Smoothness.{add_flat_boundary}
 use Rattle.create.proofs.edges.add_flat_boundaries.Given as goal
 

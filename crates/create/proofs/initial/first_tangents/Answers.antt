@@ -1,9 +1,9 @@
 -- `create_initial::first_tangents` meets its contract: three calls in a row. Assumes nothing.
 use mathlib.Core.Path.{◌≡◌, ap, ◌∙◌}
 use Rattle.mesh.specs.Mesh.{as_halfedges}
-use Rattle.create_shared.specs.Faces.{is_flat}
-use Rattle.create_shared.specs.Lent.{flat_flags}
-use Rattle.create_shared.proofs.Flat.{flags_same}
+use Rattle.smoothing.specs.Faces.{is_flat}
+use Rattle.smoothing.specs.Lent.{flat_flags}
+use Rattle.smoothing.proofs.Flat.{flags_same}
 use Rattle.create.proofs.InitialLaws.First.{faces_in, first_is}
 use Rattle.create.proofs.initial.first_tangents.Goals as goal
 

@@ -3,7 +3,7 @@ use Rattle.create.specs.Shapes.Lent.{mesh_of}
 use Rattle.create.specs.Shapes.Sharpen.{sharpen_meeting_at, sharpen_meeting}
 use Rattle.cycles.proofs.Around.{next_permutes}
 use Rattle.cycles.proofs.Loops.{around_start, around_step, around_less, around_fold_step, around_fold_stop}
-use Rattle.create_shared.specs.Faces.{is_flat}
+use Rattle.smoothing.specs.Faces.{is_flat}
 use native.Mathlib.Nat.{le_refl}
 use mathlib.Core.Path.{refl, ◌∙◌}
 use Rattle.create.proofs.shapes.sharpen_meeting.Goals as goal

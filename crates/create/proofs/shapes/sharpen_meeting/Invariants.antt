@@ -6,7 +6,7 @@ use Rattle.cycles.proofs.Paths.{is_at, steps_left}
 use Rattle.cycles.specs.Cycles.{next_around, vertex_cycle}
 use Rattle.cycles.specs.Walk.{cycle_from}
 use lib.ListN.{length}
-use Rattle.create_shared.specs.Faces.{is_flat}
+use Rattle.smoothing.specs.Faces.{is_flat}
 use mathlib.Core.List.{foldl}
 use mathlib.Core.Path.{◌≡◌}
 use Rattle.create.proofs.shapes.sharpen_meeting.Given as goal

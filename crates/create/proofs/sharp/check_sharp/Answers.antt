@@ -2,8 +2,8 @@
 use Rattle.std.proofs.Common.{rules, sym}
 use Rattle.std.proofs.lemmas.List.{get_or-map, length-map}
 use Rattle.std.specs.Float.{nan}
-use Rattle.mesh.specs.Questions.{names_halfedge, has_clear_sign}
-use Rattle.mesh.specs.Check.{check_entries}
+use Rattle.questions.specs.Questions.{names_halfedge, has_clear_sign}
+use Rattle.questions.specs.Check.{check_entries}
 use Rattle.create.specs.Sharp.Entries.{halfedges_of, smoothness_of}
 use Rattle.create.proofs.SharpLaws.Adding.{no_entry}
 use Rattle.create.proofs.sharp.check_sharp.Goals as goal

@@ -4,8 +4,8 @@ use native.Mathlib.Omega.{arith}
 use mathlib.Core.Path.{◌≡◌, ap, ◌∙◌}
 use Rattle.mesh.specs.Mesh.{as_halfedges}
 use Rattle.smoothing.specs.Edges.{is_inside_quad}
-use Rattle.create_shared.specs.Faces.{is_flat}
-use Rattle.create_shared.proofs.Flat.{flags_same}
+use Rattle.smoothing.specs.Faces.{is_flat}
+use Rattle.smoothing.proofs.Flat.{flags_same}
 use Rattle.create.specs.Whole.Lent.{pairs_of}
 use Rattle.create.specs.Whole.Core.{directionless_with}
 use Rattle.create.proofs.CreasesLaws.Lent.{linked_tests}

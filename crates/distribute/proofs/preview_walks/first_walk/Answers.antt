@@ -3,7 +3,7 @@ use mathlib.Core.Path.{sym, ◌∙◌}
 use mathlib.Core.List.{List, []}
 use lib.Ieee.{Float}
 use native.Mathlib.Omega.{arith}
-use Rattle.mesh.proofs.Accepted.{inside}
+use Rattle.mesh.proofs.Inside.{inside}
 use Rattle.distribute.proofs.PreviewWalks.First.{summing_begin, summing_room, summing_below, summing_next, summing_less, summing_over}
 use Rattle.distribute.proofs.preview_walks.first_walk.Goals as goal
 

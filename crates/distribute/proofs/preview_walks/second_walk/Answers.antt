@@ -3,7 +3,7 @@ use mathlib.Core.Path.{sym, ◌∙◌}
 use mathlib.Core.List.{[]}
 use native.Mathlib.Omega.{arith}
 use lib.Ieee.{nan}
-use Rattle.mesh.proofs.Accepted.{inside}
+use Rattle.mesh.proofs.Inside.{inside}
 use Rattle.distribute.specs.Steps.FloatSteps.{Plan}
 use Rattle.distribute.specs.declared.walks.Counts.{Counts}
 use Rattle.distribute.proofs.PreviewWalks.Lawful.{laws}

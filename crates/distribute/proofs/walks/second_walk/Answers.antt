@@ -2,7 +2,7 @@
 use mathlib.Core.Path.{sym, ◌∙◌}
 use mathlib.Core.List.{[]}
 use native.Mathlib.Omega.{arith}
-use Rattle.mesh.proofs.Accepted.{inside}
+use Rattle.mesh.proofs.Inside.{inside}
 use Rattle.distribute.proofs.SpreadLaws.Loops.{second_below, index_below}
 use Rattle.distribute.specs.declared.walks.Counts.{Counts}
 use Rattle.distribute.proofs.WalksLaws.Lawful.{laws, angles_are}

@@ -1,0 +1,6 @@
+-- The laws of `questions`. Those that the crates above cite are public.
+pub mod Lengths
+mod Sign
+mod Search
+pub mod Accepted
+mod TriangleLaws
