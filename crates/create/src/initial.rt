@@ -15,9 +15,9 @@ ghost use Rattle.create.specs.Initial.Faces.{FaceIn};
 ghost use Rattle.create.specs.Initial.Lent.{normal_at, inside_quad, first_at, counts_first, first_made, put_first, count_firsts, edge_tangents, edge_directionless};
 
 use create_shared::MeshLists;
-use smoothing::faces::{self, FlatFace};
 use face_lists::FaceLists;
 use linalg::{Vec3, Vec4};
+use smoothing::faces::{self, FlatFace};
 use smoothing::{CircularTangent, TwoTangents};
 
 // The normal of point v, or that of the one flat face at it.

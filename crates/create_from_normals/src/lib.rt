@@ -62,7 +62,8 @@ fn scratch_fits(
 ) -> bool
     ensures { result ≡ scratch_fits (length fixed.now) (length inside.now) (length current.now) (length desired.now) (length first.now) n p }
 {
-    let flags = questions::has_length(fixed.len(), n, 1) & questions::has_length(inside.len(), n, 1);
+    let flags = questions::has_length(fixed.len(), n, 1)
+        & questions::has_length(inside.len(), n, 1);
     let angles = flags
         & questions::has_length(current.len(), n, 1)
         & questions::has_length(desired.len(), n, 1);

@@ -93,7 +93,11 @@ fn check_points(count: usize, room: usize) -> Result<(), Refusal>
     ensures { result ≡ check_points count room }
 {
     questions::ask_at(Question::CurveCount, 0, (count >= 2) & (count <= 256))?;
-    questions::ask_at(Question::CurveRoom, 0, questions::has_length(room, count, 3))
+    questions::ask_at(
+        Question::CurveRoom,
+        0,
+        questions::has_length(room, count, 3),
+    )
 }
 
 // Fills the list with 2 to 256 points, three numbers each: point i at parameter i/(count - 1).

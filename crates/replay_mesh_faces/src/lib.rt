@@ -5,9 +5,9 @@ ghost use Rattle.std.specs.Prelude.{length};
 ghost use Rattle.mesh.specs.Mesh.{as_halfedges};
 ghost use Rattle.replay_mesh_faces.specs.Points.{Points};
 
-use smoothing::faces::{self, FlatFace};
 use replay::Reader;
 use replay_cases::{Case, ends_as};
+use smoothing::faces::{self, FlatFace};
 
 // The Rust's number for the flat faces at a point: -1 for none, -2 for several.
 fn face_number(face: FlatFace) -> Option<i32> {

@@ -2,8 +2,7 @@
 // and writes how many were compared and how many differ.
 #![tactic(auto)]
 
-use distribute::preview;
-use distribute::Counts;
+use distribute::{Counts, preview};
 use replay::all_same;
 use replay_cases::{Case, Operation, ROOM, ends_as};
 use std::io;

@@ -116,7 +116,8 @@ fn lengths_fit(
 {
     questions::has_length(h.len(), n, mesh::HALFEDGE_STRIDE)
         & questions::has_length(normals.len(), n / 3, 3)
-        & (questions::has_length(halfedges.len(), n, 1) & questions::has_length(smoothness.len(), n, 1))
+        & (questions::has_length(halfedges.len(), n, 1)
+            & questions::has_length(smoothness.len(), n, 1))
 }
 
 // The listing by a rule: what both calls do.

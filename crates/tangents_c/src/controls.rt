@@ -35,7 +35,8 @@ pub fn curve_at(controls: &[f64], x: f64, point: &mut [f64]) -> Result<(), Refus
     ensures answer { result ≡ check_curve_at controls.now x point.old }
     ensures point { point.new ≡ point_after controls.now x point.old }
 {
-    let fit = questions::has_length(controls.len(), 4, 4) & questions::has_length(point.len(), 2, 3);
+    let fit = questions::has_length(controls.len(), 4, 4)
+        & questions::has_length(point.len(), 2, 3);
     questions::ask_at(Question::Lengths, 0, fit)?;
     let Controls { p0, p1, p2, p3 } = controls_of(controls);
     let found = curve::curve_at(p0, p1, p2, p3, x)?;
@@ -49,7 +50,11 @@ pub fn curve_points(controls: &[f64], count: usize, points: &mut [f64]) -> Resul
     ensures answer { result ≡ check_curve_points controls.now count points.old }
     ensures points { points.new ≡ points_after controls.now count points.old }
 {
-    questions::ask_at(Question::Lengths, 0, questions::has_length(controls.len(), 4, 4))?;
+    questions::ask_at(
+        Question::Lengths,
+        0,
+        questions::has_length(controls.len(), 4, 4),
+    )?;
     let Controls { p0, p1, p2, p3 } = controls_of(controls);
     curve::curve_points(p0, p1, p2, p3, count, points)
 }

@@ -25,8 +25,7 @@ ghost use Rattle.tangents_c.specs.Answers.{put, put_checked, put_validity, put_l
 
 mod controls;
 
-use distribute::preview;
-use distribute::Counts;
+use distribute::{Counts, preview};
 use questions::Refusal;
 use sharpen::Listed;
 use stl::MeshCounts;
