@@ -49,9 +49,7 @@ pub fn mesh_lists_fit(
 ) -> bool
     ensures { result ≡ mesh_lists_fit halfedges positions normals face_normals refs n p }
 {
-    let points = questions::has_length(halfedges, n, mesh::HALFEDGE_STRIDE)
-        & questions::has_length(positions, p, 3)
-        & questions::has_length(normals, p, 3);
+    let points = questions::points_fit(n, p, halfedges, positions, normals);
     points
         & questions::has_length(face_normals, n / 3, 3)
         & questions::has_length(refs, n / 3, mesh::REF_STRIDE)

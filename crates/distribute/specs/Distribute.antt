@@ -1,8 +1,8 @@
 -- Spreading as a public call: `distribute_tangents` of src/smoothing_tangents.rs, with document 01's two counts and its questions. H are the halfedges, P the positions, N the point normals, X the flags, T the tangents, C and D the scratch lists, n and p the counts of halfedges and points.
 use Rattle.std.specs.Prelude.{ℕ, ◌≡◌, List, Bool, ◌&&◌, length, replicate, Float, Result, Ok, Err}
 use Rattle.float.specs.Ops.{zero}
-use Rattle.mesh.specs.Mesh.{halfedge_stride, Halfedges}
-use Rattle.questions.specs.Questions.{has_length}
+use Rattle.mesh.specs.Mesh.{Halfedges}
+use Rattle.questions.specs.Questions.{has_length, points_fit}
 use Rattle.questions.specs.Check.{Checked, number_of, place_of, check_mesh, check_flags, answer_of, when_accepted}
 use Rattle.questions.specs.declared.Refusal.{Refusal}
 use Rattle.distribute.specs.Spread.Steps.{Steps}
@@ -31,8 +31,7 @@ turned_of (Err refusal) = 0
 -- question 2 of the lists that spreading and its preview read or turn
 abbrev pub lists_fit : Halfedges → List Float → List Float → List ℕ → List Float → ℕ → ℕ → Bool
 lists_fit H P N X T n p =
-    has_length H.numbers n halfedge_stride && has_length (length P) p 3 && has_length (length N) p 3 && has_length (length X) n 1
-    && has_length (length T) n 4
+    points_fit H.numbers (length P) (length N) n p && has_length (length X) n 1 && has_length (length T) n 4
 
 -- question 2 of the lists that the call is lent
 abbrev pub lengths_fit : Halfedges → List Float → List Float → List ℕ → List Float → List Float → List Float → ℕ → ℕ → Bool

@@ -74,9 +74,7 @@ pub fn lists_fit(
 ) -> bool
     ensures { result ≡ lists_fit (as_halfedges h.now) pos.now normals.now fixed.now t.now n p }
 {
-    let points = questions::has_length(h.len(), n, mesh::HALFEDGE_STRIDE)
-        & questions::has_length(pos.len(), p, 3)
-        & questions::has_length(normals.len(), p, 3);
+    let points = questions::points_fit(n, p, h.len(), pos.len(), normals.len());
     points & questions::has_length(fixed.len(), n, 1) & questions::has_length(t.len(), n, 4)
 }
 

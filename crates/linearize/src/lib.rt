@@ -104,9 +104,7 @@ pub fn linearize_all(n: usize, p: usize, h: &[i32], pos: &[f64], t: &mut [f64])
 fn lengths_fit(n: usize, p: usize, h: &[i32], pos: &[f64], t: &[f64]) -> bool
     ensures { result ≡ lengths_fit (as_halfedges h.now) pos.now t.now n p }
 {
-    questions::has_length(h.len(), n, mesh::HALFEDGE_STRIDE)
-        & questions::has_length(pos.len(), p, 3)
-        & questions::has_length(t.len(), n, 4)
+    questions::mesh_fits(n, p, h.len(), pos.len()) & questions::has_length(t.len(), n, 4)
 }
 
 // The public call, for lists of any length and content.

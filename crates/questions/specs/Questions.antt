@@ -2,7 +2,7 @@
 use Rattle.std.specs.Prelude.{ℕ, ◌*◌, ◌%◌, List, Bool, false, not, ◌&&◌, get_or, ℤ, pos, eqb, leb, ltb, Float}
 use Rattle.std.specs.Int.Signed.{le_z}
 use Rattle.std.specs.Float.{nan, inf, fin}
-use Rattle.mesh.specs.Mesh.{max_halfedges, max_points, no_index, start_vert, end_vert, paired_halfedge, prop_vert, next_halfedge, ref_at, Halfedges}
+use Rattle.mesh.specs.Mesh.{max_halfedges, max_points, halfedge_stride, no_index, start_vert, end_vert, paired_halfedge, prop_vert, next_halfedge, ref_at, Halfedges}
 use Rattle.questions.specs.declared.Question.{Question}
 use Rattle.questions.specs.declared.Question.TheVariants.{Counts, Lengths, Points, Pair, Mutual, Opposite, Joined, Mesh, Entry, Sign, Flag, Row, MovedPoint, Fits, Kind, Body, Operation, End, WideCounts, OutputRoom, Size, Corners, Pairing, Parameter, CurveCount, CurveRoom, Planes, Profile, Jobs, JobLimit, JobTurned}
 
@@ -47,6 +47,14 @@ counts_fit n p = eqb (n % 3) 0 && leb n max_halfedges && leb p max_points
 -- 2: has a list its length, `per` numbers for each of `count`? A call asks this of each list that it is lent.
 abbrev pub has_length : ℕ → ℕ → ℕ → Bool
 has_length len count per = eqb len (count * per)
+
+-- 2, of the halfedges and the positions, which each call over a mesh in space is lent
+abbrev pub mesh_fits : ℕ → ℕ → ℕ → ℕ → Bool
+mesh_fits halfedges positions n p = has_length halfedges n halfedge_stride && has_length positions p 3
+
+-- 2, of these and the point normals, which spreading, its preview and both makings are lent
+abbrev pub points_fit : ℕ → ℕ → ℕ → ℕ → ℕ → Bool
+points_fit halfedges positions normals n p = mesh_fits halfedges positions n p && has_length normals p 3
 
 -- 3: are start and end numbers of points?
 abbrev pub has_points : Halfedges → ℕ → ℕ → Bool

@@ -12,7 +12,7 @@ ghost use Rattle.std.specs.Int.Signed.{le_z};
 ghost use Rattle.std.specs.Float.{nan};
 ghost use Rattle.mesh.specs.Mesh.{max_halfedges, max_points, halfedge_stride, prop_vert, ref_at, as_halfedges, no_index};
 ghost use Rattle.mesh.specs.Sound.{Sound};
-ghost use Rattle.questions.specs.Questions.{has_length, sign_clear};
+ghost use Rattle.questions.specs.Questions.{has_length, mesh_fits, points_fit, sign_clear};
 ghost use Rattle.questions.specs.All.{triangles_hold, ask_each};
 ghost use Rattle.questions.specs.Check.{number_of, place_of, answer_of, asked, each, check_mesh, check_refs, check_entries, check_flags, check_rows};
 
@@ -83,6 +83,20 @@ pub fn has_length(len: usize, count: usize, per: usize) -> bool
     ensures { result ≡ has_length len count per }
 {
     count.checked_mul(per) == Some(len)
+}
+
+// Question 2 of the halfedges and the positions, from the length of each.
+pub fn mesh_fits(n: usize, p: usize, halfedges: usize, positions: usize) -> bool
+    ensures { result ≡ mesh_fits halfedges positions n p }
+{
+    has_length(halfedges, n, HALFEDGE_STRIDE) & has_length(positions, p, 3)
+}
+
+// Question 2 of these and the point normals.
+pub fn points_fit(n: usize, p: usize, halfedges: usize, positions: usize, normals: usize) -> bool
+    ensures { result ≡ points_fit halfedges positions normals n p }
+{
+    mesh_fits(n, p, halfedges, positions) & has_length(normals, p, 3)
 }
 
 // The number of an answer: that of the question that refuses, and 0 where none does. Number and place have a function each, as each

@@ -1,8 +1,8 @@
 -- `valid_tangents` of src/smoothing_tangents.rs (document 01's mark check). H are the halfedges, P the positions, T the tangents, n and p the counts of halfedges and points.
 use Rattle.std.specs.Prelude.{ℕ, ◌≡◌, List, Bool, true, false, cond, not, ◌&&◌, ◌||◌, length, Float, Result, Ok, Err}
 use Rattle.std.specs.Bool.{beq}
-use Rattle.mesh.specs.Mesh.{halfedge_stride, paired_halfedge, next_halfedge, prev_halfedge, Halfedges}
-use Rattle.questions.specs.Questions.{has_length}
+use Rattle.mesh.specs.Mesh.{paired_halfedge, next_halfedge, prev_halfedge, Halfedges}
+use Rattle.questions.specs.Questions.{has_length, mesh_fits}
 use Rattle.questions.specs.Check.{Checked, number_of, place_of, check_mesh, answer_of, when_accepted}
 use Rattle.common.specs.Fold.{fold_to}
 use Rattle.questions.specs.declared.Refusal.{Refusal}
@@ -34,7 +34,7 @@ valid_tangents H T n = cond (has_length (length T) n 4) (fold_to (valid_so_far H
 
 -- question 2: 3 numbers per halfedge and 3 per point; it is not asked of the tangents
 abbrev pub lengths_fit : Halfedges → List Float → ℕ → ℕ → Bool
-lengths_fit H P n p = has_length H.numbers n halfedge_stride && has_length (length P) p 3
+lengths_fit H P n p = mesh_fits H.numbers (length P) n p
 
 -- whether the marks are valid, or the refusal
 abbrev pub Validity : Type 0

@@ -84,8 +84,7 @@ fn marks_valid(n: usize, p: usize, h: &[i32], t: &[f64]) -> bool
 fn lengths_fit(n: usize, p: usize, h: &[i32], pos: &[f64]) -> bool
     ensures { result ≡ lengths_fit (as_halfedges h.now) pos.now n p }
 {
-    questions::has_length(h.len(), n, mesh::HALFEDGE_STRIDE)
-        & questions::has_length(pos.len(), p, 3)
+    questions::mesh_fits(n, p, h.len(), pos.len())
 }
 
 // The public call, for lists of any length and content. Of the positions only the length is asked about.
