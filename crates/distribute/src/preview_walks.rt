@@ -50,12 +50,12 @@ fn direction_at(walk: &Walk, e: usize) -> Vec3
 }
 
 // One step of the first walk, onto halfedge e: a marked one gathers nothing.
-#[tactic(auto, unfolding(crate::specs::PreviewWalks::Walks::add_tangent))]
+#[tactic(auto, using(smoothing::proofs::Tangents::weight_of), unfolding(crate::specs::PreviewWalks::Walks::add_tangent))]
 fn add_tangent(walk: &Walk, e: usize, s: Summed) -> Summed
     requires { (e * 4 + 4 ≤ length walk.now.lists.now.t.now) × (s.count + 1 < 2 ^ 64) }
     ensures { result ≡ cond (is_mark (tangent_at walk.now.lists.now.t.now e).w) s (add_tangent (tangent_direction (tangent_at walk.now.lists.now.t.now e)) s) }
 {
-    if steps::is_marked(walk.lists.t, e) {
+    if smoothing::is_marked_inside_quad(walk.lists.t, e) {
         return s;
     }
     let tangent = direction_at(walk, e);
@@ -97,12 +97,13 @@ fn first_walk(walk: &Walk, counts: Counts) -> Seen
 }
 
 // One step of the second walk, onto halfedge e, with i turned before: a marked one would stay as it is.
+#[tactic(auto, using(smoothing::proofs::Tangents::weight_of))]
 fn show_unmarked(t: &[f64], bytes: &mut [u8], i: usize, e: usize) -> usize
     requires { (e * 4 + 4 ≤ length t.now) × (e < length bytes.old) × (i + 1 < 2 ^ 64) }
     ensures bytes_after { bytes.new ≡ cond (is_mark (tangent_at t.now e).w) bytes.old (set bytes.old e 1) }
     ensures value { result ≡ cond (is_mark (tangent_at t.now e).w) i (i + 1) }
 {
-    if steps::is_marked(t, e) {
+    if smoothing::is_marked_inside_quad(t, e) {
         return i;
     }
     bytes[e] = 1;

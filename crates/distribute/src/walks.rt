@@ -51,6 +51,7 @@ fn directions_at(walk: &FirstWalk, e: usize) -> Directions
 }
 
 // One step of the first walk, onto halfedge e: the mark is read before anything else, and a marked one gathers nothing.
+#[tactic(auto, using(smoothing::proofs::Tangents::weight_of))]
 fn gather_at(
     walk: &FirstWalk,
     current: &mut [f64],
@@ -62,7 +63,7 @@ fn gather_at(
     ensures result_after { gathered_of current.new desired.new result ≡ cond (is_mark (tangent_at walk.now.t.now e).w) (gathered_of current.old desired.old g) (gather (as_halfedges walk.now.lists.now.h.now) walk.now.lists.now.pos.now walk.now.lists.now.normals.now walk.now.start e (tangent_at walk.now.t.now e) (gathered_of current.old desired.old g)) }
     ensures count_value { result.count ≡ cond (is_mark (tangent_at walk.now.t.now e).w) g.count (g.count + 1) }
 {
-    if steps::is_marked(walk.t, e) {
+    if smoothing::is_marked_inside_quad(walk.t, e) {
         return g;
     }
     let at = directions_at(walk, e);
@@ -112,6 +113,7 @@ fn first_walk(
 }
 
 // One step of the second walk, onto halfedge e, with i angles used up: a marked one stays as it is.
+#[tactic(auto, using(smoothing::proofs::Tangents::weight_of))]
 fn turn_unmarked(
     t: &mut [f64],
     current: &[f64],
@@ -125,7 +127,7 @@ fn turn_unmarked(
     ensures result_after { plan_of current.now desired.new by result ≡ cond (is_mark (tangent_at t.old e).w) (plan_of current.now desired.old by i) (next (plan_of current.now desired.old by i)) }
     ensures value { result ≡ cond (is_mark (tangent_at t.old e).w) i (i + 1) }
 {
-    if steps::is_marked(t, e) {
+    if smoothing::is_marked_inside_quad(t, e) {
         return i;
     }
     steps::turn_at(t, current, desired, by, i, e);

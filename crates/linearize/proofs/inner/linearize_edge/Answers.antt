@@ -1,8 +1,8 @@
--- `linearize::linearize_edge` meets its contract: both ends at once where both are flat, else the one and then the other. Assumes nothing.
+-- `linearize::inner::linearize_edge` meets its contract: both ends at once where both are flat, else the one and then the other.
 use mathlib.Core.Path.{sym, ◌∙◌}
 use Rattle.std.proofs.lemmas.Bool.{and_parts}
 use Rattle.linearize.proofs.Thirds.{both_flat}
-use Rattle.linearize.proofs.linearize_edge.Goals as goal
+use Rattle.linearize.proofs.inner.linearize_edge.Goals as goal
 
 pub returns-then-is_flat : goal.returns-then-is_flat
 returns-then-is_flat c =

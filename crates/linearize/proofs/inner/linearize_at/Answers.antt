@@ -1,8 +1,8 @@
--- `linearize::linearize_at` meets its contract: each way is what the tests pick. Assumes nothing.
+-- `linearize::inner::linearize_at` meets its contract: each way is what the tests pick.
 use mathlib.Core.Path.{sym, ◌∙◌}
 use Rattle.linearize.specs.Linearize.{linearize_at}
 use Rattle.linearize.proofs.Laws.{end_unflat, other_end}
-use Rattle.linearize.proofs.linearize_at.Goals as goal
+use Rattle.linearize.proofs.inner.linearize_at.Goals as goal
 
 pub returns-then-not-is_flat : goal.returns-then-not-is_flat
 unfolding linearize_at
