@@ -5,7 +5,6 @@
 
 pub mod inner;
 pub mod preview;
-mod preview_walks;
 mod steps;
 mod walks;
 

@@ -1,18 +1,19 @@
-// The preview of spreading (document 02's request 2) as a public call: what `distribute_tangents` of
-// src/smoothing_tangents.rs would look at and turn. The tangents are only read.
+// The preview of spreading as a public call: what `distribute_tangents` of src/smoothing_tangents.rs would look at and turn. The tangents
+// are only read.
 
 ghost use Rattle.std.specs.Prelude.{◌≡◌, List, length, Float};
 ghost use Rattle.mesh.specs.Mesh.{as_halfedges};
 ghost use Rattle.distribute.specs.Spread.Spread.{pass};
 ghost use Rattle.distribute.specs.Steps.FloatSteps.{float_steps};
 ghost use Rattle.distribute.specs.Distribute.{spread_tangents, Values};
-ghost use Rattle.distribute.specs.PreviewWalks.Walks.{steps_of, Shows};
+ghost use Rattle.distribute.specs.Preview.Walks.{steps_of, Shows};
 ghost use Rattle.distribute.specs.Preview.Preview.{check_lists, preview_tangents, bytes_after, AsSpreading, AnyOrder};
 
-use crate::preview_walks;
-use crate::preview_walks::PreviewLists;
+mod walks;
+
 use crate::walks::Counts;
 use questions::Refusal;
+use walks::PreviewLists;
 
 // The loop over the halfedges of an accepted mesh, after zeros in all bytes. The bytes are written, and so their length is a clause: of
 // a struct that lends them each clause would say `lists.new.bytes.now` for `bytes.new`.
@@ -27,7 +28,7 @@ fn preview_all(lists: &PreviewLists, bytes: &mut [u8]) -> Counts
         turned: 0,
     };
     for start in 0..lists.n {
-        counts = preview_walks::preview_at(lists, bytes, start, counts);
+        counts = walks::preview_at(lists, bytes, start, counts);
     }
     counts
 }
@@ -74,7 +75,6 @@ pub fn preview_tangents(
     ensures values { Values (check_lists (as_halfedges h.now) pos.now normals.now fixed.now t.now bytes.old n p) (float_steps (as_halfedges h.now) pos.now normals.now fixed.now n) (spread_tangents (as_halfedges h.now) pos.now normals.now fixed.now t.now n) result }
 {
     let checked = check_lists(n, p, h, pos, normals, fixed, t, bytes);
-    // Document 01's form by place: the check's answer is opened by `let .. else`.
     let Ok(()) = checked else {
         return questions::refused(checked);
     };

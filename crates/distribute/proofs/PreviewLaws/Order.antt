@@ -21,9 +21,9 @@ use Rattle.distribute.specs.Distribute.{Spreading, counts_of, lists_fit, spread_
 use Rattle.std.specs.Prelude.{Ok}
 use Rattle.distribute.specs.Steps.FloatSteps.{float_steps}
 use Rattle.distribute.specs.declared.walks.Counts.{Counts}
-use Rattle.distribute.specs.PreviewWalks.Walks.{Shows}
-use Rattle.distribute.specs.PreviewWalks.Bytes.{turned_byte, turned_bytes}
-use Rattle.distribute.proofs.PreviewWalks.Bytes.{byte_one, byte_zero, bytes_at, bytes_same}
+use Rattle.distribute.specs.Preview.Walks.{Shows}
+use Rattle.distribute.specs.Preview.Bytes.{turned_byte, turned_bytes}
+use Rattle.distribute.proofs.PreviewLaws.Bytes.{byte_one, byte_zero, bytes_at, bytes_same}
 use Rattle.distribute.specs.Preview.Preview.{check_lists, preview_tangents, AsSpreading, PreviewFree, AnyOrder}
 use Rattle.distribute.proofs.PreviewLaws.Accepted.{lists_of}
 

@@ -8,7 +8,7 @@ use Rattle.distribute.specs.Spread.Spread.{spread, pass}
 use Rattle.distribute.specs.Spread.Order.{NamesFixed, WasTurned, OrderFree}
 use Rattle.distribute.specs.Steps.FloatSteps.{float_steps}
 use Rattle.distribute.specs.Distribute.{lists_fit, Spreading, counts_of, spread_tangents, looked_of, turned_of, distribute_tangents}
-use Rattle.distribute.specs.PreviewWalks.Bytes.{turned_bytes}
+use Rattle.distribute.specs.Preview.Bytes.{turned_bytes}
 
 -- ---- the questions
 

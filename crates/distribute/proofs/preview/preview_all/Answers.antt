@@ -1,6 +1,6 @@
 -- `preview::preview_all` meets its contract: before each turn, the bytes and counts are those of the pass so far.
 use native.Mathlib.Omega.{arith}
-use Rattle.distribute.proofs.PreviewWalks.Lawful.{laws}
+use Rattle.distribute.proofs.PreviewLaws.Lawful.{laws}
 use Rattle.distribute.proofs.PreviewLaws.Pass.{shown_next, shown_end}
 use Rattle.distribute.proofs.preview.preview_all.Goals as goal
 

@@ -3,7 +3,7 @@ use mathlib.Core.List.{List}
 use Prim.Native.Nat.{◌*◌, ◌≤◌}
 use lib.Ieee.{Float}
 use Rattle.mesh.specs.Mesh.{max_halfedges}
-use Rattle.distribute.proofs.PreviewWalks.Lawful.{laws}
+use Rattle.distribute.proofs.PreviewLaws.Lawful.{laws}
 use Rattle.distribute.proofs.PreviewLaws.Pass.{ShownAt}
 use Rattle.distribute.proofs.preview.preview_all.Given as goal
 

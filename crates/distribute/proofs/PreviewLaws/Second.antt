@@ -15,9 +15,9 @@ use Rattle.distribute.proofs.SpreadLaws.Loops.{second_left, angles_left, angles_
 use Rattle.distribute.proofs.SpreadLaws.Bodies.{SecondGoing, second_going, second_leaves, second_less, second_next, second_over, second_few, index_on, state_on, plan_on}
 use Rattle.distribute.specs.Walks.Walks.{state_of, more_turned}
 use Rattle.distribute.specs.declared.walks.Counts.{Counts}
-use Rattle.distribute.specs.PreviewWalks.Bytes.{turned_bytes}
-use Rattle.distribute.specs.PreviewWalks.Walks.{Shows}
-use Rattle.distribute.proofs.PreviewWalks.Bytes.{bytes_turn}
+use Rattle.distribute.specs.Preview.Bytes.{turned_bytes}
+use Rattle.distribute.specs.Preview.Walks.{Shows}
+use Rattle.distribute.proofs.PreviewLaws.Bytes.{bytes_turn}
 
 module _ {S : Steps} (L : Lawful S) (ts : S.Tangents) (start : ℕ) (Y₀ : List ℕ) (by : S.Plan) (k : Counts) (places : List ℕ) where
   open S use {Plan, n, step, fixed}

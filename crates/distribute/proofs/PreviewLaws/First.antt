@@ -16,10 +16,10 @@ use Rattle.distribute.proofs.SpreadLaws.Loops.{first_left, first_below}
 use Rattle.distribute.proofs.SpreadLaws.Bodies.{FirstGoing, first_going, first_room, first_next, first_less, first_over}
 use Rattle.distribute.specs.Steps.FloatSteps.{Gathered, is_mark, is_start, tangent_direction, begin, gather, gather_edge}
 use Rattle.distribute.specs.Walks.Walks.{first_from}
-use Rattle.distribute.specs.PreviewWalks.Walks.{steps_of, summed_of, add_tangent}
-use Rattle.distribute.specs.declared.preview_walks.Summed.{Summed}
-use Rattle.distribute.specs.declared.preview_walks.lists.PreviewLists.{PreviewLists}
-use Rattle.distribute.proofs.PreviewWalks.Lawful.{laws}
+use Rattle.distribute.specs.Preview.Walks.{steps_of, summed_of, add_tangent}
+use Rattle.distribute.specs.declared.preview.walks.Summed.{Summed}
+use Rattle.distribute.specs.declared.preview.walks.lists.PreviewLists.{PreviewLists}
+use Rattle.distribute.proofs.PreviewLaws.Lawful.{laws}
 
 -- what is gathered of one halfedge more, summed
 summed_more : (H : Halfedges) (P N : List Float) (T : List Float) (start y : ℕ) (s : Summed) (g : Gathered) → s ≡ summed_of g

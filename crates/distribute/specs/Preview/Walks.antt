@@ -7,10 +7,10 @@ use Rattle.distribute.specs.Spread.Spread.{State}
 use Rattle.distribute.specs.Steps.FloatSteps.{Gathered, next_normal, float_steps}
 use Rattle.distribute.specs.Walks.Walks.{state_of, first_from}
 use Rattle.distribute.specs.declared.walks.Counts.{Counts}
-use Rattle.distribute.specs.PreviewWalks.Bytes.{turned_bytes}
-use Rattle.distribute.specs.declared.preview_walks.Summed.{Summed}
-use Rattle.distribute.specs.declared.preview_walks.Seen.{Seen}
-use Rattle.distribute.specs.declared.preview_walks.lists.PreviewLists.{PreviewLists}
+use Rattle.distribute.specs.Preview.Bytes.{turned_bytes}
+use Rattle.distribute.specs.declared.preview.walks.Summed.{Summed}
+use Rattle.distribute.specs.declared.preview.walks.Seen.{Seen}
+use Rattle.distribute.specs.declared.preview.walks.lists.PreviewLists.{PreviewLists}
 
 -- the steps of spreading over the lists
 abbrev pub steps_of : PreviewLists → List Float → List Float → Steps

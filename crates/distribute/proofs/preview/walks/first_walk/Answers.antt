@@ -1,11 +1,11 @@
--- `preview_walks::first_walk` meets its contract: the invariant is `Summing`, and the measure the steps that are left.
+-- `preview::walks::first_walk` meets its contract: the invariant is `Summing`, and the measure the steps that are left.
 use mathlib.Core.Path.{sym, ◌∙◌}
 use mathlib.Core.List.{List, []}
 use lib.Ieee.{Float}
 use native.Mathlib.Omega.{arith}
 use Rattle.mesh.proofs.Inside.{inside}
-use Rattle.distribute.proofs.PreviewWalks.First.{summing_begin, summing_room, summing_below, summing_next, summing_less, summing_over}
-use Rattle.distribute.proofs.preview_walks.first_walk.Goals as goal
+use Rattle.distribute.proofs.PreviewLaws.First.{summing_begin, summing_room, summing_below, summing_next, summing_less, summing_over}
+use Rattle.distribute.proofs.preview.walks.first_walk.Goals as goal
 
 pub loop-init : goal.loop-init
 loop-init c P N =

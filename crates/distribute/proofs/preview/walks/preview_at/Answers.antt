@@ -1,7 +1,7 @@
--- `preview_walks::preview_at` meets its contract.
+-- `preview::walks::preview_at` meets its contract.
 use mathlib.Core.Path.{sym, ◌∙◌}
-use Rattle.distribute.proofs.PreviewWalks.Starts.{shows_none, shows_first, shows_both}
-use Rattle.distribute.proofs.preview_walks.preview_at.Goals as goal
+use Rattle.distribute.proofs.PreviewLaws.Starts.{shows_none, shows_first, shows_both}
+use Rattle.distribute.proofs.preview.walks.preview_at.Goals as goal
 
 pub returns-then-not-is_start-clause-previews : goal.returns-then-not-is_start-clause-previews
 returns-then-not-is_start-clause-previews c =

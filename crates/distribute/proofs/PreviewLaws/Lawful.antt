@@ -3,8 +3,8 @@ use mathlib.Core.List.{List}
 use lib.Ieee.{Float}
 use Rattle.distribute.specs.Spread.Steps.{Lawful}
 use Rattle.distribute.proofs.WalksLaws.Lawful.{lawful}
-use Rattle.distribute.specs.PreviewWalks.Walks.{steps_of}
-use Rattle.distribute.specs.declared.preview_walks.lists.PreviewLists.{PreviewLists}
+use Rattle.distribute.specs.Preview.Walks.{steps_of}
+use Rattle.distribute.specs.declared.preview.walks.lists.PreviewLists.{PreviewLists}
 
 abbrev pub laws : (lists : PreviewLists) (P N : List Float) → Lawful (steps_of lists P N)
 laws lists P N = lawful lists.sound P N lists.fixed.now

@@ -14,7 +14,7 @@ use Rattle.cycles.proofs.Count.{delta_equal, delta_other}
 use Rattle.distribute.specs.Spread.Steps.{Steps}
 use Rattle.distribute.specs.Spread.Spread.{State, handed_in, turn_at}
 use Rattle.distribute.specs.Spread.Order.{WasTurned}
-use Rattle.distribute.specs.PreviewWalks.Bytes.{turned_byte, turned_bytes}
+use Rattle.distribute.specs.Preview.Bytes.{turned_byte, turned_bytes}
 use Rattle.std.proofs.lemmas.List.FromFn.{length-map-range_with_len, get_or-map-range_with_len, fill_by_all}
 
 module _ (S : Steps) (st : State S) where

@@ -11,10 +11,10 @@ use Rattle.distribute.proofs.SpreadLaws.Branches.{at_none, at_first, at_both}
 use Rattle.distribute.specs.Steps.FloatSteps.{Plan, is_start, turns_none, plan}
 use Rattle.distribute.specs.Walks.Walks.{state_of, more_turned, first_from}
 use Rattle.distribute.specs.declared.walks.Counts.{Counts}
-use Rattle.distribute.specs.PreviewWalks.Walks.{steps_of, Sums, Previews}
-use Rattle.distribute.specs.declared.preview_walks.Summed.{Summed}
-use Rattle.distribute.specs.declared.preview_walks.Seen.{Seen}
-use Rattle.distribute.specs.declared.preview_walks.lists.PreviewLists.{PreviewLists}
+use Rattle.distribute.specs.Preview.Walks.{steps_of, Sums, Previews}
+use Rattle.distribute.specs.declared.preview.walks.Summed.{Summed}
+use Rattle.distribute.specs.declared.preview.walks.Seen.{Seen}
+use Rattle.distribute.specs.declared.preview.walks.lists.PreviewLists.{PreviewLists}
 
 module _ (lists : PreviewLists) (P N : List Float) (start : ℕ) (k : Counts) where
   abbrev steps : Steps

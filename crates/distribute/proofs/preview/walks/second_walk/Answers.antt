@@ -1,4 +1,4 @@
--- `preview_walks::second_walk` meets its contract: the invariant is `Showing`, and the measure the steps that are left.
+-- `preview::walks::second_walk` meets its contract: the invariant is `Showing`, and the measure the steps that are left.
 use mathlib.Core.Path.{sym, ◌∙◌}
 use mathlib.Core.List.{[]}
 use native.Mathlib.Omega.{arith}
@@ -6,9 +6,9 @@ use lib.Ieee.{nan}
 use Rattle.mesh.proofs.Inside.{inside}
 use Rattle.distribute.specs.Steps.FloatSteps.{Plan}
 use Rattle.distribute.specs.declared.walks.Counts.{Counts}
-use Rattle.distribute.proofs.PreviewWalks.Lawful.{laws}
-use Rattle.distribute.proofs.PreviewWalks.Second.{showing_begin, showing_below, showing_leaves, showing_less, showing_next, showing_over, showing_few, showing_within}
-use Rattle.distribute.proofs.preview_walks.second_walk.Goals as goal
+use Rattle.distribute.proofs.PreviewLaws.Lawful.{laws}
+use Rattle.distribute.proofs.PreviewLaws.Second.{showing_begin, showing_below, showing_leaves, showing_less, showing_next, showing_over, showing_few, showing_within}
+use Rattle.distribute.proofs.preview.walks.second_walk.Goals as goal
 
 -- any plan and any counts do for what does not depend on them
 abbrev none : Counts

@@ -1,4 +1,4 @@
--- `preview_walks::second_walk` meets its contract: the invariant is `Showing`, and the measure the steps that are left.
+-- `preview::walks::second_walk` meets its contract: the invariant is `Showing`, and the measure the steps that are left.
 use mathlib.Core.List.{List}
 use Prim.Native.Nat.{ℕ, suc}
 use lib.Ieee.{Float}
@@ -7,9 +7,9 @@ use Rattle.cycles.specs.Cycles.{next_around}
 use Rattle.cycles.proofs.Paths.{steps_left}
 use Rattle.distribute.specs.Steps.FloatSteps.{Plan, is_fixed}
 use Rattle.distribute.specs.declared.walks.Counts.{Counts}
-use Rattle.distribute.proofs.PreviewWalks.Lawful.{laws}
-use Rattle.distribute.proofs.PreviewWalks.Second.{Showing}
-use Rattle.distribute.proofs.preview_walks.second_walk.Given as goal
+use Rattle.distribute.proofs.PreviewLaws.Lawful.{laws}
+use Rattle.distribute.proofs.PreviewLaws.Second.{Showing}
+use Rattle.distribute.proofs.preview.walks.second_walk.Given as goal
 
 abbrev pub invariant-walk : goal.invariant-walk
 invariant-walk l =

@@ -3,7 +3,7 @@
 // Each function asks for its own place (`start < n`, `e * 4 + 4 ≤ length t`) and for room in the counts: both differ from call to
 // call, so no struct of the lists can hold them. The bytes stay a parameter, and their length a clause: the list is written, and a
 // struct that lends it would make each clause say `lists.new.bytes.now`.
-// The walks are alike in shape to those of `distribute_walks`, where it stands why both stay.
+// The walks are alike in shape to those of the module `walks` of the crate, where it stands why both stay.
 
 ghost use Rattle.std.specs.Prelude.{◌≡◌, true, cond, List, suc, ◌+◌, ◌*◌, ◌^◌, ◌≤◌, ◌<◌, length, set, Float};
 ghost use Rattle.mesh.specs.Mesh.{as_halfedges};
@@ -12,7 +12,7 @@ ghost use Rattle.distribute.specs.Spread.Spread.{second_walk, spread_at};
 ghost use Rattle.distribute.specs.Steps.FloatSteps.{Plan, is_mark, is_start, tangent_direction, float_steps};
 ghost use Rattle.distribute.specs.Walks.Walks.{Room, more_turned};
 ghost use Rattle.distribute.specs.declared.walks.Counts.{Counts};
-ghost use Rattle.distribute.specs.PreviewWalks.Walks.{steps_of, add_tangent, Sums, Previews};
+ghost use Rattle.distribute.specs.Preview.Walks.{steps_of, add_tangent, Sums, Previews};
 
 mod lists;
 
@@ -50,7 +50,7 @@ fn direction_at(walk: &Walk, e: usize) -> Vec3
 }
 
 // One step of the first walk, onto halfedge e: a marked one gathers nothing.
-#[tactic(auto, using(smoothing::proofs::Tangents::weight_of), unfolding(crate::specs::PreviewWalks::Walks::add_tangent))]
+#[tactic(auto, using(smoothing::proofs::Tangents::weight_of), unfolding(crate::specs::Preview::Walks::add_tangent))]
 fn add_tangent(walk: &Walk, e: usize, s: Summed) -> Summed
     requires { (e * 4 + 4 ≤ length walk.now.lists.now.t.now) × (s.count + 1 < 2 ^ 64) }
     ensures { result ≡ cond (is_mark (tangent_at walk.now.lists.now.t.now e).w) s (add_tangent (tangent_direction (tangent_at walk.now.lists.now.t.now e)) s) }
@@ -67,7 +67,7 @@ fn add_tangent(walk: &Walk, e: usize, s: Summed) -> Summed
 }
 
 // The first walk, which ends at the next halfedge that is fixed and unmarked. A loop and no iterator, here and in the
-// second walk: document 01 names this form.
+// second walk.
 fn first_walk(walk: &Walk, counts: Counts) -> Seen
     requires { Room walk.now.lists.now.n counts }
     ensures sums { Sums walk.now.lists.now walk.now.start counts.looked result }
