@@ -5,5 +5,4 @@ pub mod First
 pub mod Second
 pub mod Starts
 pub mod Pass
-pub mod Accepted
 pub mod Order

@@ -11,7 +11,7 @@ mod walks;
 ghost use Rattle.std.specs.Prelude.{◌≡◌};
 ghost use Rattle.mesh.specs.Mesh.{as_halfedges};
 ghost use Rattle.distribute.specs.Steps.FloatSteps.{float_steps};
-ghost use Rattle.distribute.specs.Distribute.{looked_of, turned_of, lists_fit, lengths_fit, check_lists, spread_tangents, distribute_tangents, tangents_after, scratch_after, AnyOrder, Values};
+ghost use Rattle.distribute.specs.Distribute.{looked_of, turned_of, check_with, check_lists, spread_tangents, distribute_tangents, tangents_after, scratch_after, AnyOrder, Values};
 ghost use Rattle.distribute.specs.Claims.{GuardsNeverFire, AnglesInLists, OwnStartsNamed};
 
 use inner::SpreadLists;
@@ -33,10 +33,10 @@ pub fn turned_of(spreading: Result<Counts, Refusal>) -> usize
     spreading.map_or(0, |counts| counts.turned)
 }
 
-// Question 2 of the lists that spreading and its preview read or turn. No struct, here or in the other questions: what its
-// invariant would say is what they ask.
+// The questions 1 to 7 and 11 of spreading and of its preview; `others` says whether question 2 passes the lists that only the one of
+// them is lent. No struct of the lists: what its invariant would say is what is asked.
 #[tactic(auto, unfolding(mesh::specs::Mesh::as_halfedges))]
-fn lists_fit(
+fn check_with(
     n: usize,
     p: usize,
     h: &[i32],
@@ -44,48 +44,15 @@ fn lists_fit(
     normals: &[f64],
     fixed: &[u8],
     t: &[f64],
-) -> bool
-    ensures { result ≡ lists_fit (as_halfedges h.now) pos.now normals.now fixed.now t.now n p }
+    others: bool,
+) -> Result<(), Refusal>
+    ensures { result ≡ check_with (as_halfedges h.now) pos.now normals.now fixed.now t.now others n p }
 {
     let points = questions::points_fit(n, p, h.len(), pos.len(), normals.len());
-    points & questions::has_length(fixed.len(), n, 1) & questions::has_length(t.len(), n, 4)
-}
-
-// Question 2 of the lists that the call is lent.
-fn lengths_fit(
-    n: usize,
-    p: usize,
-    h: &[i32],
-    pos: &[f64],
-    normals: &[f64],
-    fixed: &[u8],
-    t: &[f64],
-    current: &[f64],
-    desired: &[f64],
-) -> bool
-    ensures { result ≡ lengths_fit (as_halfedges h.now) pos.now normals.now fixed.now t.now current.now desired.now n p }
-{
-    let lists = lists_fit(n, p, h, pos, normals, fixed, t);
-    lists & questions::has_length(current.len(), n, 1) & questions::has_length(desired.len(), n, 1)
-}
-
-// The questions 1 to 7 and 11.
-#[tactic(auto, unfolding(crate::specs::Distribute::check_lists))]
-fn check_lists(
-    n: usize,
-    p: usize,
-    h: &[i32],
-    pos: &[f64],
-    normals: &[f64],
-    fixed: &[u8],
-    t: &[f64],
-    current: &[f64],
-    desired: &[f64],
-) -> Result<(), Refusal>
-    ensures { result ≡ check_lists (as_halfedges h.now) pos.now normals.now fixed.now t.now current.now desired.now n p }
-{
-    let lengths = lengths_fit(n, p, h, pos, normals, fixed, t, current, desired);
-    let checked = questions::check_mesh(h, n, p, lengths);
+    let lists = points
+        & questions::has_length(fixed.len(), n, 1)
+        & questions::has_length(t.len(), n, 4);
+    let checked = questions::check_mesh(h, n, p, lists & others);
     questions::check_flags(checked, fixed, n)
 }
 
@@ -93,7 +60,7 @@ fn check_lists(
 // for each halfedge, and the scratch lists `current` and `desired` (the Rust's `current_angle` and `desired_angle`) a
 // place for each halfedge.
 // The signature stays flat, as the C interface lends: counts, lists read, lists written, scratch.
-#[tactic(auto, using(crate::proofs::Accepted::lists_of, crate::proofs::Values::values_of))]
+#[tactic(auto, using(crate::proofs::Accepted::lists_of, crate::proofs::Values::values_of), unfolding(crate::specs::Distribute::check_lists))]
 pub fn distribute_tangents(
     n: usize,
     p: usize,
@@ -114,7 +81,9 @@ pub fn distribute_tangents(
     ensures angles { AnglesInLists (as_halfedges h.now) pos.now normals.now fixed.now t.old current.old desired.old n p }
     ensures values { Values (check_lists (as_halfedges h.now) pos.now normals.now fixed.now t.old current.old desired.old n p) (float_steps (as_halfedges h.now) pos.now normals.now fixed.now n) (spread_tangents (as_halfedges h.now) pos.now normals.now fixed.now t.old n) result }
 {
-    let checked = check_lists(n, p, h, pos, normals, fixed, t, current, desired);
+    let scratch = questions::has_length(current.len(), n, 1)
+        & questions::has_length(desired.len(), n, 1);
+    let checked = check_with(n, p, h, pos, normals, fixed, t, scratch);
     let Ok(()) = checked else {
         return questions::refused(checked);
     };

@@ -33,31 +33,10 @@ fn preview_all(lists: &PreviewLists, bytes: &mut [u8]) -> Counts
     counts
 }
 
-// The questions 1 to 7 and 11; the second of the lists that the call is lent. No struct of them: what its ghost fields would say is
-// what is asked.
-#[tactic(auto, unfolding(crate::specs::Preview::Preview::check_lists))]
-fn check_lists(
-    n: usize,
-    p: usize,
-    h: &[i32],
-    pos: &[f64],
-    normals: &[f64],
-    fixed: &[u8],
-    t: &[f64],
-    bytes: &[u8],
-) -> Result<(), Refusal>
-    ensures { result ≡ check_lists (as_halfedges h.now) pos.now normals.now fixed.now t.now bytes.now n p }
-{
-    let lists = crate::lists_fit(n, p, h, pos, normals, fixed, t);
-    let lengths = lists & questions::has_length(bytes.len(), n, 1);
-    let checked = questions::check_mesh(h, n, p, lengths);
-    questions::check_flags(checked, fixed, n)
-}
-
 // The preview, for lists of any length and content. `pos` and `normals` have three numbers for each point, `fixed` a flag
 // for each halfedge, and `bytes` a byte: 1 if the halfedge's tangent would be written, else 0.
 // The signature stays flat, as the C interface lends: counts, lists read, lists written, scratch.
-#[tactic(auto, using(crate::proofs::PreviewLaws::Accepted::lists_of, crate::proofs::Values::values_of))]
+#[tactic(auto, using(crate::proofs::Accepted::preview_lists_of, crate::proofs::Values::values_of), unfolding(crate::specs::Preview::Preview::check_lists))]
 pub fn preview_tangents(
     n: usize,
     p: usize,
@@ -74,7 +53,8 @@ pub fn preview_tangents(
     ensures order { AnyOrder (as_halfedges h.now) pos.now normals.now fixed.now t.now bytes.old n p bytes.new result }
     ensures values { Values (check_lists (as_halfedges h.now) pos.now normals.now fixed.now t.now bytes.old n p) (float_steps (as_halfedges h.now) pos.now normals.now fixed.now n) (spread_tangents (as_halfedges h.now) pos.now normals.now fixed.now t.now n) result }
 {
-    let checked = check_lists(n, p, h, pos, normals, fixed, t, bytes);
+    let room = questions::has_length(bytes.len(), n, 1);
+    let checked = crate::check_with(n, p, h, pos, normals, fixed, t, room);
     let Ok(()) = checked else {
         return questions::refused(checked);
     };
