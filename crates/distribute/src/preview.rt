@@ -1,26 +1,26 @@
 // The preview of spreading as a public call: what `distribute_tangents` of src/smoothing_tangents.rs would look at and turn. The tangents
 // are only read.
 
-ghost use Rattle.std.specs.Prelude.{◌≡◌, List, length, Float};
+ghost use Rattle.std.specs.Prelude.{◌≡◌, ◌*◌, length};
 ghost use Rattle.mesh.specs.Mesh.{as_halfedges};
 ghost use Rattle.distribute.specs.Spread.Spread.{pass};
 ghost use Rattle.distribute.specs.Steps.FloatSteps.{float_steps};
+ghost use Rattle.distribute.specs.Walks.Walks.{steps_of};
 ghost use Rattle.distribute.specs.Distribute.{spread_tangents, Values};
-ghost use Rattle.distribute.specs.Preview.Walks.{steps_of, Shows};
+ghost use Rattle.distribute.specs.Preview.Walks.{Shows};
 ghost use Rattle.distribute.specs.Preview.Preview.{check_lists, preview_tangents, bytes_after, AsSpreading, AnyOrder};
 
 mod walks;
 
-use crate::walks::Counts;
+use crate::walks::{Counts, SpreadLists};
 use questions::Refusal;
-use walks::PreviewLists;
 
 // The loop over the halfedges of an accepted mesh, after zeros in all bytes. The bytes are written, and so their length is a clause: of
 // a struct that lends them each clause would say `lists.new.bytes.now` for `bytes.new`.
 #[tactic(auto, using(crate::proofs::PreviewLaws::Pass::shown_begin))]
-fn preview_all(lists: &PreviewLists, bytes: &mut [u8]) -> Counts
-    requires { length bytes.old ≡ lists.now.n }
-    ensures { (P N : List Float) → Shows (steps_of lists.now P N) (pass (steps_of lists.now P N) lists.now.t.now) bytes.new result }
+fn preview_all(lists: &SpreadLists, t: &[f64], bytes: &mut [u8]) -> Counts
+    requires { (length t.now ≡ lists.now.n * 4) × (length bytes.old ≡ lists.now.n) }
+    ensures { Shows (steps_of lists.now) (pass (steps_of lists.now) t.now) bytes.new result }
 {
     bytes.fill(0);
     let mut counts = Counts {
@@ -28,7 +28,7 @@ fn preview_all(lists: &PreviewLists, bytes: &mut [u8]) -> Counts
         turned: 0,
     };
     for start in 0..lists.n {
-        counts = walks::preview_at(lists, bytes, start, counts);
+        counts = walks::preview_at(lists, t, bytes, start, counts);
     }
     counts
 }
@@ -58,7 +58,14 @@ pub fn preview_tangents(
     let Ok(()) = checked else {
         return questions::refused(checked);
     };
-    let lists = PreviewLists { n, p, h, fixed, t };
-    let counts = preview_all(&lists, bytes);
+    let lists = SpreadLists {
+        n,
+        p,
+        h,
+        pos,
+        normals,
+        fixed,
+    };
+    let counts = preview_all(&lists, t, bytes);
     Ok(counts)
 }

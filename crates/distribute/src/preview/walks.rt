@@ -10,16 +10,15 @@ ghost use Rattle.mesh.specs.Mesh.{as_halfedges};
 ghost use Rattle.smoothing.specs.Lists.{tangent_at};
 ghost use Rattle.distribute.specs.Spread.Spread.{second_walk, spread_at};
 ghost use Rattle.distribute.specs.Steps.FloatSteps.{Plan, is_mark, is_start, tangent_direction, float_steps};
-ghost use Rattle.distribute.specs.Walks.Walks.{Room, more_turned};
+ghost use Rattle.distribute.specs.Walks.Walks.{steps_of, Room, more_turned};
 ghost use Rattle.distribute.specs.declared.walks.Counts.{Counts};
-ghost use Rattle.distribute.specs.Preview.Walks.{steps_of, add_tangent, Sums, Previews};
+ghost use Rattle.distribute.specs.Preview.Walks.{add_tangent, Sums, Previews};
 
 mod lists;
 
-use crate::walks::Counts;
+use crate::walks::{Counts, SpreadLists};
 use crate::{steps, walks};
 use linalg::Vec3;
-pub use lists::PreviewLists;
 use lists::Walk;
 
 // What of the first walk decides whether anything is turned: the number of angles and the sum `normal`, for which the last
@@ -40,22 +39,22 @@ pub struct Seen {
 
 // The direction of the tangent of halfedge e. Back at its start, a walk uses the one that it set out with.
 fn direction_at(walk: &Walk, e: usize) -> Vec3
-    requires { e * 4 + 4 ≤ length walk.now.lists.now.t.now }
-    ensures { result ≡ tangent_direction (tangent_at walk.now.lists.now.t.now e) }
+    requires { e * 4 + 4 ≤ length walk.now.t.now }
+    ensures { result ≡ tangent_direction (tangent_at walk.now.t.now e) }
 {
     if e == walk.start {
         return walk.first;
     }
-    steps::tangent_direction(smoothing::tangent_at(walk.lists.t, e))
+    steps::tangent_direction(smoothing::tangent_at(walk.t, e))
 }
 
 // One step of the first walk, onto halfedge e: a marked one gathers nothing.
 #[tactic(auto, using(smoothing::proofs::Tangents::weight_of), unfolding(crate::specs::Preview::Walks::add_tangent))]
 fn add_tangent(walk: &Walk, e: usize, s: Summed) -> Summed
-    requires { (e * 4 + 4 ≤ length walk.now.lists.now.t.now) × (s.count + 1 < 2 ^ 64) }
-    ensures { result ≡ cond (is_mark (tangent_at walk.now.lists.now.t.now e).w) s (add_tangent (tangent_direction (tangent_at walk.now.lists.now.t.now e)) s) }
+    requires { (e * 4 + 4 ≤ length walk.now.t.now) × (s.count + 1 < 2 ^ 64) }
+    ensures { result ≡ cond (is_mark (tangent_at walk.now.t.now e).w) s (add_tangent (tangent_direction (tangent_at walk.now.t.now e)) s) }
 {
-    if smoothing::is_marked_inside_quad(walk.lists.t, e) {
+    if smoothing::is_marked_inside_quad(walk.t, e) {
         return s;
     }
     let tangent = direction_at(walk, e);
@@ -70,7 +69,7 @@ fn add_tangent(walk: &Walk, e: usize, s: Summed) -> Summed
 // second walk.
 fn first_walk(walk: &Walk, counts: Counts) -> Seen
     requires { Room walk.now.lists.now.n counts }
-    ensures sums { Sums walk.now.lists.now walk.now.start counts.looked result }
+    ensures sums { Sums walk.now.lists.now walk.now.t.now walk.now.start counts.looked result }
     ensures looked_bound { result.looked ≤ counts.looked + walk.now.lists.now.n }
 {
     let normal = Vec3 {
@@ -89,7 +88,7 @@ fn first_walk(walk: &Walk, counts: Counts) -> Seen
         here = cycles::next_around(walk.lists.h, here);
         looked += 1;
         summed = add_tangent(walk, here, summed);
-        if steps::is_start(walk.lists.fixed, walk.lists.t, here) {
+        if steps::is_start(walk.lists.fixed, walk.t, here) {
             break;
         }
     }
@@ -113,7 +112,7 @@ fn show_unmarked(t: &[f64], bytes: &mut [u8], i: usize, e: usize) -> usize
 // The second walk: leaves by its label at a fixed halfedge other than the start, before that one's mark is read.
 fn second_walk(walk: &Walk, bytes: &mut [u8]) -> usize
     requires { length bytes.old ≡ walk.now.lists.now.n }
-    ensures previews { (P N : List Float) (by : Plan) (k : Counts) → Previews (steps_of walk.now.lists.now P N) (second_walk (steps_of walk.now.lists.now P N) (suc walk.now.lists.now.n) walk.now.start walk.now.start by) walk.now.lists.now.t.now bytes.old k bytes.new (more_turned k result) }
+    ensures previews { (by : Plan) (k : Counts) → Previews (steps_of walk.now.lists.now) (second_walk (steps_of walk.now.lists.now) (suc walk.now.lists.now.n) walk.now.start walk.now.start by) walk.now.t.now bytes.old k bytes.new (more_turned k result) }
     ensures few { result ≤ walk.now.lists.now.n }
 {
     let mut here = walk.start;
@@ -123,7 +122,7 @@ fn second_walk(walk: &Walk, bytes: &mut [u8]) -> usize
         if walks::leaves(walk.lists.fixed, walk.start, here) {
             break 'walk;
         }
-        i = show_unmarked(walk.lists.t, bytes, i, here);
+        i = show_unmarked(walk.t, bytes, i, here);
         if here == walk.start {
             break 'walk;
         }
@@ -133,18 +132,25 @@ fn second_walk(walk: &Walk, bytes: &mut [u8]) -> usize
 
 // One turn of the loop over the halfedges: one that is not fixed is no start, and a marked start is passed over. From any
 // other start both walks go.
-pub fn preview_at(lists: &PreviewLists, bytes: &mut [u8], start: usize, counts: Counts) -> Counts
-    requires bytes { length bytes.old ≡ lists.now.n }
+pub fn preview_at(
+    lists: &SpreadLists,
+    t: &[f64],
+    bytes: &mut [u8],
+    start: usize,
+    counts: Counts,
+) -> Counts
+    requires lengths { (length t.now ≡ lists.now.n * 4) × (length bytes.old ≡ lists.now.n) }
     requires start_lt_n { (start < lists.now.n) × Room lists.now.n counts }
-    ensures previews { (P N : List Float) → Previews (steps_of lists.now P N) (spread_at (steps_of lists.now P N) start) lists.now.t.now bytes.old counts bytes.new result }
+    ensures previews { Previews (steps_of lists.now) (spread_at (steps_of lists.now) start) t.now bytes.old counts bytes.new result }
     ensures looked_bound { (result.looked ≤ counts.looked + lists.now.n) × (result.turned ≤ counts.turned + lists.now.n) }
 {
-    if !steps::is_start(lists.fixed, lists.t, start) {
+    if !steps::is_start(lists.fixed, t, start) {
         return counts;
     }
-    let first = steps::tangent_direction(smoothing::tangent_at(lists.t, start));
+    let first = steps::tangent_direction(smoothing::tangent_at(t, start));
     let walk = Walk {
         lists,
+        t,
         start,
         first,
     };
