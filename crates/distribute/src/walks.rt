@@ -3,8 +3,8 @@
 // Each function asks for its own place (`start < n`, of which `is_start` may be known) and for room in the counts: both differ from
 // call to call, so no struct of the lists can hold them. The lists that are written stay parameters: with a struct that lends them
 // each clause would read `lists.new.t.now` and state what they are lent as, too.
-// These walks and this turn are alike in shape to those of `preview_walks`, and both stay: the preview carries no angles and writes
-// no tangents (document 02 asks for one without scratch), and one text for both would take the step of each walk with its own state.
+// These walks and this turn are alike in shape to those of `preview::walks`, and both stay: the preview carries no angles and writes
+// no tangents (it has no scratch lists), and one text for both would take the step of each walk with its own state.
 
 ghost use Rattle.std.specs.Prelude.{◌≡◌, true, not, cond, ◌&&◌, List, suc, ◌+◌, ◌≤◌, ◌<◌, length, eqb, Float};
 ghost use Rattle.mesh.specs.Mesh.{as_halfedges};
@@ -70,8 +70,8 @@ fn gather_at(
     steps::gather_edge(current, desired, walk.approx, at, e == walk.start, g)
 }
 
-// The first walk, document 01's "loop that yields the halfedge where it stopped": breaks with the next one that is fixed and
-// unmarked. No iterator, here or in the second walk: document 01 names this form.
+// The first walk, a loop that yields the halfedge where it stopped: breaks with the next one that is fixed and unmarked. No iterator,
+// here or in the second walk.
 fn first_walk(
     lists: &SpreadLists,
     t: &[f64],

@@ -65,8 +65,7 @@ fn add_tangent(walk: &Walk, e: usize, s: Summed) -> Summed
     }
 }
 
-// The first walk, which ends at the next halfedge that is fixed and unmarked. A loop and no iterator, here and in the
-// second walk.
+// The first walk, which ends at the next halfedge that is fixed and unmarked.
 fn first_walk(walk: &Walk, counts: Counts) -> Seen
     requires { Room walk.now.lists.now.n counts }
     ensures sums { Sums walk.now.lists.now walk.now.t.now walk.now.start counts.looked result }
