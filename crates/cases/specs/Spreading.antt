@@ -2,7 +2,7 @@
 use Rattle.std.specs.Prelude.{ℕ, suc, ◌+◌, ◌*◌, ◌%◌, ◌≡◌, Bool, true, false, eqb, List, [], ◌∷◌, get_or, set}
 use Rattle.distribute.specs.Spread.Steps.{Steps}
 use Rattle.distribute.specs.Spread.Spread.{spread, pass}
-use Rattle.distribute.specs.PreviewWalks.Bytes.{turned_bytes}
+use Rattle.distribute.specs.Preview.Bytes.{turned_bytes}
 
 -- with these flags; the rounds are {0, 3}, {1, 5} and {2, 4}
 abbrev pub steps : List Bool → Steps

@@ -17,7 +17,7 @@ use crate::creases::LinkedCreases;
 use crate::shapes::ShapeLists;
 use crate::{creases, initial, shapes};
 use create_shared::MeshLists;
-use distribute::walks::SpreadLists;
+use distribute::inner::SpreadLists;
 
 // The tangents and the fixed flags, and the count, where `smooth` holds the smoothness of the caller's entries, and whatever the
 // flags and the other scratch lists held: `flat`, `smooth` and `link` with a place for each halfedge, `at` with one for each point.
@@ -72,7 +72,7 @@ fn finish_tangents(
     ensures smooth { smooth.new ≡ replicate mesh.entry.n zero }
     ensures desired { desired.new ≡ replicate mesh.entry.n zero }
 {
-    linearize::linearize_all(mesh.n, mesh.p, mesh.h, mesh.pos, t);
+    linearize::inner::linearize_all(mesh.n, mesh.p, mesh.h, mesh.pos, t);
     let lists = SpreadLists {
         n: mesh.n,
         p: mesh.p,
@@ -81,7 +81,7 @@ fn finish_tangents(
         normals: mesh.normals,
         fixed,
     };
-    distribute::spread_tangents(&lists, t, smooth, desired);
+    distribute::inner::spread_tangents(&lists, t, smooth, desired);
 }
 
 // The tangents of an accepted call, where `smooth` holds the smoothness of the entries, and zeros in all scratch lists; and the

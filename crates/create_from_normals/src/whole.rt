@@ -16,7 +16,7 @@ ghost use Rattle.create_from_normals.specs.Whole.Flags.{halfedges_of, quad_flag_
 
 use crate::walks::{NormalLists, WalkLists};
 use crate::{state, walks};
-use distribute::walks::SpreadLists;
+use distribute::inner::SpreadLists;
 use quad_lists::QuadLists;
 
 // The flag of halfedge e: 1 if it is inside a quad.
@@ -126,7 +126,7 @@ pub fn make_tangents(
         normals: mesh.normals,
         fixed,
     };
-    distribute::spread_tangents(&spread, t, current, desired);
+    distribute::inner::spread_tangents(&spread, t, current, desired);
     fixed.fill(0);
     inside.fill(0);
     first.fill(0);

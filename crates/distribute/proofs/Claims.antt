@@ -1,4 +1,4 @@
--- The guards never fire, no angle is read past its list, and the unit's own starts are named: what the laws of `distribute_spread` say of the float steps on an accepted mesh.
+-- The guards never fire, no angle is read past its list, and the unit's own starts are named: what the laws of spreading say of the float steps on an accepted mesh.
 use Prim.Native.Nat.{ℕ, zero, suc, ◌+◌, ◌≤◌}
 use native.Mathlib.Omega.{arith}
 use mathlib.Core.Path.{◌≡◌, refl, sym, ap, ◌∙◌}

@@ -7,5 +7,4 @@ pub mod Claims
 pub mod SpreadLaws
 pub mod StepsLaws
 pub mod WalksLaws
-pub mod PreviewWalks
 pub mod PreviewLaws

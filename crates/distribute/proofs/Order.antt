@@ -1,4 +1,4 @@
--- Demand 3 of the call, from what it answers and leaves.
+-- The order rule of the call, from what it answers and leaves.
 use mathlib.Core.List.{List}
 use Prim.Native.Nat.{ℕ}
 use lib.Ieee.{Float}

@@ -1,4 +1,7 @@
--- The laws of `preview`, for the crates above.
+-- The laws of the module `preview`, for the crates above.
+pub mod Bytes
+pub mod First
+pub mod Second
+pub mod Starts
 pub mod Pass
-pub mod Accepted
 pub mod Order

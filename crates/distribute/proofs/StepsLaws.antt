@@ -1,2 +1,2 @@
--- The laws of `distribute_steps`, for the crates above.
+-- The laws of the module `steps`, for the crates above.
 pub mod Angles

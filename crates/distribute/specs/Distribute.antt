@@ -1,4 +1,4 @@
--- Spreading as a public call: `distribute_tangents` of src/smoothing_tangents.rs, with document 01's two counts and its questions. H are the halfedges, P the positions, N the point normals, X the flags, T the tangents, C and D the scratch lists, n and p the counts of halfedges and points.
+-- Spreading as a public call: `distribute_tangents` of src/smoothing_tangents.rs, with its two counts and its questions. H are the halfedges, P the positions, N the point normals, X the flags, T the tangents, C and D the scratch lists, n and p the counts of halfedges and points.
 use Rattle.std.specs.Prelude.{ℕ, ◌≡◌, List, Bool, ◌&&◌, length, replicate, Float, Result, Ok, Err}
 use Rattle.float.specs.Ops.{zero}
 use Rattle.mesh.specs.Mesh.{Halfedges}
@@ -11,7 +11,7 @@ use Rattle.distribute.specs.Spread.Order.{NamesFixed, OrderFree}
 use Rattle.distribute.specs.Steps.FloatSteps.{float_steps}
 use Rattle.distribute.specs.declared.walks.Counts.{Counts}
 
--- ---- document 01's values of an answer
+-- ---- the values of an answer
 
 -- the two counts, or the refusal
 abbrev pub Spreading : Type 0
@@ -33,13 +33,13 @@ abbrev pub lists_fit : Halfedges → List Float → List Float → List ℕ → 
 lists_fit H P N X T n p =
     points_fit H.numbers (length P) (length N) n p && has_length (length X) n 1 && has_length (length T) n 4
 
--- question 2 of the lists that the call is lent
-abbrev pub lengths_fit : Halfedges → List Float → List Float → List ℕ → List Float → List Float → List Float → ℕ → ℕ → Bool
-lengths_fit H P N X T C D n p = lists_fit H P N X T n p && has_length (length C) n 1 && has_length (length D) n 1
+-- questions 1 to 7 and 11; `others` says whether question 2 passes the lists that only the one of them is lent
+abbrev pub check_with : Halfedges → List Float → List Float → List ℕ → List Float → Bool → ℕ → ℕ → Checked
+check_with H P N X T others n p = check_flags (check_mesh H n p (lists_fit H P N X T n p && others)) X n
 
--- questions 1 to 7 and 11
+-- of spreading, with its scratch lists
 unfoldable pub check_lists : Halfedges → List Float → List Float → List ℕ → List Float → List Float → List Float → ℕ → ℕ → Checked
-check_lists H P N X T C D n p = check_flags (check_mesh H n p (lengths_fit H P N X T C D n p)) X n
+check_lists H P N X T C D n p = check_with H P N X T (has_length (length C) n 1 && has_length (length D) n 1) n p
 
 -- ---- the call
 
@@ -70,7 +70,7 @@ tangents_after H P N X T C D n p = when_accepted (check_lists H P N X T C D n p)
 abbrev pub scratch_after : Checked → List Float → ℕ → List Float
 scratch_after checked lent n = when_accepted checked (replicate n zero) lent
 
--- Demand 3 of an accepted call that found the tangents T and left them as `after`, and answered r: for every list of starts that names each fixed halfedge once.
+-- The order rule of an accepted call that found the tangents T and left them as `after`, and answered r: for every list of starts that names each fixed halfedge once.
 abbrev pub AnyOrder : Halfedges → List Float → List Float → List ℕ → List Float → List Float → List Float → ℕ → ℕ → List Float → Spreading → Type 0
 AnyOrder H P N X T C D n p after r =
     check_lists H P N X T C D n p ≡ Ok tt → (starts : List ℕ) → NamesFixed (float_steps H P N X n) starts

@@ -4,5 +4,4 @@ pub mod Claims
 pub mod Spread
 pub mod Steps
 pub mod Walks
-pub mod PreviewWalks
 pub mod Preview

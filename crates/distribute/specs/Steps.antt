@@ -1,3 +1,3 @@
--- The specs of `distribute_steps`, in the order of reading.
+-- The specs of the module `steps`, in the order of reading.
 pub mod FloatSteps
 pub mod Scratch

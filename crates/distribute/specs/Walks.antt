@@ -1,2 +1,2 @@
--- The specs of `distribute_walks`.
+-- The specs of the module `walks`.
 pub mod Walks

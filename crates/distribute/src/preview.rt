@@ -1,25 +1,26 @@
-// The preview of spreading (document 02's request 2) as a public call: what `distribute_tangents` of
-// src/smoothing_tangents.rs would look at and turn. The tangents are only read.
+// The preview of spreading as a public call: what `distribute_tangents` of src/smoothing_tangents.rs would look at and turn. The tangents
+// are only read.
 
-ghost use Rattle.std.specs.Prelude.{◌≡◌, List, length, Float};
+ghost use Rattle.std.specs.Prelude.{◌≡◌, ◌*◌, length};
 ghost use Rattle.mesh.specs.Mesh.{as_halfedges};
 ghost use Rattle.distribute.specs.Spread.Spread.{pass};
 ghost use Rattle.distribute.specs.Steps.FloatSteps.{float_steps};
+ghost use Rattle.distribute.specs.Walks.Walks.{steps_of};
 ghost use Rattle.distribute.specs.Distribute.{spread_tangents, Values};
-ghost use Rattle.distribute.specs.PreviewWalks.Walks.{steps_of, Shows};
+ghost use Rattle.distribute.specs.Preview.Walks.{Shows};
 ghost use Rattle.distribute.specs.Preview.Preview.{check_lists, preview_tangents, bytes_after, AsSpreading, AnyOrder};
 
-use crate::preview_walks;
-use crate::preview_walks::PreviewLists;
-use crate::walks::Counts;
+mod walks;
+
+use crate::walks::{Counts, SpreadLists};
 use questions::Refusal;
 
 // The loop over the halfedges of an accepted mesh, after zeros in all bytes. The bytes are written, and so their length is a clause: of
 // a struct that lends them each clause would say `lists.new.bytes.now` for `bytes.new`.
 #[tactic(auto, using(crate::proofs::PreviewLaws::Pass::shown_begin))]
-fn preview_all(lists: &PreviewLists, bytes: &mut [u8]) -> Counts
-    requires { length bytes.old ≡ lists.now.n }
-    ensures { (P N : List Float) → Shows (steps_of lists.now P N) (pass (steps_of lists.now P N) lists.now.t.now) bytes.new result }
+fn preview_all(lists: &SpreadLists, t: &[f64], bytes: &mut [u8]) -> Counts
+    requires { (length t.now ≡ lists.now.n * 4) × (length bytes.old ≡ lists.now.n) }
+    ensures { Shows (steps_of lists.now) (pass (steps_of lists.now) t.now) bytes.new result }
 {
     bytes.fill(0);
     let mut counts = Counts {
@@ -27,36 +28,15 @@ fn preview_all(lists: &PreviewLists, bytes: &mut [u8]) -> Counts
         turned: 0,
     };
     for start in 0..lists.n {
-        counts = preview_walks::preview_at(lists, bytes, start, counts);
+        counts = walks::preview_at(lists, t, bytes, start, counts);
     }
     counts
-}
-
-// The questions 1 to 7 and 11; the second of the lists that the call is lent. No struct of them: what its ghost fields would say is
-// what is asked.
-#[tactic(auto, unfolding(crate::specs::Preview::Preview::check_lists))]
-fn check_lists(
-    n: usize,
-    p: usize,
-    h: &[i32],
-    pos: &[f64],
-    normals: &[f64],
-    fixed: &[u8],
-    t: &[f64],
-    bytes: &[u8],
-) -> Result<(), Refusal>
-    ensures { result ≡ check_lists (as_halfedges h.now) pos.now normals.now fixed.now t.now bytes.now n p }
-{
-    let lists = crate::lists_fit(n, p, h, pos, normals, fixed, t);
-    let lengths = lists & questions::has_length(bytes.len(), n, 1);
-    let checked = questions::check_mesh(h, n, p, lengths);
-    questions::check_flags(checked, fixed, n)
 }
 
 // The preview, for lists of any length and content. `pos` and `normals` have three numbers for each point, `fixed` a flag
 // for each halfedge, and `bytes` a byte: 1 if the halfedge's tangent would be written, else 0.
 // The signature stays flat, as the C interface lends: counts, lists read, lists written, scratch.
-#[tactic(auto, using(crate::proofs::PreviewLaws::Accepted::lists_of, crate::proofs::Values::values_of))]
+#[tactic(auto, using(crate::proofs::Accepted::preview_lists_of, crate::proofs::Values::values_of), unfolding(crate::specs::Preview::Preview::check_lists))]
 pub fn preview_tangents(
     n: usize,
     p: usize,
@@ -73,12 +53,19 @@ pub fn preview_tangents(
     ensures order { AnyOrder (as_halfedges h.now) pos.now normals.now fixed.now t.now bytes.old n p bytes.new result }
     ensures values { Values (check_lists (as_halfedges h.now) pos.now normals.now fixed.now t.now bytes.old n p) (float_steps (as_halfedges h.now) pos.now normals.now fixed.now n) (spread_tangents (as_halfedges h.now) pos.now normals.now fixed.now t.now n) result }
 {
-    let checked = check_lists(n, p, h, pos, normals, fixed, t, bytes);
-    // Document 01's form by place: the check's answer is opened by `let .. else`.
+    let room = questions::has_length(bytes.len(), n, 1);
+    let checked = crate::check_with(n, p, h, pos, normals, fixed, t, room);
     let Ok(()) = checked else {
         return questions::refused(checked);
     };
-    let lists = PreviewLists { n, p, h, fixed, t };
-    let counts = preview_all(&lists, bytes);
+    let lists = SpreadLists {
+        n,
+        p,
+        h,
+        pos,
+        normals,
+        fixed,
+    };
+    let counts = preview_all(&lists, t, bytes);
     Ok(counts)
 }

@@ -43,16 +43,8 @@ pub struct Turning {
     pub axis: Vec3,
 }
 
-// Is halfedge e marked?
-#[tactic(auto, using(smoothing::proofs::Tangents::weight_of))]
-pub fn is_marked(t: &[f64], e: usize) -> bool
-    requires { e * 4 + 4 ≤ length t.now }
-    ensures { result ≡ is_mark (tangent_at t.now e).w }
-{
-    smoothing::is_marked_inside_quad(t, e)
-}
-
 // Is halfedge e fixed and unmarked? Such a one is a start, and ends the first walk.
+#[tactic(auto, using(smoothing::proofs::Tangents::weight_of))]
 pub fn is_start(fixed: &[u8], t: &[f64], e: usize) -> bool
     requires { (e < length fixed.now) × (e * 4 + 4 ≤ length t.now) }
     ensures { result ≡ is_start fixed.now t.now e }
@@ -60,7 +52,7 @@ pub fn is_start(fixed: &[u8], t: &[f64], e: usize) -> bool
     if fixed[e] != 1 {
         return false;
     }
-    !is_marked(t, e)
+    !smoothing::is_marked_inside_quad(t, e)
 }
 
 // The direction from the start's point to the end of halfedge `current`.

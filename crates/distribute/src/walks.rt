@@ -3,8 +3,8 @@
 // Each function asks for its own place (`start < n`, of which `is_start` may be known) and for room in the counts: both differ from
 // call to call, so no struct of the lists can hold them. The lists that are written stay parameters: with a struct that lends them
 // each clause would read `lists.new.t.now` and state what they are lent as, too.
-// These walks and this turn are alike in shape to those of `preview_walks`, and both stay: the preview carries no angles and writes
-// no tangents (document 02 asks for one without scratch), and one text for both would take the step of each walk with its own state.
+// These walks and this turn are alike in shape to those of `preview::walks`, and both stay: the preview carries no angles and writes
+// no tangents (it has no scratch lists), and one text for both would take the step of each walk with its own state.
 
 ghost use Rattle.std.specs.Prelude.{◌≡◌, true, not, cond, ◌&&◌, List, suc, ◌+◌, ◌≤◌, ◌<◌, length, eqb, Float};
 ghost use Rattle.mesh.specs.Mesh.{as_halfedges};
@@ -51,6 +51,7 @@ fn directions_at(walk: &FirstWalk, e: usize) -> Directions
 }
 
 // One step of the first walk, onto halfedge e: the mark is read before anything else, and a marked one gathers nothing.
+#[tactic(auto, using(smoothing::proofs::Tangents::weight_of))]
 fn gather_at(
     walk: &FirstWalk,
     current: &mut [f64],
@@ -62,15 +63,15 @@ fn gather_at(
     ensures result_after { gathered_of current.new desired.new result ≡ cond (is_mark (tangent_at walk.now.t.now e).w) (gathered_of current.old desired.old g) (gather (as_halfedges walk.now.lists.now.h.now) walk.now.lists.now.pos.now walk.now.lists.now.normals.now walk.now.start e (tangent_at walk.now.t.now e) (gathered_of current.old desired.old g)) }
     ensures count_value { result.count ≡ cond (is_mark (tangent_at walk.now.t.now e).w) g.count (g.count + 1) }
 {
-    if steps::is_marked(walk.t, e) {
+    if smoothing::is_marked_inside_quad(walk.t, e) {
         return g;
     }
     let at = directions_at(walk, e);
     steps::gather_edge(current, desired, walk.approx, at, e == walk.start, g)
 }
 
-// The first walk, document 01's "loop that yields the halfedge where it stopped": breaks with the next one that is fixed and
-// unmarked. No iterator, here or in the second walk: document 01 names this form.
+// The first walk, a loop that yields the halfedge where it stopped: breaks with the next one that is fixed and unmarked. No iterator,
+// here or in the second walk.
 fn first_walk(
     lists: &SpreadLists,
     t: &[f64],
@@ -112,6 +113,7 @@ fn first_walk(
 }
 
 // One step of the second walk, onto halfedge e, with i angles used up: a marked one stays as it is.
+#[tactic(auto, using(smoothing::proofs::Tangents::weight_of))]
 fn turn_unmarked(
     t: &mut [f64],
     current: &[f64],
@@ -125,7 +127,7 @@ fn turn_unmarked(
     ensures result_after { plan_of current.now desired.new by result ≡ cond (is_mark (tangent_at t.old e).w) (plan_of current.now desired.old by i) (next (plan_of current.now desired.old by i)) }
     ensures value { result ≡ cond (is_mark (tangent_at t.old e).w) i (i + 1) }
 {
-    if steps::is_marked(t, e) {
+    if smoothing::is_marked_inside_quad(t, e) {
         return i;
     }
     steps::turn_at(t, current, desired, by, i, e);

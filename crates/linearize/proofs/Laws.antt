@@ -1,4 +1,4 @@
--- Laws of straightening: an end that is not flat is left alone, and the lists of an accepted call are right. Assumes nothing.
+-- Laws of straightening: an end that is not flat is left alone, and the lists of an accepted call are right.
 use Prim.Native.Nat.{ℕ}
 use native.Mathlib.Omega.{arith}
 use Rattle.std.proofs.lemmas.Grind.{common_steps}

@@ -1,14 +1,13 @@
 -- The order rule of the call, from what it answers and leaves; and that its answer is that of spreading.
-use mathlib.Core.Path.{◌≡◌, refl, sym, ap, ◌∙◌}
-use mathlib.Core.Bool.{Bool, true, false, ◌&&◌}
+use mathlib.Core.Path.{◌≡◌, sym, ap, ◌∙◌}
+use mathlib.Core.Bool.{Bool}
 use mathlib.Core.Logic.{◌⊎◌, inl, inr}
 use mathlib.Core.List.{List}
 use Prim.Native.Nat.{ℕ, ◌<◌}
-use lib.ListN.{length, get_or}
+use lib.ListN.{get_or}
 use lib.Ieee.{Float}
 use Rattle.mesh.specs.Mesh.{Halfedges}
-use Rattle.questions.specs.Questions.{has_length}
-use Rattle.questions.specs.Check.{check_mesh, check_flags, answer_of}
+use Rattle.questions.specs.Check.{answer_of}
 use Rattle.cycles.specs.Count.{count, ◌∈◌}
 use Rattle.cycles.proofs.Count.{zero_or_more}
 use Rattle.distribute.specs.Spread.Steps.{Steps, Lawful}
@@ -17,19 +16,15 @@ use Rattle.distribute.specs.Spread.Order.{NamesFixed, WasTurned, OrderFree}
 use Rattle.distribute.proofs.SpreadLaws.Order.{order_free}
 use Rattle.distribute.proofs.WalksLaws.Lawful.{lawful}
 use Rattle.distribute.specs.Distribute as Distribute
-use Rattle.distribute.specs.Distribute.{Spreading, counts_of, lists_fit, spread_tangents}
+use Rattle.distribute.specs.Distribute.{check_with, Spreading, counts_of, spread_tangents}
 use Rattle.std.specs.Prelude.{Ok}
 use Rattle.distribute.specs.Steps.FloatSteps.{float_steps}
 use Rattle.distribute.specs.declared.walks.Counts.{Counts}
-use Rattle.distribute.specs.PreviewWalks.Walks.{Shows}
-use Rattle.distribute.specs.PreviewWalks.Bytes.{turned_byte, turned_bytes}
-use Rattle.distribute.proofs.PreviewWalks.Bytes.{byte_one, byte_zero, bytes_at, bytes_same}
+use Rattle.distribute.specs.Preview.Walks.{Shows}
+use Rattle.distribute.specs.Preview.Bytes.{turned_byte, turned_bytes}
+use Rattle.distribute.proofs.PreviewLaws.Bytes.{byte_one, byte_zero, bytes_at, bytes_same}
 use Rattle.distribute.specs.Preview.Preview.{check_lists, preview_tangents, AsSpreading, PreviewFree, AnyOrder}
-use Rattle.distribute.proofs.PreviewLaws.Accepted.{lists_of}
-
-and_assoc : (a b c : Bool) → a && (b && c) ≡ (a && b) && c
-and_assoc true b c = refl
-and_assoc false b c = refl
+use Rattle.distribute.proofs.Accepted.{preview_lists_of}
 
 module _ {S : Steps} (L : Lawful S) (ts : S.Tangents) (whole : L.Whole ts) (starts : List ℕ) (names : NamesFixed S starts) where
   abbrev order : OrderFree S starts ts (pass S ts).tangents (pass S ts).looked (pass S ts).turned
@@ -59,12 +54,12 @@ module _ {S : Steps} (L : Lawful S) (ts : S.Tangents) (whole : L.Whole ts) (star
 module _ (H : Halfedges) (P N : List Float) (X : List ℕ) (T : List Float) (Y : List ℕ) (n p : ℕ) where
   pub any_order : {Z : List ℕ} {k : Counts} → Shows (float_steps H P N X n) (spread_tangents H P N X T n) Z k → AnyOrder H P N X T Y n p Z (Ok k)
   any_order w acc starts names =
-      let l = lists_of H P N X T Y n p acc in
+      let l = preview_lists_of H P N X T Y n p acc in
       rw (w.bytes_are, w.looked_is, w.turned_is) (preview_free (lawful l.0 P N X) T l.1.tangents starts names)
 
   pub as_spreading : {r : Spreading} → r ≡ preview_tangents H P N X T Y n p → AsSpreading H P N X T Y n p r
   unfolding check_lists Distribute.check_lists
-  as_spreading er C D e = er ∙ ap answer (ap (λ (b : Bool). lists_fit H P N X T n p && b) (sym e) ∙ and_assoc (lists_fit H P N X T n p) (has_length (length C) n 1) (has_length (length D) n 1))
+  as_spreading er C D e = er ∙ ap answer (sym e)
     where
       answer : Bool → Spreading
-      answer b = answer_of (check_flags (check_mesh H n p b) X n) (counts_of (spread_tangents H P N X T n).looked (spread_tangents H P N X T n).turned)
+      answer b = answer_of (check_with H P N X T b n p) (counts_of (spread_tangents H P N X T n).looked (spread_tangents H P N X T n).turned)

@@ -10,8 +10,8 @@ use Rattle.distribute.specs.Spread.Spread.{State, spread_at, handed_in, pass}
 use Rattle.distribute.proofs.SpreadLaws.Turns.{SameCounts}
 use Rattle.distribute.proofs.SpreadLaws.Order.{PassAt, pass_begin, pass_next, pass_apart, pass_end}
 use Rattle.distribute.specs.declared.walks.Counts.{Counts}
-use Rattle.distribute.specs.PreviewWalks.Walks.{Shows, Previews}
-use Rattle.distribute.proofs.PreviewWalks.Bytes.{bytes_none, bytes_same}
+use Rattle.distribute.specs.Preview.Walks.{Shows, Previews}
+use Rattle.distribute.proofs.PreviewLaws.Bytes.{bytes_none, bytes_same}
 
 module _ {S : Steps} (L : Lawful S) (ts : S.Tangents) (whole : L.Whole ts) where
   open S use {n}

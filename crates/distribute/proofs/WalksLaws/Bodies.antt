@@ -1,4 +1,4 @@
--- The body of the second walk's loop, as the code holds its state: the laws of `distribute_spread` for loops, with the places that the code does not keep.
+-- The body of the second walk's loop, as the code holds its state: the laws of spreading for loops, with the places that the code does not keep.
 use mathlib.Core.Path.{◌≡◌, refl, ◌∙◌}
 use mathlib.Core.Bool.{Bool, true, false, cond, not, ◌&&◌}
 use mathlib.Core.List.{List, ◌∷◌}

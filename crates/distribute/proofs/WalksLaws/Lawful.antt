@@ -1,4 +1,4 @@
--- The float steps on an accepted mesh have what demand 3 asks of any steps, and gather one angle for each halfedge.
+-- The float steps on an accepted mesh have what the order theorem asks of any steps, and gather one angle for each halfedge.
 use mathlib.Core.Path.{◌≡◌, refl, ◌∙◌}
 use mathlib.Core.List.{List}
 use mathlib.Core.Bool.{true}

@@ -1,24 +1,20 @@
--- Document 02's request 2, the preview of spreading as a public call: the answer of spreading, and for each halfedge a byte that says whether spreading a copy would turn it. Letters as in crates/distribute/specs/Distribute.antt; Y is the list of bytes.
-use Rattle.std.specs.Prelude.{ℕ, ◌<◌, ◌≡◌, List, Bool, ◌&&◌, length, get_or, Float, Ok}
+-- The preview of spreading as a public call: the answer of spreading, and for each halfedge a byte that says whether spreading a copy would turn it. Letters as in crates/distribute/specs/Distribute.antt; Y is the list of bytes.
+use Rattle.std.specs.Prelude.{ℕ, ◌<◌, ◌≡◌, List, ◌&&◌, length, get_or, Float, Ok}
 use Rattle.mesh.specs.Mesh.{Halfedges}
 use Rattle.questions.specs.Questions.{has_length}
-use Rattle.questions.specs.Check.{Checked, check_mesh, check_flags, answer_of, when_accepted}
+use Rattle.questions.specs.Check.{Checked, answer_of, when_accepted}
 use Rattle.distribute.specs.Spread.Steps.{Steps}
 use Rattle.distribute.specs.Spread.Spread.{spread, pass}
 use Rattle.distribute.specs.Spread.Order.{NamesFixed, WasTurned, OrderFree}
 use Rattle.distribute.specs.Steps.FloatSteps.{float_steps}
-use Rattle.distribute.specs.Distribute.{lists_fit, Spreading, counts_of, spread_tangents, looked_of, turned_of, distribute_tangents}
-use Rattle.distribute.specs.PreviewWalks.Bytes.{turned_bytes}
+use Rattle.distribute.specs.Distribute.{check_with, Spreading, counts_of, spread_tangents, looked_of, turned_of, distribute_tangents}
+use Rattle.distribute.specs.Preview.Bytes.{turned_bytes}
 
 -- ---- the questions
 
--- question 2 of the lists that the call is lent
-abbrev pub lengths_fit : Halfedges → List Float → List Float → List ℕ → List Float → List ℕ → ℕ → ℕ → Bool
-lengths_fit H P N X T Y n p = lists_fit H P N X T n p && has_length (length Y) n 1
-
--- questions 1 to 7 and 11
+-- questions 1 to 7 and 11, with the bytes
 unfoldable pub check_lists : Halfedges → List Float → List Float → List ℕ → List Float → List ℕ → ℕ → ℕ → Checked
-check_lists H P N X T Y n p = check_flags (check_mesh H n p (lengths_fit H P N X T Y n p)) X n
+check_lists H P N X T Y n p = check_with H P N X T (has_length (length Y) n 1) n p
 
 -- ---- the call
 
@@ -38,7 +34,7 @@ AsSpreading H P N X T Y n p r =
 
 -- ---- the order rule
 
--- Spreading the tangents `ts` from `starts`: demand 3 of the counts `looked` and `turned`, and the bytes Y are 1 exactly at the halfedges that it turns.
+-- Spreading the tangents `ts` from `starts`: the order rule of the counts `looked` and `turned`, and the bytes Y are 1 exactly at the halfedges that it turns.
 pub record PreviewFree (S : Steps) (starts : List ℕ) (ts : S.Tangents) (Y : List ℕ) (looked turned : ℕ) : Type 0 where
   pub order : OrderFree S starts ts (pass S ts).tangents looked turned
   pub bytes_same : Y ≡ turned_bytes S (spread S starts ts)

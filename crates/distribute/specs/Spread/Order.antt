@@ -41,7 +41,7 @@ module _ (S : Steps) where
   abbrev pub WasTurned : State S → ℕ → Type 0
   WasTurned st e = e ∈ st.places
 
-  -- Spreading the tangents `ts` from `starts` gives the tangents `after` and the counts `looked` and `turned`, and these are what document 01 says.
+  -- Spreading the tangents `ts` from `starts` gives the tangents `after` and the counts `looked` and `turned`, and these are the same whatever the order of the starts.
   pub record OrderFree (starts : List ℕ) (ts after : Tangents) (looked turned : ℕ) : Type 0 where
     pub tangents_same : (spread S starts ts).tangents ≡ after
     pub looked_same : (spread S starts ts).looked ≡ looked

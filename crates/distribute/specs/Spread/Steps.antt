@@ -1,4 +1,4 @@
--- What spreading is defined over: the mesh, the flags, and the functions that read a tangent and work on it. `float_steps` of `distribute_steps` fills in those of the Rust.
+-- What spreading is defined over: the mesh, the flags, and the functions that read a tangent and work on it. `float_steps` (../Steps/FloatSteps.antt) fills in those of the Rust.
 use Rattle.std.specs.Prelude.{◌≡◌, Bool, ◌≢◌, ℕ, ◌<◌}
 use Rattle.cycles.specs.Orbits.{Permutes}
 

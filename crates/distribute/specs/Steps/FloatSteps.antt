@@ -1,4 +1,4 @@
--- The float steps of `distribute_tangents` of src/smoothing_tangents.rs, operation by operation, and the record that fills them into spreading. H are the halfedges, P the positions, N the point normals, X the flags. A read past the end of a list of angles gives not-a-number; specs/Claims.antt of `distribute` says that there is none.
+-- The float steps of `distribute_tangents` of src/smoothing_tangents.rs, operation by operation, and the record that fills them into spreading. H are the halfedges, P the positions, N the point normals, X the flags. A read past the end of a list of angles gives not-a-number; specs/Claims.antt says that there is none.
 use Rattle.std.specs.Prelude.{ℕ, suc, ◌+◌, ◌-◌, List, [], ◌∷◌, ◌++◌, Bool, cond, not, ◌&&◌, ◌||◌, length, get_or, set, pos, eqb, ltb, Float}
 use Rattle.std.specs.Float.{nan, binary64}
 use Rattle.std.specs.Float.Ieee.{lt, eq, neg, of_int}

@@ -1,4 +1,4 @@
--- `distribute_steps::offset_sum` meets its contract: the sum is the fold over the angles passed.
+-- `steps::offset_sum` meets its contract: the sum is the fold over the angles passed.
 use Rattle.std.proofs.Common.{rules}
 use mathlib.Core.Path.{◌≡◌, sym}
 use lib.Ieee.{nan}

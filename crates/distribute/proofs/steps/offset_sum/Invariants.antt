@@ -1,4 +1,4 @@
--- `distribute_steps::offset_sum` meets its contract: the sum is the fold over the angles passed.
+-- `steps::offset_sum` meets its contract: the sum is the fold over the angles passed.
 use mathlib.Core.Path.{◌≡◌}
 use lib.ListN.{length}
 use Rattle.distribute.specs.Steps.FloatSteps.{offset_sum}

@@ -1,4 +1,4 @@
--- `distribute_walks::first_walk` meets its contract: the invariant is `FirstGoing`, and the measure the steps that are left.
+-- `walks::first_walk` meets its contract: the invariant is `FirstGoing`, and the measure the steps that are left.
 use mathlib.Core.Path.{sym, ap, ◌∙◌}
 use mathlib.Core.List.{[]}
 use native.Mathlib.Omega.{arith}

@@ -1,4 +1,4 @@
--- `distribute_walks::first_walk` meets its contract: the invariant is `FirstGoing`, and the measure the steps that are left.
+-- `walks::first_walk` meets its contract: the invariant is `FirstGoing`, and the measure the steps that are left.
 use Rattle.mesh.specs.Mesh.{as_halfedges}
 use Rattle.smoothing.specs.Lists.{tangent_at}
 use Rattle.distribute.proofs.SpreadLaws.Loops.{first_left}

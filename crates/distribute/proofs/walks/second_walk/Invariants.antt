@@ -1,4 +1,4 @@
--- `distribute_walks::second_walk` meets its contract: the invariant is `SecondGoing`, and the measure the steps that are left.
+-- `walks::second_walk` meets its contract: the invariant is `SecondGoing`, and the measure the steps that are left.
 use mathlib.Core.List.{List}
 use Prim.Native.Nat.{ℕ, suc}
 use Rattle.mesh.specs.Mesh.{as_halfedges}

@@ -1,4 +1,4 @@
--- `distribute_walks::spread_at` meets its contract.
+-- `walks::spread_at` meets its contract.
 use native.Mathlib.Omega.{arith}
 use mathlib.Core.Path.{sym, ap, ◌∙◌}
 use lib.Seq.{length-take-le}
