@@ -124,9 +124,9 @@ module _ (s : List ℕ) (L : Lists) where
 
 -- ---- the room in the lists
 
-module _ (o : Operation) (p n positions halfedges tangents normals flags : ℕ) where
-  pub room : has_room o p n positions halfedges tangents normals flags ≡ true →
-      (3 * p ≤ positions) × (4 * n ≤ halfedges) × (4 * n ≤ tangents) × (if_spread o (3 * p) ≤ normals) × (if_spread o n ≤ flags)
+module _ (o : Operation) (p n positions halfedges tangents normals fixed : ℕ) where
+  pub room : has_room o p n positions halfedges tangents normals fixed ≡ true →
+      (3 * p ≤ positions) × (4 * n ≤ halfedges) × (4 * n ≤ tangents) × (if_spread o (3 * p) ≤ normals) × (if_spread o n ≤ fixed)
   unfolding has_room
   room e =
       let a = and_parts _ _ e in
@@ -138,13 +138,13 @@ module _ (o : Operation) (p n positions halfedges tangents normals flags : ℕ) 
 module _ (s : List ℕ) (L : Lists) (i : Input) (e : parse_input s ≡ Ok i) (h : lists_have_room i L ≡ true) where
   fits :
       (3 * i.counts.points ≤ length L.positions) × (4 * i.counts.halfedges ≤ length L.halfedges) × (4 * i.counts.halfedges ≤ length L.tangents)
-      × (if_spread i.operation (3 * i.counts.points) ≤ length L.normals) × (if_spread i.operation i.counts.halfedges ≤ length L.flags)
-  fits = room i.operation i.counts.points i.counts.halfedges (length L.positions) (length L.halfedges) (length L.tangents) (length L.normals) (length L.flags) h
+      × (if_spread i.operation (3 * i.counts.points) ≤ length L.normals) × (if_spread i.operation i.counts.halfedges ≤ length L.fixed)
+  fits = room i.operation i.counts.points i.counts.halfedges (length L.positions) (length L.halfedges) (length L.tangents) (length L.normals) (length L.fixed) h
 
   pub mesh_room : MeshRoom i.counts.points i.counts.halfedges (length s) (length L.positions) (length L.halfedges) (length L.tangents)
   mesh_room = record { bodies = mesh_bodies s i e; position_room = fits.0; halfedge_room = fits.1; tangent_room = fits.2 }
 
-  pub spread_room : i.operation ≡ Spread → SpreadRoom i.counts.points i.counts.halfedges (length s) (length L.normals) (length L.flags)
+  pub spread_room : i.operation ≡ Spread → SpreadRoom i.counts.points i.counts.halfedges (length s) (length L.normals) (length L.fixed)
   spread_room g = record { bodies = spread_bodies s i e g; normal_room = rw g at fits.3; flag_room = rw g at fits.4 }
 
 -- the other operations have none of the lists of spreading
@@ -153,7 +153,7 @@ none_due o count (inl e) = rw e
 none_due o count (inr e) = rw e
 
 -- Lists of these lengths are never too short, so that the answer is the parsed one.
-module _ (s : List ℕ) (L : Lists) (positions : 3 * max_points ≤ length L.positions) (halfedges : halfedge_stride * max_halfedges ≤ length L.halfedges) (tangents : 4 * max_halfedges ≤ length L.tangents) (normals : 3 * max_points ≤ length L.normals) (flags : max_halfedges ≤ length L.flags) where
+module _ (s : List ℕ) (L : Lists) (positions : 3 * max_points ≤ length L.positions) (halfedges : halfedge_stride * max_halfedges ≤ length L.halfedges) (tangents : 4 * max_halfedges ≤ length L.tangents) (normals : 3 * max_points ≤ length L.normals) (fixed : max_halfedges ≤ length L.fixed) where
   due : (o : Operation) (count most : ℕ) → count ≤ most → if_spread o count ≤ most
   due Straighten count most h = omega arith
   due Spread count most h = h
@@ -168,7 +168,7 @@ module _ (s : List ℕ) (L : Lists) (positions : 3 * max_points ≤ length L.pos
         le-leb (4 * i.counts.halfedges) (length L.halfedges) (omega arith),
         le-leb (4 * i.counts.halfedges) (length L.tangents) (omega arith),
         le-leb (if_spread i.operation (3 * i.counts.points)) (length L.normals) (due i.operation _ _ (omega arith)),
-        le-leb (if_spread i.operation i.counts.halfedges) (length L.flags) (due i.operation _ _ (omega arith)),
+        le-leb (if_spread i.operation i.counts.halfedges) (length L.fixed) (due i.operation _ _ (omega arith)),
       )
 
   by_answer : (r : Result Input Refusal) → parse_input s ≡ r → read_answer s L ≡ r

@@ -22,7 +22,7 @@ use Rattle.questions.specs.declared.Refusal.{Refusal}
 use Rattle.records.specs.Records.{operation_of_number, check_operation, operation_answer, kind_number, record_fits, check_record, body_bytes, check_bodies}
 use Rattle.records.specs.declared.Operation.{Operation}
 use Rattle.records.specs.declared.Kind.{Kind}
-use Rattle.records.specs.declared.Kind.TheVariants.{Operation as OperationKind, Counts as CountsKind, Positions, Halfedges, Tangents, Normals, Flags}
+use Rattle.records.specs.declared.Kind.TheVariants.{Operation as OperationKind, Counts as CountsKind, Positions, Halfedges, Tangents, Normals, Fixed}
 use Rattle.records.specs.contracts.Kind.{the_type}
 
 -- the number of a kind, as the code casts it
@@ -33,7 +33,7 @@ number_is Positions = refl
 number_is Halfedges = refl
 number_is Tangents = refl
 number_is Normals = refl
-number_is Flags = refl
+number_is Fixed = refl
 
 -- ---- one record
 

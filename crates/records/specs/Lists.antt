@@ -9,7 +9,7 @@ use Rattle.questions.specs.declared.Refusal.{Refusal}
 use Rattle.records.specs.Records.{kinds, mesh_kinds, records_length, body_at, check_input, input_in}
 use Rattle.records.specs.declared.Operation.{Operation}
 use Rattle.records.specs.declared.Operation.TheVariants.{Straighten, Spread, Check}
-use Rattle.records.specs.declared.Kind.TheVariants.{Positions, Halfedges, Tangents, Normals, Flags}
+use Rattle.records.specs.declared.Kind.TheVariants.{Positions, Halfedges, Tangents, Normals, Fixed}
 use Rattle.records.specs.declared.Input.{Input}
 
 -- the five lists that are lent
@@ -18,10 +18,10 @@ pub record Lists : Type 0 where
   pub halfedges : List ℤ
   pub tangents : List Float
   pub normals : List Float
-  pub flags : List ℕ
+  pub fixed : List ℕ
 
 abbrev pub lists_of : List ℤ → List Float → List Float → List ℕ → List Float → Lists
-lists_of H P N X T = record { positions = P; halfedges = H; tangents = T; normals = N; flags = X }
+lists_of H P N X T = record { positions = P; halfedges = H; tangents = T; normals = N; fixed = X }
 
 -- so many, if the operation is spreading, which alone has point normals and flags
 abbrev pub if_spread : Operation → ℕ → ℕ
@@ -31,17 +31,17 @@ if_spread Check count = 0
 
 -- Have lists of these lengths room for the numbers?
 unfoldable pub has_room : Operation → ℕ → ℕ → ℕ → ℕ → ℕ → ℕ → ℕ → Bool
-has_room operation p n positions halfedges tangents normals flags =
+has_room operation p n positions halfedges tangents normals fixed =
     leb (3 * p) positions
     && leb (halfedge_stride * n) halfedges
     && leb (4 * n) tangents
     && leb (if_spread operation (3 * p)) normals
-    && leb (if_spread operation n) flags
+    && leb (if_spread operation n) fixed
 
 -- Have the lists room for an input?
 abbrev pub lists_have_room : Input → Lists → Bool
 lists_have_room input lists =
-    has_room input.operation input.counts.points input.counts.halfedges (length lists.positions) (length lists.halfedges) (length lists.tangents) (length lists.normals) (length lists.flags)
+    has_room input.operation input.counts.points input.counts.halfedges (length lists.positions) (length lists.halfedges) (length lists.tangents) (length lists.normals) (length lists.fixed)
 
 -- the first no of a reading: the room (2) is asked about after the input, and has place 0; the lists of the program always have it
 unfoldable pub check_reading : List ℕ → Lists → Checked
@@ -59,7 +59,7 @@ filled_lists operation p n s lists =
       halfedges = filled (i32_item s (body_at p n Halfedges)) (halfedge_stride * n) lists.halfedges;
       tangents = filled (f64_item s (body_at p n Tangents)) (4 * n) lists.tangents;
       normals = filled (f64_item s (body_at p n Normals)) (if_spread operation (3 * p)) lists.normals;
-      flags = filled (byte_item s (body_at p n Flags)) (if_spread operation n) lists.flags;
+      fixed = filled (byte_item s (body_at p n Fixed)) (if_spread operation n) lists.fixed;
     }
 
 -- What the lists hold after that answer: all as lent where it is a refusal.
@@ -74,7 +74,7 @@ pub record MeshRoom (p n input positions halfedges tangents : ℕ) : Type 0 wher
   pub halfedge_room : halfedge_stride * n ≤ halfedges
   pub tangent_room : 4 * n ≤ tangents
 
-pub record SpreadRoom (p n input normals flags : ℕ) : Type 0 where
+pub record SpreadRoom (p n input normals fixed : ℕ) : Type 0 where
   pub bodies : records_length p n kinds ≤ input
   pub normal_room : 3 * p ≤ normals
-  pub flag_room : n ≤ flags
+  pub flag_room : n ≤ fixed

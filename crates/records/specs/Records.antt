@@ -7,7 +7,7 @@ use Rattle.questions.specs.declared.Refusal.{Refusal}
 use Rattle.records.specs.declared.Operation.{Operation}
 use Rattle.records.specs.declared.Operation.TheVariants.{Straighten, Spread, Check}
 use Rattle.records.specs.declared.Kind.{Kind}
-use Rattle.records.specs.declared.Kind.TheVariants.{Operation as OperationKind, Counts as CountsKind, Positions, Halfedges, Tangents, Normals, Flags}
+use Rattle.records.specs.declared.Kind.TheVariants.{Operation as OperationKind, Counts as CountsKind, Positions, Halfedges, Tangents, Normals, Fixed}
 use Rattle.records.specs.declared.Input.{Input}
 
 -- ---- the operations: 1 straighten, 2 spread, 3 check
@@ -68,11 +68,11 @@ kind_number Positions = 3
 kind_number Halfedges = 4
 kind_number Tangents = 5
 kind_number Normals = 6
-kind_number Flags = 7
+kind_number Fixed = 7
 
 -- the kinds in their order
 abbrev pub kinds : List Kind
-kinds = OperationKind ∷ CountsKind ∷ Positions ∷ Halfedges ∷ Tangents ∷ Normals ∷ Flags ∷ []
+kinds = OperationKind ∷ CountsKind ∷ Positions ∷ Halfedges ∷ Tangents ∷ Normals ∷ Fixed ∷ []
 
 -- Do header and body of the record at `at` fit in the input?
 unfoldable pub record_fits : List ℕ → ℕ → Bool
@@ -105,7 +105,7 @@ body_bytes p n Positions = point_bytes * p
 body_bytes p n Halfedges = halfedge_bytes * n
 body_bytes p n Tangents = tangent_bytes * n
 body_bytes p n Normals = point_bytes * p
-body_bytes p n Flags = n
+body_bytes p n Fixed = n
 
 -- the length of the records of these kinds
 abbrev pub records_length : ℕ → ℕ → List Kind → ℕ

@@ -73,7 +73,7 @@ pub enum Kind {
     Halfedges = 4,
     Tangents = 5,
     Normals = 6,
-    Flags = 7,
+    Fixed = 7,
 }
 
 const KINDS: [Kind; 7] = [
@@ -83,7 +83,7 @@ const KINDS: [Kind; 7] = [
     Kind::Halfedges,
     Kind::Tangents,
     Kind::Normals,
-    Kind::Flags,
+    Kind::Fixed,
 ];
 
 // How many points and halfedges an input has.
@@ -126,7 +126,7 @@ fn body_bytes(counts: Counts, kind: Kind) -> usize
         Kind::Positions | Kind::Normals => POINT_BYTES * points,
         Kind::Halfedges => HALFEDGE_BYTES * halfedges,
         Kind::Tangents => TANGENT_BYTES * halfedges,
-        Kind::Flags => halfedges,
+        Kind::Fixed => halfedges,
     }
 }
 
@@ -203,8 +203,8 @@ fn if_spread(operation: Operation, count: usize) -> usize
 
 // Have lists of these lengths room for the numbers?
 #[tactic(auto, unfolding(crate::specs::Lists::has_room))]
-fn has_room(input: Input, pos: usize, h: usize, t: usize, vn: usize, flags: usize) -> bool
-    ensures { result ≡ has_room input.operation input.counts.points input.counts.halfedges pos h t vn flags }
+fn has_room(input: Input, pos: usize, h: usize, t: usize, normals: usize, fixed: usize) -> bool
+    ensures { result ≡ has_room input.operation input.counts.points input.counts.halfedges pos h t normals fixed }
 {
     let points = usize::from(input.counts.points);
     let halfedges = usize::from(input.counts.halfedges);
@@ -212,8 +212,8 @@ fn has_room(input: Input, pos: usize, h: usize, t: usize, vn: usize, flags: usiz
     (3 * points <= pos)
         & (mesh::HALFEDGE_STRIDE * halfedges <= h)
         & (4 * halfedges <= t)
-        & (if_spread(input.operation, 3 * points) <= vn)
-        & (if_spread(input.operation, halfedges) <= flags)
+        & (if_spread(input.operation, 3 * points) <= normals)
+        & (if_spread(input.operation, halfedges) <= fixed)
 }
 
 // The positions, the halfedges and the tangents.
@@ -237,15 +237,15 @@ fn fill_mesh(s: &[u8], counts: Counts, pos: &mut [f64], h: &mut [i32], t: &mut [
 }
 
 // The point normals and the flags.
-fn fill_spread(s: &[u8], counts: Counts, vn: &mut [f64], flags: &mut [u8])
-    requires { SpreadRoom counts.points counts.halfedges (length s.now) (length vn.old) (length flags.old) }
-    ensures { (vn.new ≡ filled (f64_item s.now (body_at counts.points counts.halfedges Kind.Normals)) (3 * counts.points) vn.old)
-        × (flags.new ≡ filled (byte_item s.now (body_at counts.points counts.halfedges Kind.Flags)) counts.halfedges flags.old) }
+fn fill_spread(s: &[u8], counts: Counts, normals: &mut [f64], fixed: &mut [u8])
+    requires { SpreadRoom counts.points counts.halfedges (length s.now) (length normals.old) (length fixed.old) }
+    ensures { (normals.new ≡ filled (f64_item s.now (body_at counts.points counts.halfedges Kind.Normals)) (3 * counts.points) normals.old)
+        × (fixed.new ≡ filled (byte_item s.now (body_at counts.points counts.halfedges Kind.Fixed)) counts.halfedges fixed.old) }
 {
     let points = usize::from(counts.points);
     let halfedges = usize::from(counts.halfedges);
-    little_endian::fill(s, body_at(counts, Kind::Normals), 3 * points, vn);
-    little_endian::fill(s, body_at(counts, Kind::Flags), halfedges, flags);
+    little_endian::fill(s, body_at(counts, Kind::Normals), 3 * points, normals);
+    little_endian::fill(s, body_at(counts, Kind::Fixed), halfedges, fixed);
 }
 
 // Reads the program's input into lent lists: positions, halfedges, tangents, point normals, flags. A refusal writes
@@ -256,20 +256,27 @@ pub fn read_input(
     pos: &mut [f64],
     h: &mut [i32],
     t: &mut [f64],
-    vn: &mut [f64],
-    flags: &mut [u8],
+    normals: &mut [f64],
+    fixed: &mut [u8],
 ) -> Result<Input, Refusal>
-    ensures answer { result ≡ read_answer input.now (lists_of h.old pos.old vn.old flags.old t.old) }
-    ensures lists { lists_of h.new pos.new vn.new flags.new t.new
-        ≡ read_lists result input.now (lists_of h.old pos.old vn.old flags.old t.old) }
-    ensures values { Values (check_reading input.now (lists_of h.old pos.old vn.old flags.old t.old)) input.now result }
+    ensures answer { result ≡ read_answer input.now (lists_of h.old pos.old normals.old fixed.old t.old) }
+    ensures lists { lists_of h.new pos.new normals.new fixed.new t.new
+        ≡ read_lists result input.now (lists_of h.old pos.old normals.old fixed.old t.old) }
+    ensures values { Values (check_reading input.now (lists_of h.old pos.old normals.old fixed.old t.old)) input.now result }
 {
     let parsed = parse_input(input)?;
-    let room = has_room(parsed, pos.len(), h.len(), t.len(), vn.len(), flags.len());
+    let room = has_room(
+        parsed,
+        pos.len(),
+        h.len(),
+        t.len(),
+        normals.len(),
+        fixed.len(),
+    );
     questions::ask_at(Question::Lengths, 0, room)?;
     fill_mesh(input, parsed.counts, pos, h, t);
     match parsed.operation {
-        Operation::Spread => fill_spread(input, parsed.counts, vn, flags),
+        Operation::Spread => fill_spread(input, parsed.counts, normals, fixed),
         Operation::Straighten | Operation::Check => {}
     }
     Ok(parsed)

@@ -75,13 +75,13 @@ operation_scratch Check H P N X T n p lent = lent
 -- ---- what the functions ask of their lists, and what they answer
 
 -- the counts of an input, whose records the longest one has room for, and lists with room for it, those of spreading too
-pub record SpreadIn (n p positions halfedges tangents normals flags current desired : ℕ) : Type 0 where
+pub record SpreadIn (n p positions halfedges tangents normals fixed current desired : ℕ) : Type 0 where
   pub few : records_length p n mesh_kinds ≤ max_input
   pub positions_in : 3 * p ≤ positions
   pub halfedges_in : halfedge_stride * n ≤ halfedges
   pub tangents_in : 4 * n ≤ tangents
   pub normals_in : 3 * p ≤ normals
-  pub flags_in : n ≤ flags
+  pub fixed_in : n ≤ fixed
   pub current_in : n ≤ current
   pub desired_in : n ≤ desired
 
