@@ -1,16 +1,17 @@
--- The program `tangents` of document 01, from the bytes s that it reads to the bytes that it writes. p and n are the counts of points and halfedges.
-use Rattle.std.specs.Prelude.{ℕ, ◌+◌, ◌*◌, ◌≤◌, ◌≡◌, List, [], ◌++◌, Bool, ◌&&◌, leb, length, drop, ℤ, Float, Result, Ok, Err}
+-- The program `tangents`, from the bytes s that it reads to the bytes that it writes. p and n are the counts of points and halfedges.
+use Rattle.std.specs.Prelude.{ℕ, ◌*◌, ◌≤◌, ◌≡◌, List, [], ◌++◌, Bool, ◌&&◌, leb, length, drop, ℤ, Float, Result, Ok, Err}
 use Rattle.little_endian.specs.Numbers.{f64_item, i32_item, byte_item}
 use Rattle.little_endian.specs.Filled.{items}
 use Rattle.mesh.specs.Mesh.{halfedge_stride, as_halfedges}
-use Rattle.records.specs.Records.{max_points, max_halfedges, body_at, parse_input}
+use Rattle.records.specs.Records.{body_at, parse_input}
 use Rattle.records.specs.declared.Operation.{Operation}
 use Rattle.records.specs.declared.Operation.TheVariants.{Straighten, Spread, Check}
 use Rattle.records.specs.declared.Kind.TheVariants.{Positions, Halfedges, Tangents, Normals, Fixed}
 use Rattle.records.specs.declared.Input.{Input}
 use Rattle.questions.specs.declared.Refusal.{Refusal}
-use Rattle.program.specs.Lines.Lines.{lines_of, printed, line_bytes}
+use Rattle.program.specs.Lines.Lines.{lines_of, printed}
 use Rattle.program.specs.Operations.Operations.{operation_lines, operation_tangents, operation_scratch}
+use Rattle.program.specs.declared.TheConstants.{POSITION_ROOM, HALFEDGE_ROOM, TANGENT_ROOM, FLAG_ROOM, OUTPUT_ROOM}
 
 -- ---- the lists of an accepted input
 
@@ -57,7 +58,7 @@ positions_after s lent = when_read (parse_input s) (λ operation p n. positions_
 unfoldable pub halfedges_after : List ℕ → List ℤ → List ℤ
 halfedges_after s lent = when_read (parse_input s) (λ operation p n. halfedges_of s p n ++ drop (halfedge_stride * n) lent) lent
 
--- only spreading has point normals and flags
+-- only spreading has point normals and fixed halfedges
 abbrev pub when_spreading : {A : Type 0} → Operation → A → A → A
 when_spreading Straighten after lent = lent
 when_spreading Spread after lent = after
@@ -90,22 +91,22 @@ scratch_after s lent =
 
 -- ---- the room of the lent lists
 
--- the lengths that the longest input can call for: of positions and of point normals, of halfedges, of tangents, of flags and of
--- either scratch list, and of the output, which has a line of each halfedge and two more
+-- the lengths that the longest input can call for (`RoomsSuffice`, below), which stand in src/lib.rt alone: of positions and of point
+-- normals, of halfedges, of tangents, of fixed halfedges and of either scratch list, and of the output
 abbrev pub position_room : ℕ
-position_room = 3 * max_points
+position_room = POSITION_ROOM
 
 abbrev pub halfedge_room : ℕ
-halfedge_room = halfedge_stride * max_halfedges
+halfedge_room = HALFEDGE_ROOM
 
 abbrev pub tangent_room : ℕ
-tangent_room = 4 * max_halfedges
+tangent_room = TANGENT_ROOM
 
 abbrev pub flag_room : ℕ
-flag_room = max_halfedges
+flag_room = FLAG_ROOM
 
 abbrev pub output_room : ℕ
-output_room = line_bytes * (max_halfedges + 2)
+output_room = OUTPUT_ROOM
 
 -- Has each list that room?
 unfoldable pub has_room : ℕ → ℕ → ℕ → ℕ → ℕ → ℕ → ℕ → ℕ → Bool
@@ -118,7 +119,7 @@ abbrev pub lists_have_room : List Float → List ℤ → List Float → List Flo
 lists_have_room positions halfedges tangents normals fixed current desired out =
     has_room (length positions) (length halfedges) (length tangents) (length normals) (length fixed) (length current) (length desired) (length out)
 
--- lists of at least these lengths
+-- lists of at least these lengths: only inner contracts cite it
 pub record Room (positions halfedges tangents normals fixed current desired : ℕ) : Type 0 where
   pub positions_in : position_room ≤ positions
   pub halfedges_in : halfedge_room ≤ halfedges

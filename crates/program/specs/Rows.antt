@@ -12,7 +12,7 @@ pub record SameLists (s s' : List ℕ) (operation : Operation) (p n : ℕ) : Typ
   pub positions : positions_of s p n ≡ positions_of s' p n
   pub halfedges : SameButRows (halfedges_of s p n) (halfedges_of s' p n) n
   pub tangents : tangents_of s p n ≡ tangents_of s' p n
-  -- only spreading has point normals and flags
+  -- only spreading has point normals and fixed halfedges
   pub normals : operation ≡ Spread → normals_of s p n ≡ normals_of s' p n
   pub fixed : operation ≡ Spread → fixed_of s p n ≡ fixed_of s' p n
 

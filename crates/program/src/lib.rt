@@ -1,5 +1,5 @@
-// What the program `tangents` (document 01) does between reading its input and writing its output: the records are read
-// into lent lists, the operation is done, and the answer goes as lines into a lent buffer.
+// What the program `tangents` does between reading its input and writing its output: the records are read into lent lists
+// (the crate `records`), the operation is done (`operations`), and the answer goes as lines into a lent buffer (`lines`).
 #![tactic(auto)]
 
 mod lines;
@@ -15,7 +15,7 @@ use lines::Output;
 use questions::Refusal;
 
 // The lengths of lists with room for every input: its positions or point normals, its halfedges, its tangents, one place
-// for each halfedge (flags, scratch), and its output, a line of each halfedge and two more.
+// for each halfedge (fixed, scratch), and its output, a line of each halfedge and two more.
 pub const POSITION_ROOM: usize = 3 * records::MAX_POINTS;
 
 pub const HALFEDGE_ROOM: usize = mesh::HALFEDGE_STRIDE * records::MAX_HALFEDGES;

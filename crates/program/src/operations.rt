@@ -1,4 +1,4 @@
-// The operations of the program `tangents` (document 01) on the lists of an input: the call, and what is printed of its
+// The operations of the program `tangents` on the lists of an input: the call, and what is printed of its
 // answer. A list may be longer than the counts call for.
 
 ghost use Rattle.std.specs.Prelude.{◌≡◌, ◌*◌, ◌++◌, length, take, drop};
@@ -10,7 +10,7 @@ use questions::Refusal;
 use records::Operation;
 
 // The lists that an operation reads, cut to their lengths: n halfedges and p points. Only spreading reads the point normals
-// and the flags.
+// and the fixed halfedges.
 #[derive(Clone, Copy)]
 struct ReadLists<'a> {
     n: usize,

@@ -12,7 +12,7 @@ use Rattle.records.specs.declared.Operation.TheVariants.{Straighten, Spread, Che
 use Rattle.records.specs.declared.Kind.TheVariants.{Positions, Halfedges, Tangents, Normals, Fixed}
 use Rattle.records.specs.declared.Input.{Input}
 
--- the five lists that are lent
+-- the five lists that are lent; `fixed` has a flag of each halfedge
 pub record Lists : Type 0 where
   pub positions : List Float
   pub halfedges : List ℤ
@@ -23,7 +23,7 @@ pub record Lists : Type 0 where
 abbrev pub lists_of : List ℤ → List Float → List Float → List ℕ → List Float → Lists
 lists_of H P N X T = record { positions = P; halfedges = H; tangents = T; normals = N; fixed = X }
 
--- so many, if the operation is spreading, which alone has point normals and flags
+-- so many, if the operation is spreading, which alone has point normals and fixed halfedges
 abbrev pub if_spread : Operation → ℕ → ℕ
 if_spread Straighten count = 0
 if_spread Spread count = count
@@ -43,7 +43,7 @@ abbrev pub lists_have_room : Input → Lists → Bool
 lists_have_room input lists =
     has_room input.operation input.counts.points input.counts.halfedges (length lists.positions) (length lists.halfedges) (length lists.tangents) (length lists.normals) (length lists.fixed)
 
--- the first no of a reading: the room (2) is asked about after the input, and has place 0; the lists of the program always have it
+-- the first no of a reading: the room (2) is asked about after the input, and has place 0; lists of the lengths that `max_points` and `max_halfedges` call for always have it
 unfoldable pub check_reading : List ℕ → Lists → Checked
 check_reading s lists = check_input s then asked Lengths 0 (lists_have_room (input_in s) lists)
 
@@ -67,7 +67,7 @@ unfoldable pub read_lists : Result Input Refusal → List ℕ → Lists → List
 read_lists (Ok input) s lists = filled_lists input.operation input.counts.points input.counts.halfedges s lists
 read_lists (Err refusal) s lists = lists
 
--- what the filling of the lists may take for granted: the bodies are in the input, and each list has its room
+-- ---- what the filling of the lists may take for granted, which only inner contracts cite: the bodies are in the input, and each list has its room
 pub record MeshRoom (p n input positions halfedges tangents : ℕ) : Type 0 where
   pub bodies : records_length p n mesh_kinds ≤ input
   pub position_room : 3 * p ≤ positions

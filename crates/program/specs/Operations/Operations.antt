@@ -1,4 +1,4 @@
--- The operations of the program `tangents` (document 01) on the lists of an input, and the lines that they print. H are the halfedges, P the positions, N the point normals, X the flags, T the tangents, n and p the counts of halfedges and points.
+-- The operations of the program `tangents` on the lists of an input, and the lines that they print. H are the halfedges, P the positions, N the point normals, X the flags of fixed halfedges, T the tangents, n and p the counts of halfedges and points.
 use Rattle.std.specs.Prelude.{ℕ, ◌*◌, ◌≤◌, ◌≡◌, List, ◌++◌, replicate, drop, Float, Result, Ok, Err}
 use Rattle.float.specs.Ops.{zero}
 use Rattle.mesh.specs.Mesh.{halfedge_stride, Halfedges}
@@ -72,7 +72,7 @@ operation_scratch Straighten H P N X T n p lent = lent
 operation_scratch Spreads H P N X T n p lent = spread_scratch H P N X T n p lent
 operation_scratch Check H P N X T n p lent = lent
 
--- ---- what the functions ask of their lists, and what they answer
+-- ---- what the functions ask of their lists, and what they answer: only inner contracts cite these
 
 -- the counts of an input, whose records the longest one has room for, and lists with room for it, those of spreading too
 pub record SpreadIn (n p positions halfedges tangents normals fixed current desired : ℕ) : Type 0 where
