@@ -103,7 +103,7 @@ pillow_refused =
     let answer = linearize_answer (as_halfedges (pillow_with 0)) positions no_tangents halfedges points in
     (checked answer is checked (Err (record { question = Mutual; place = 5 }))) ∷ (number (number_of answer) is number 5) ∷ (number (place_of answer) is number 5) ∷ []
 
--- the answer to spreading the straightened pillow, point normals all 0, with these flags
+-- the answer to spreading the straightened pillow, point normals all 0, with these flags of fixed halfedges
 abbrev pub spreading : List ℕ → Spreading
 spreading fixed = distribute_tangents (as_halfedges pillow) positions zero_normals fixed straightened zero_angles zero_angles halfedges points
 

@@ -4,7 +4,7 @@ use Rattle.distribute.specs.Spread.Steps.{Steps}
 use Rattle.distribute.specs.Spread.Spread.{spread, pass}
 use Rattle.distribute.specs.PreviewWalks.Bytes.{turned_bytes}
 
--- with these flags; the rounds are {0, 3}, {1, 5} and {2, 4}
+-- with these halfedges fixed; the rounds are {0, 3}, {1, 5} and {2, 4}
 abbrev pub steps : List Bool → Steps
 steps fixed = record {
   Tangents = List ℕ;

@@ -1,11 +1,11 @@
 -- Worked cases of spreading's two walks: in the second, a fixed halfedge other than the start ends the walk before its mark is read, and only in the first is the mark read first. The stated side has literals only; the unchanged Rust gives the same.
-use Rattle.std.specs.Prelude.{ℕ, ◌≡◌, List, [], ◌∷◌, ◌++◌, map, replicate, ℤ, pos, Float, Ok}
+use Rattle.std.specs.Prelude.{ℕ, List, [], ◌∷◌, ◌++◌, map, replicate, ℤ, pos, Float, Ok}
 use Rattle.std.specs.Float.{binary64}
-use Rattle.std.specs.Float.Ieee.{neg, of_bits}
+use Rattle.std.specs.Float.Ieee.{of_bits}
 use Rattle.float.specs.Ops.{zero, one}
 use Rattle.mesh.specs.Mesh.{as_halfedges}
 use Rattle.distribute.specs.Distribute.{distribute_tangents, tangents_after}
-use Rattle.cases.specs.Lines.{Value, Line, counts, tangents, ◌is◌, AllHold}
+use Rattle.cases.specs.Lines.{Value, Line, counts, tangents, minus, ◌is◌, AllHold}
 
 -- Two squares back to back: points (0,0,0), (1,0,0), (1,1,0), (0,1,0), each square with its diagonal from point 0. Start, end, pair and row (its own number) of the halfedges 0 to 11; the round of point 0 is 0, 6, 9, 3.
 abbrev pub square : List ℤ
@@ -32,9 +32,6 @@ corners = zero ∷ zero ∷ zero ∷ one ∷ zero ∷ zero ∷ one ∷ one ∷ z
 abbrev pub upwards : List Float
 upwards = zero ∷ zero ∷ one ∷ zero ∷ zero ∷ one ∷ zero ∷ zero ∷ one ∷ zero ∷ zero ∷ one ∷ []
 
-abbrev pub minus : Float
-minus = neg one
-
 -- a tangent of direction 0 and weight 1
 abbrev pub plain : List Float
 plain = zero ∷ zero ∷ zero ∷ one ∷ []
@@ -47,7 +44,7 @@ lent b c =
     ++ (zero ∷ one ∷ zero ∷ b ∷ []) ++ plain ++ plain
     ++ (minus ∷ zero ∷ zero ∷ c ∷ []) ++ plain ++ plain
 
--- flags on halfedge 0, and as given on 6 and 9
+-- halfedge 0 is fixed, and 6 and 9 as given
 abbrev pub fixed : ℕ → ℕ → List ℕ
 fixed b c = 1 ∷ 0 ∷ 0 ∷ 0 ∷ 0 ∷ 0 ∷ b ∷ 0 ∷ 0 ∷ c ∷ 0 ∷ 0 ∷ []
 
