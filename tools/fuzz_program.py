@@ -86,16 +86,16 @@ def exchanged(body, rng):
 
 
 def damaged_mesh(rng):
-    """A valid input with other numbers in its halfedges or flags."""
+    """A valid input with other numbers in its halfedges or its flags of fixed halfedges."""
     parts = bodies(rng)
     if len(parts[3]) > 16 and rng.random() < 0.3:
         parts[3] = exchanged(parts[3], rng)
         return joined(parts)
     for _ in range(rng.randint(1, 2)):
         if len(parts) == 7 and parts[6] and rng.random() < 0.4:
-            flags = bytearray(parts[6])
-            flags[rng.randrange(len(flags))] = rng.choice((2, 3, 128, 255))
-            parts[6] = bytes(flags)
+            fixed = bytearray(parts[6])
+            fixed[rng.randrange(len(fixed))] = rng.choice((2, 3, 128, 255))
+            parts[6] = bytes(fixed)
         elif parts[3]:
             he = list(struct.unpack("<%di" % (len(parts[3]) // 4), parts[3]))
             he[rng.randrange(len(he))] = rng.choice((-1, -2, -2**31, 2**31 - 1, 65536, 65535, 8, 3, 2, 1, 0, len(he) // 4, len(he) // 4 - 1))
@@ -193,7 +193,7 @@ def lowest(test, n):
     return next((e for e in range(n) if not test(e)), None)
 
 
-def questions(operation, points, n, he, flags):
+def questions(operation, points, n, he, fixed):
     """The number and place of the first question of a call that is answered no, or None. Every list has its length."""
     if n % 3 or n > 65535 or points > 65535:
         return 1, 0
@@ -201,7 +201,7 @@ def questions(operation, points, n, he, flags):
     asked = [(3, lambda e: 0 <= start[e] < points and 0 <= end[e] < points), (4, lambda e: 0 <= pair[e] < n), (5, lambda e: pair[pair[e]] == e),
              (6, lambda e: start[e] != end[e] and start[pair[e]] == end[e] and end[pair[e]] == start[e]), (7, lambda e: start[e + 1 if e % 3 < 2 else e - 2] == end[e])]
     if operation == 2:
-        asked.append((11, lambda e: flags[e] < 2))
+        asked.append((11, lambda e: fixed[e] < 2))
     for number, test in asked:
         e = lowest(test, n)
         if e is not None:

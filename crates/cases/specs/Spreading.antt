@@ -4,9 +4,9 @@ use Rattle.distribute.specs.Spread.Steps.{Steps}
 use Rattle.distribute.specs.Spread.Spread.{spread, pass}
 use Rattle.distribute.specs.Preview.Bytes.{turned_bytes}
 
--- with these flags; the rounds are {0, 3}, {1, 5} and {2, 4}
+-- with these halfedges fixed; the rounds are {0, 3}, {1, 5} and {2, 4}
 abbrev pub steps : List Bool → Steps
-steps flags = record {
+steps fixed = record {
   Tangents = List ℕ;
   Tangent = ℕ;
   Weight = ℕ;
@@ -14,7 +14,7 @@ steps flags = record {
   Plan = ℕ;
   n = 6;
   step = λ e. get_or (3 ∷ 5 ∷ 4 ∷ 0 ∷ 2 ∷ 1 ∷ []) e 0;
-  fixed = λ e. get_or flags e false;
+  fixed = λ e. get_or fixed e false;
   read = λ ts e. get_or ts e 0;
   write = set;
   weight = λ v. v % 10;

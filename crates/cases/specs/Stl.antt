@@ -1,18 +1,14 @@
 -- The reading of STL: a tetrahedron with corners 0, x, y and z, and files that are refused.
-use Rattle.std.specs.Prelude.{ℕ, ◌/◌, ◌%◌, ◌≡◌, List, [], ◌∷◌, ◌++◌, map, replicate, ℤ, pos, Float, Ok}
+use Rattle.std.specs.Prelude.{ℕ, ◌≡◌, List, [], ◌∷◌, ◌++◌, map, replicate, ℤ, pos, Float, Ok}
 use Rattle.std.specs.Float.{nan}
 use Rattle.float.specs.Ops.{lit32}
 use Rattle.questions.specs.Check.{refused}
 use Rattle.questions.specs.declared.Question.TheVariants.{Lengths, Size, Corners, Pairing}
 use Rattle.stl.specs.Questions.{check_stl}
 use Rattle.stl.specs.Stl.{read_stl, points_after, halfedges_after, normals_after}
+use Rattle.cases.specs.Bytes.{numbers}
 
 -- ---- files
-
--- little-endian
-abbrev pub bytes_of : List ℕ → List ℕ
-bytes_of [] = []
-bytes_of (w ∷ words) = w % 256 ∷ w / 256 % 256 ∷ w / 65536 % 256 ∷ w / 16777216 ∷ bytes_of words
 
 -- 1, -1, -0 and infinity, by their bits
 abbrev pub one : ℕ
@@ -41,10 +37,10 @@ z = 0 ∷ 0 ∷ one ∷ []
 
 -- a normal, three corners, and two bytes that are ignored
 abbrev pub triangle : List ℕ → List ℕ → List ℕ → List ℕ → List ℕ
-triangle normal a b c = bytes_of (normal ++ a ++ b ++ c) ++ (7 ∷ 7 ∷ [])
+triangle normal a b c = numbers 4 (normal ++ a ++ b ++ c) ++ (7 ∷ 7 ∷ [])
 
 abbrev pub file : ℕ → List ℕ → List ℕ
-file count triangles = replicate 80 0 ++ bytes_of (count ∷ []) ++ triangles
+file count triangles = replicate 80 0 ++ numbers 4 (count ∷ []) ++ triangles
 
 -- the three triangles at x, of which the second has the origin with two numbers of -0
 abbrev pub three : List ℕ

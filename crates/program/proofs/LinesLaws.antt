@@ -1,4 +1,4 @@
--- The laws that the proofs of `program_lines` share; `Put`, `Lengths` and `Whole` are for the crates above too.
+-- The laws that the proofs of the module `lines` share.
 pub mod Put
 pub mod Digits
 pub mod Lengths

@@ -1,3 +1,3 @@
--- The laws that the proofs of `program_operations` share; `Lengths` is for the crates above.
+-- The laws that the proofs of the module `operations` share.
 pub mod Shown
 pub mod Lengths

@@ -1,3 +1,3 @@
--- The specs of `program_lines`, in the order of reading.
+-- The specs of the module `lines`, in the order of reading.
 pub mod Text
 pub mod Lines

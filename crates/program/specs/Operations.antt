@@ -1,2 +1,2 @@
--- The specs of `program_operations`.
+-- The specs of the module `operations`.
 pub mod Operations

@@ -1,10 +1,10 @@
-// Renders the output of the program `tangents` (document 01) into a lent buffer. Each function asks for its own places
-// (`at + 96 ≤ length out`): they differ from call to call, so no struct of the lists can hold them. `4 * n ≤ length t` is handed down
+// Renders the output of the program `tangents` into a lent buffer. Each function asks for its own places
+// (`at + line_bytes ≤ length out`): they differ from call to call, so no struct of the lists can hold them. `4 * n ≤ length t` is handed down
 // with n and t: of a struct of the two each clause would say `tangents.now.t.now` for `t.now`.
 
 ghost use Rattle.std.specs.Prelude.{◌≡◌, ◌+◌, ◌*◌, ◌<◌, ◌≤◌, length};
 ghost use Rattle.program.specs.Lines.Text.{byte, decimal, hex, Put};
-ghost use Rattle.program.specs.Lines.Lines.{number_line, numbers_line, bits_field, tangent_line, tangent_lines, tangents_lines, lines_of, printed, halfedges_in, has_room, rendered};
+ghost use Rattle.program.specs.Lines.Lines.{number_line, numbers_line, bits_field, tangent_line, tangent_lines, tangents_lines, lines_of, printed, line_bytes, halfedges_in, has_room, rendered};
 
 use questions::Refusal;
 
@@ -85,6 +85,7 @@ fn put_hex(out: &mut [u8], at: usize, n: u64) -> usize
     end
 }
 
+#[tactic(auto, using(crate::proofs::LinesLaws::Digits::decimal_length))]
 fn put_number_line(out: &mut [u8], at: usize, text: &[u8], n: usize) -> usize
     requires { (at + 48 ≤ length out.old) × (length text.now ≤ 16) }
     ensures { Put out.old at (number_line text.now n) out.new result }
@@ -94,6 +95,7 @@ fn put_number_line(out: &mut [u8], at: usize, text: &[u8], n: usize) -> usize
     put_byte(out, end, b'\n')
 }
 
+#[tactic(auto, using(crate::proofs::LinesLaws::Digits::decimal_length))]
 fn put_numbers_line(
     out: &mut [u8],
     at: usize,
@@ -102,7 +104,7 @@ fn put_numbers_line(
     text2: &[u8],
     m: usize,
 ) -> usize
-    requires { (at + 96 ≤ length out.old) × (length text.now ≤ 16) × (length text2.now ≤ 16) }
+    requires { (at + line_bytes ≤ length out.old) × (length text.now ≤ 16) × (length text2.now ≤ 16) }
     ensures { Put out.old at (numbers_line text.now n text2.now m) out.new result }
 {
     let number = put_text(out, at, text);
@@ -119,8 +121,9 @@ fn put_bits_field(t: &[f64], i: usize, out: &mut [u8], at: usize) -> usize
     put_hex(out, digits, float::bits(t[i]))
 }
 
+#[tactic(auto, using(crate::proofs::LinesLaws::Digits::decimal_length, crate::proofs::LinesLaws::Lengths::field_length))]
 fn put_tangent_line(t: &[f64], e: usize, out: &mut [u8], at: usize) -> usize
-    requires { (4 * e + 4 ≤ length t.now) × (at + 96 ≤ length out.old) }
+    requires { (4 * e + 4 ≤ length t.now) × (at + line_bytes ≤ length out.old) }
     ensures { Put out.old at (tangent_line t.now e) out.new result }
 {
     let x = put_decimal(out, at, e as u64);
@@ -132,9 +135,9 @@ fn put_tangent_line(t: &[f64], e: usize, out: &mut [u8], at: usize) -> usize
 }
 
 // The lines of the halfedges below n.
-#[tactic(auto, unfolding(crate::specs::Lines::Lines::tangent_lines))]
+#[tactic(auto, using(crate::proofs::LinesLaws::Lengths::tangent_lines_length), unfolding(crate::specs::Lines::Lines::tangent_lines))]
 fn put_tangent_lines(t: &[f64], n: usize, out: &mut [u8], at: usize) -> usize
-    requires { (4 * n ≤ length t.now) × (at + 96 * n ≤ length out.old) }
+    requires { (4 * n ≤ length t.now) × (at + line_bytes * n ≤ length out.old) }
     ensures { Put out.old at (tangent_lines t.now n) out.new result }
 {
     let mut end = at;
@@ -144,16 +147,18 @@ fn put_tangent_lines(t: &[f64], n: usize, out: &mut [u8], at: usize) -> usize
     end
 }
 
+#[tactic(auto, using(crate::proofs::LinesLaws::Lengths::number_line_length), unfolding(crate::specs::Lines::Text::ascii))]
 fn put_tangents(t: &[f64], n: usize, out: &mut [u8]) -> usize
-    requires { (4 * n ≤ length t.now) × (96 * (n + 1) ≤ length out.old) }
+    requires { (4 * n ≤ length t.now) × (line_bytes * (n + 1) ≤ length out.old) }
     ensures { Put out.old 0 (tangents_lines t.now n) out.new result }
 {
     let at = put_number_line(out, 0, b"tangents ", n);
     put_tangent_lines(t, n, out, at)
 }
 
+#[tactic(auto, using(crate::proofs::LinesLaws::Lengths::tangents_length))]
 fn put_spread(t: &[f64], n: usize, looked: usize, turned: usize, out: &mut [u8]) -> usize
-    requires { (4 * n ≤ length t.now) × (96 * (n + 2) ≤ length out.old) }
+    requires { (4 * n ≤ length t.now) × (line_bytes * (n + 2) ≤ length out.old) }
     ensures { Put out.old 0 (lines_of (Output.Spread n looked turned) t.now) out.new result }
 {
     let at = put_tangents(t, n, out);
@@ -184,6 +189,7 @@ fn halfedges_in(output: Output) -> usize
 
 // Writes the whole output to the front of `out` and returns its length. Where `t` or `out` is too short for it, it
 // writes nothing and returns 0.
+#[tactic(auto, using(crate::proofs::LinesLaws::Lengths::enough_room, crate::proofs::LinesLaws::Lengths::nothing, crate::proofs::LinesLaws::Put::put_none), unfolding(crate::specs::Lines::Lines::lines_of, crate::specs::Lines::Text::ascii))]
 pub fn render(output: Output, t: &[f64], out: &mut [u8]) -> usize
     ensures { Put out.old 0 (rendered output t.now (length out.old)) out.new result }
 {

@@ -1,4 +1,4 @@
-// The operations of the program `tangents` (document 01) on the lists of an input: the call, and what is printed of its
+// The operations of the program `tangents` on the lists of an input: the call, and what is printed of its
 // answer. A list may be longer than the counts call for.
 
 ghost use Rattle.std.specs.Prelude.{◌≡◌, ◌*◌, ◌++◌, length, take, drop};
@@ -10,7 +10,7 @@ use questions::Refusal;
 use records::Operation;
 
 // The lists that an operation reads, cut to their lengths: n halfedges and p points. Only spreading reads the point normals
-// and the flags.
+// and the fixed halfedges.
 #[derive(Clone, Copy)]
 struct ReadLists<'a> {
     n: usize,
@@ -18,7 +18,7 @@ struct ReadLists<'a> {
     h: &'a [i32],
     pos: &'a [f64],
     normals: &'a [f64],
-    flags: &'a [u8],
+    fixed: &'a [u8],
 }
 
 #[tactic(auto, unfolding(crate::specs::Operations::Operations::straighten_lines))]
@@ -38,10 +38,10 @@ fn spread(
     desired: &mut [f64],
 ) -> Result<Output, Refusal>
     requires { (length current.old ≡ lists.now.n) × (length desired.old ≡ lists.now.n) }
-    ensures lines { Shows (spread_lines (as_halfedges lists.now.h.now) lists.now.pos.now lists.now.normals.now lists.now.flags.now t.old lists.now.n lists.now.p) lists.now.n result t.new }
-    ensures tangents { t.new ≡ spread_tangents (as_halfedges lists.now.h.now) lists.now.pos.now lists.now.normals.now lists.now.flags.now t.old lists.now.n lists.now.p }
-    ensures current { current.new ≡ spread_scratch (as_halfedges lists.now.h.now) lists.now.pos.now lists.now.normals.now lists.now.flags.now t.old lists.now.n lists.now.p current.old }
-    ensures desired { desired.new ≡ spread_scratch (as_halfedges lists.now.h.now) lists.now.pos.now lists.now.normals.now lists.now.flags.now t.old lists.now.n lists.now.p desired.old }
+    ensures lines { Shows (spread_lines (as_halfedges lists.now.h.now) lists.now.pos.now lists.now.normals.now lists.now.fixed.now t.old lists.now.n lists.now.p) lists.now.n result t.new }
+    ensures tangents { t.new ≡ spread_tangents (as_halfedges lists.now.h.now) lists.now.pos.now lists.now.normals.now lists.now.fixed.now t.old lists.now.n lists.now.p }
+    ensures current { current.new ≡ spread_scratch (as_halfedges lists.now.h.now) lists.now.pos.now lists.now.normals.now lists.now.fixed.now t.old lists.now.n lists.now.p current.old }
+    ensures desired { desired.new ≡ spread_scratch (as_halfedges lists.now.h.now) lists.now.pos.now lists.now.normals.now lists.now.fixed.now t.old lists.now.n lists.now.p desired.old }
 {
     let counts = distribute::distribute_tangents(
         lists.n,
@@ -49,7 +49,7 @@ fn spread(
         lists.h,
         lists.pos,
         lists.normals,
-        lists.flags,
+        lists.fixed,
         t,
         current,
         desired,
@@ -79,16 +79,16 @@ pub fn perform(
     h: &[i32],
     pos: &[f64],
     normals: &[f64],
-    flags: &[u8],
+    fixed: &[u8],
     t: &mut [f64],
     current: &mut [f64],
     desired: &mut [f64],
 ) -> Result<Output, Refusal>
-    requires { SpreadIn n p (length pos.now) (length h.now) (length t.old) (length normals.now) (length flags.now) (length current.old) (length desired.old) }
-    ensures lines { Shows (operation_lines operation (as_halfedges (take (halfedge_stride * n) h.now)) (take (3 * p) pos.now) (take (3 * p) normals.now) (take n flags.now) (take (4 * n) t.old) n p) n result t.new }
-    ensures tangents { t.new ≡ operation_tangents operation (as_halfedges (take (halfedge_stride * n) h.now)) (take (3 * p) pos.now) (take (3 * p) normals.now) (take n flags.now) (take (4 * n) t.old) n p ++ drop (4 * n) t.old }
-    ensures current { current.new ≡ operation_scratch operation (as_halfedges (take (halfedge_stride * n) h.now)) (take (3 * p) pos.now) (take (3 * p) normals.now) (take n flags.now) (take (4 * n) t.old) n p current.old }
-    ensures desired { desired.new ≡ operation_scratch operation (as_halfedges (take (halfedge_stride * n) h.now)) (take (3 * p) pos.now) (take (3 * p) normals.now) (take n flags.now) (take (4 * n) t.old) n p desired.old }
+    requires { SpreadIn n p (length pos.now) (length h.now) (length t.old) (length normals.now) (length fixed.now) (length current.old) (length desired.old) }
+    ensures lines { Shows (operation_lines operation (as_halfedges (take (halfedge_stride * n) h.now)) (take (3 * p) pos.now) (take (3 * p) normals.now) (take n fixed.now) (take (4 * n) t.old) n p) n result t.new }
+    ensures tangents { t.new ≡ operation_tangents operation (as_halfedges (take (halfedge_stride * n) h.now)) (take (3 * p) pos.now) (take (3 * p) normals.now) (take n fixed.now) (take (4 * n) t.old) n p ++ drop (4 * n) t.old }
+    ensures current { current.new ≡ operation_scratch operation (as_halfedges (take (halfedge_stride * n) h.now)) (take (3 * p) pos.now) (take (3 * p) normals.now) (take n fixed.now) (take (4 * n) t.old) n p current.old }
+    ensures desired { desired.new ≡ operation_scratch operation (as_halfedges (take (halfedge_stride * n) h.now)) (take (3 * p) pos.now) (take (3 * p) normals.now) (take n fixed.now) (take (4 * n) t.old) n p desired.old }
 {
     let points = 3 * p;
     let lists = ReadLists {
@@ -97,7 +97,7 @@ pub fn perform(
         h: &h[..mesh::HALFEDGE_STRIDE * n],
         pos: &pos[..points],
         normals: &normals[..points],
-        flags: &flags[..n],
+        fixed: &fixed[..n],
     };
     let t = &mut t[..4 * n];
     match operation {

@@ -24,22 +24,22 @@ pub number_line_length : (text : List ℕ) (n : ℕ) → length text ≤ 16 → 
 unfolding number_line ascii
 number_line_length text n h = rw (length-append, length-append) (omega (arith, decimal_length n))
 
-pub tangent_line_length : (T : List Float) (e : ℕ) → length (tangent_line T e) ≤ 96
+pub tangent_line_length : (T : List Float) (e : ℕ) → length (tangent_line T e) ≤ line_bytes
 unfolding tangent_line ascii
 tangent_line_length T e =
     simp length-append
     (omega (arith, decimal_length e, field_length T (4 * e), field_length T (4 * e + 1), field_length T (4 * e + 2), field_length T (4 * e + 3)))
 
-pub tangent_lines_length : (T : List Float) (n : ℕ) → length (tangent_lines T n) ≤ 96 * n
+pub tangent_lines_length : (T : List Float) (n : ℕ) → length (tangent_lines T n) ≤ line_bytes * n
 unfolding tangent_lines
 tangent_lines_length T zero = omega arith
 tangent_lines_length T (suc n) = rw length-append (omega (arith, tangent_lines_length T n, tangent_line_length T n))
 
-pub tangents_length : (T : List Float) (n : ℕ) → length (tangents_lines T n) ≤ 96 * (n + 1)
+pub tangents_length : (T : List Float) (n : ℕ) → length (tangents_lines T n) ≤ line_bytes * (n + 1)
 unfolding tangents_lines ascii
 tangents_length T n = rw length-append (omega (arith, tangent_lines_length T n, number_line_length (ascii "tangents ") n (omega arith)))
 
-pub numbers_line_length : (text text' : List ℕ) (n m : ℕ) → length text ≤ 16 → length text' ≤ 16 → length (numbers_line text n text' m) ≤ 96
+pub numbers_line_length : (text text' : List ℕ) (n m : ℕ) → length text ≤ 16 → length text' ≤ 16 → length (numbers_line text n text' m) ≤ line_bytes
 unfolding numbers_line
 numbers_line_length text text' n m h h' = rw (length-append, length-append) (omega (arith, decimal_length n, number_line_length text' m h'))
 
@@ -60,23 +60,23 @@ module _ (n numbers room : ℕ) where
   few_numbers h = rw (lt-leb (4 * n) numbers (omega arith))
 
   module _ (h : n ≤ numbers / 4) where
-    pub no_lines : room / 96 < 2 → false ≡ has_room n numbers room
+    pub no_lines : room / line_bytes < 2 → false ≡ has_room n numbers room
     unfolding has_room
-    no_lines l = rw (le-leb (4 * n) numbers (omega arith), lt-leb (96 * (n + 2)) room (omega arith))
+    no_lines l = rw (le-leb (4 * n) numbers (omega arith), lt-leb (line_bytes * (n + 2)) room (omega arith))
 
-    pub lines_room : 2 ≤ room / 96 → leb n (room / 96 - 2) ≡ has_room n numbers room
+    pub lines_room : 2 ≤ room / line_bytes → leb n (room / line_bytes - 2) ≡ has_room n numbers room
     unfolding has_room
-    lines_room l = rw (le-leb (4 * n) numbers (omega arith)) (same_test (leb n (room / 96 - 2)) refl)
+    lines_room l = rw (le-leb (4 * n) numbers (omega arith)) (same_test (leb n (room / line_bytes - 2)) refl)
       where
-        same_test : (b : Bool) → leb n (room / 96 - 2) ≡ b → b ≡ leb (96 * (n + 2)) room
-        same_test true e = sym (le-leb (96 * (n + 2)) room (omega (arith, leb-true n (room / 96 - 2) e)))
-        same_test false e = sym (lt-leb (96 * (n + 2)) room (omega (arith, leb-false n (room / 96 - 2) e)))
+        same_test : (b : Bool) → leb n (room / line_bytes - 2) ≡ b → b ≡ leb (line_bytes * (n + 2)) room
+        same_test true e = sym (le-leb (line_bytes * (n + 2)) room (omega (arith, leb-true n (room / line_bytes - 2) e)))
+        same_test false e = sym (lt-leb (line_bytes * (n + 2)) room (omega (arith, leb-false n (room / line_bytes - 2) e)))
 
-pub room_for : (n numbers room : ℕ) → has_room n numbers room ≡ true → (4 * n ≤ numbers) × (96 * (n + 2) ≤ room)
+pub room_for : (n numbers room : ℕ) → has_room n numbers room ≡ true → (4 * n ≤ numbers) × (line_bytes * (n + 2) ≤ room)
 unfolding has_room
 room_for n numbers room e =
-    let p = and_parts (leb (4 * n) numbers) (leb (96 * (n + 2)) room) e in
-    (leb-true (4 * n) numbers p.0, leb-true (96 * (n + 2)) room p.1)
+    let p = and_parts (leb (4 * n) numbers) (leb (line_bytes * (n + 2)) room) e in
+    (leb-true (4 * n) numbers p.0, leb-true (line_bytes * (n + 2)) room p.1)
 
 -- ---- what is rendered
 
@@ -90,7 +90,7 @@ module _ (output : Output) (T : List Float) (room n : ℕ) (b : Bool) (e : n ≡
     unfolding rendered
     everything o g = rw (← e, ← h, f, g)
 
-    pub enough_room : (o : Output) → output ≡ o → (4 * halfedges_in o ≤ length T) × (96 * (halfedges_in o + 2) ≤ room)
+    pub enough_room : (o : Output) → output ≡ o → (4 * halfedges_in o ≤ length T) × (line_bytes * (halfedges_in o + 2) ≤ room)
     enough_room o g = rw (← g, ← e) (room_for n (length T) room (sym h ∙ f))
 
 -- a bool as the code casts it

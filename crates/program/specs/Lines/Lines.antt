@@ -1,10 +1,11 @@
--- The program's output as document 01 has it. Every line ends in a newline.
+-- The program's output. Every line ends in a newline.
 use Rattle.std.specs.Prelude.{ℕ, zero, suc, ◌+◌, ◌*◌, Bool, cond, ◌&&◌, List, [], ◌++◌, length, get_or, leb, Float, Result, Ok, Err}
 use Rattle.std.specs.Float.{nan}
 use Rattle.float.specs.F64.{bits_of}
 use Rattle.questions.specs.Questions.{number as question_number}
 use Rattle.questions.specs.declared.Refusal.{Refusal}
 use Rattle.program.specs.Lines.Text.{ascii, decimal, hex}
+use Rattle.program.specs.declared.lines.TheConstants.{LINE_BYTES}
 use Rattle.program.specs.declared.lines.Output.{Output}
 use Rattle.program.specs.declared.lines.Output.TheVariants.{Tangents, Spread, Valid, Refused}
 
@@ -41,14 +42,14 @@ lines_of (Spread n looked turned) T = tangents_lines T n ++ numbers_line (ascii 
 lines_of (Valid valid) T = number_line (ascii "valid ") (cond valid 1 0)
 lines_of (Refused number place) T = numbers_line (ascii "refused ") number (ascii " ") place
 
--- what is printed of an answer: its output, or document 01's number and place of the refusal
+-- what is printed of an answer: its output, or the number and place of the refusal
 abbrev pub printed : Result Output Refusal → Output
 printed (Ok output) = output
 printed (Err refusal) = Refused (question_number refusal.question) refusal.place
 
 -- room for a line: no line has more bytes
 abbrev pub line_bytes : ℕ
-line_bytes = 96
+line_bytes = LINE_BYTES
 
 abbrev pub halfedges_in : Output → ℕ
 halfedges_in (Tangents n) = n

@@ -1,4 +1,4 @@
--- The operations of the program `tangents` (document 01) on the lists of an input, and the lines that they print. H are the halfedges, P the positions, N the point normals, X the flags, T the tangents, n and p the counts of halfedges and points.
+-- The operations of the program `tangents` on the lists of an input, and the lines that they print. H are the halfedges, P the positions, N the point normals, X the flags of fixed halfedges, T the tangents, n and p the counts of halfedges and points.
 use Rattle.std.specs.Prelude.{ℕ, ◌*◌, ◌≤◌, ◌≡◌, List, ◌++◌, replicate, drop, Float, Result, Ok, Err}
 use Rattle.float.specs.Ops.{zero}
 use Rattle.mesh.specs.Mesh.{halfedge_stride, Halfedges}
@@ -72,16 +72,16 @@ operation_scratch Straighten H P N X T n p lent = lent
 operation_scratch Spreads H P N X T n p lent = spread_scratch H P N X T n p lent
 operation_scratch Check H P N X T n p lent = lent
 
--- ---- what the functions ask of their lists, and what they answer
+-- ---- what the functions ask of their lists, and what they answer: only inner contracts cite these
 
 -- the counts of an input, whose records the longest one has room for, and lists with room for it, those of spreading too
-pub record SpreadIn (n p positions halfedges tangents normals flags current desired : ℕ) : Type 0 where
+pub record SpreadIn (n p positions halfedges tangents normals fixed current desired : ℕ) : Type 0 where
   pub few : records_length p n mesh_kinds ≤ max_input
   pub positions_in : 3 * p ≤ positions
   pub halfedges_in : halfedge_stride * n ≤ halfedges
   pub tangents_in : 4 * n ≤ tangents
   pub normals_in : 3 * p ≤ normals
-  pub flags_in : n ≤ flags
+  pub fixed_in : n ≤ fixed
   pub current_in : n ≤ current
   pub desired_in : n ≤ desired
 

@@ -1,4 +1,4 @@
--- `program_lines::has_room` meets its contract. Assumes nothing.
+-- `lines::has_room` meets its contract. Assumes nothing.
 use Rattle.program.proofs.LinesLaws.Lengths.{few_numbers, no_lines, lines_room}
 use Rattle.program.proofs.lines.has_room.Goals as goal
 

@@ -1,4 +1,4 @@
--- `program_lines::put_decimal` meets its contract. Assumes nothing.
+-- `lines::put_decimal` meets its contract. Assumes nothing.
 use Rattle.std.proofs.Common.{◌∙◌}
 use Rattle.program.proofs.LinesLaws.Digits.{decimal_is}
 use Rattle.program.proofs.lines.put_decimal.Goals as goal

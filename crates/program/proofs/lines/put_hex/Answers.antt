@@ -1,4 +1,4 @@
--- `program_lines::put_hex` meets its contract. Assumes nothing.
+-- `lines::put_hex` meets its contract. Assumes nothing.
 use Rattle.std.proofs.Common.{◌∙◌, ap, arith}
 use Rattle.hex.specs.Hex.{encode_lower}
 use Rattle.program.specs.Lines.Text.{hex}

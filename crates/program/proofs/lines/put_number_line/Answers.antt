@@ -1,16 +1,8 @@
--- `program_lines::put_number_line` meets its contract. Assumes nothing.
+-- `lines::put_number_line` meets its contract. Assumes nothing.
 use Rattle.program.specs.Lines.Text.{ascii}
 use Rattle.program.specs.Lines.Lines.{number_line}
-use Rattle.program.proofs.LinesLaws.Digits.{decimal_length}
-use Rattle.program.proofs.LinesLaws.Put.{put_then, put_within}
-use native.Mathlib.Omega.{arith}
+use Rattle.program.proofs.LinesLaws.Put.{put_then}
 use Rattle.program.proofs.lines.put_number_line.Goals as goal
-
-pub put_byte-requires : goal.put_byte-requires
-put_byte-requires c =
-    let p = put_within 16 c.requires.1 c.put_text-number.ensures in
-    let q = put_within 20 (decimal_length c.args.n) c.put_decimal-end.ensures in
-    omega (arith, c.requires.0)
 
 pub returns : goal.returns
 unfolding number_line ascii

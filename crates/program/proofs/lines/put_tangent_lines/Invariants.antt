@@ -1,4 +1,4 @@
--- `program_lines::put_tangent_lines` meets its contract: after e turns the lines below e are stored. Assumes nothing.
+-- `lines::put_tangent_lines` meets its contract: after e turns the lines below e are stored. Assumes nothing.
 use Rattle.program.specs.Lines.Text.{Put}
 use Rattle.program.specs.Lines.Lines.{tangent_lines}
 use Rattle.program.proofs.lines.put_tangent_lines.Given as goal

@@ -1,4 +1,4 @@
--- `program_lines::put_text` meets its contract. Assumes nothing.
+-- `lines::put_text` meets its contract. Assumes nothing.
 use Rattle.std.proofs.Common.{refl}
 use Rattle.program.proofs.LinesLaws.Put.{put_over}
 use Rattle.program.proofs.lines.put_text.Goals as goal
