@@ -15,7 +15,7 @@ returns-then-k-block-clause-pairs c =
       indexed = r.indexed;
       all = r.all;
       paired =
-          pairs_both B r.edges_keys r.all c.args.f c.requires.0 c.args.halfedges.now r.paired (found_back B c.args.f c.requires.1 c.find-k.ensures) c.if-k-block.true (omega (arith, r.room))
+          pairs_both B r.edges_keys r.all c.args.f c.requires.0 c.args.h.now r.paired (found_back B c.args.f c.requires.1 c.find-k.ensures) c.if-k-block.true (omega (arith, r.room))
           (signed (B.lo + c.find-k.result) (omega (arith, c.if-k-block.true, B.within, B.file.few))) (signed c.args.f (omega (arith, c.requires.0, B.file.few)));
       room = simp length-set r.room;
     }
@@ -28,6 +28,6 @@ returns-else-k-block-clause-pairs c =
       edges_keys = r.edges_keys;
       indexed = r.indexed;
       all = r.all;
-      paired = pairs_none B r.edges_keys r.all c.args.f c.requires.0 c.args.halfedges.now r.paired (found_back B c.args.f c.requires.1 c.find-k.ensures) (omega (arith, c.if-k-block.false));
+      paired = pairs_none B r.edges_keys r.all c.args.f c.requires.0 c.args.h.now r.paired (found_back B c.args.f c.requires.1 c.find-k.ensures) (omega (arith, c.if-k-block.false));
       room = r.room;
     }
