@@ -144,7 +144,6 @@ pub fn read_stl(
     ensures paired { PairedExactly file.now result }
 {
     let sized = questions::ask_at(Question::Size, 0, file::length_fits(file));
-    // Document 01's form by place: the check's answer is opened by `let .. else`.
     let Ok(()) = sized else {
         return questions::refused(sized);
     };

@@ -179,14 +179,7 @@ fn write_ends(file: &File<'_>, h: &mut [i32])
 }
 
 // Halfedge f, whose reverse has this key, and the block's halfedge that it leads back to get each other as their pair.
-fn write_pair(
-    block: &Block<'_>,
-    table: &[u16],
-    tags: &[u8],
-    f: usize,
-    key: Key,
-    h: &mut [i32],
-)
+fn write_pair(block: &Block<'_>, table: &[u16], tags: &[u8], f: usize, key: Key, h: &mut [i32])
     requires { (f < 3 * block.now.file.triangles) × (key ≡ reverse_key block.now.file.bytes.now f) × CanPair block.now table.now tags.now f h.old }
     ensures pairs { CanPair block.now table.now tags.now (f + 1) h.new }
     ensures kept { Kept (3 * block.now.file.triangles * halfedge_stride) h.old h.new }

@@ -115,7 +115,8 @@ pub fn points_fit(file: &File<'_>) -> bool
     count_points(file) <= mesh::MAX_POINTS
 }
 
-// The three numbers of point v, which appears at this corner.
+// The three numbers of point v, which appears at this corner. Not `put_point` of `smoothing`, which writes a point of f64: a corner
+// has the bits of f32, and the reading uses neither `smoothing` nor `linalg`.
 #[tactic(auto, unfolding(crate::specs::File::Lists::coordinate, crate::specs::Points::CanStart::put_point))]
 fn put_point(pos: &mut [f64], v: usize, corner: Corner)
     requires { 3 * v + 3 ≤ length pos.old }

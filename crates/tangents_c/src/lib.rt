@@ -180,7 +180,14 @@ pub extern "C" fn tangents_sharpen_edges_clean(
     ensures answer_after { answer.new ≡ put_listing answer.old (sharpen_edges Clean (as_halfedges h.now) face_normals.now angle smooth entries.old smoothness.old n p) }
 {
     let listing = sharpen::sharpen_edges_clean(
-        n, p, h, face_normals, angle, smooth, entries, smoothness,
+        n,
+        p,
+        h,
+        face_normals,
+        angle,
+        smooth,
+        entries,
+        smoothness,
     );
     put_listing(answer, listing);
 }

@@ -24,7 +24,7 @@ use Rattle.stl.specs.File.Points.{is_first, point_of, corner_of}
 use Rattle.stl.specs.File.Lists.{coordinate, point_item}
 use Rattle.stl.specs.File.Starts.{Starts, Further}
 use Rattle.stl.specs.declared.file.Corner.{Corner}
-use Rattle.stl.specs.declared.file.file.File.{File}
+use Rattle.stl.specs.declared.file.File.{File}
 use Rattle.stl.proofs.FileLaws.Signed.{signed, signed_again}
 use Rattle.stl.proofs.FileLaws.Points.{corner_of_lem, same_number, number_within}
 use Rattle.stl.specs.declared.table.Keys.TheVariants.{Points}

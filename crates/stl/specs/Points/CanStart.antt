@@ -1,4 +1,4 @@
--- What the writing of points and starts goes by. Only contracts inside `stl_points` cite these. F is the file, P is the list of positions, L that of halfedges.
+-- What the writing of points and starts goes by. Only contracts inside `points` cite these. F is the file, P is the list of positions, L that of halfedges.
 use Rattle.std.specs.Prelude.{ℕ, ◌+◌, ◌*◌, ◌≤◌, ◌<◌, ◌≡◌, List, length, set, ℤ, Float}
 use Rattle.common.specs.Count.{count_below}
 use Rattle.mesh.specs.Mesh.{halfedge_stride}
@@ -7,7 +7,7 @@ use Rattle.stl.specs.File.Points.{is_first}
 use Rattle.stl.specs.File.Lists.{coordinate, point_item}
 use Rattle.stl.specs.File.Starts.{Starts, Further}
 use Rattle.stl.specs.declared.file.Corner.{Corner}
-use Rattle.stl.specs.declared.file.file.File.{File}
+use Rattle.stl.specs.declared.file.File.{File}
 use Rattle.stl.specs.declared.table.Keys.TheVariants.{Points}
 use Rattle.stl.specs.declared.table.block.Block.{Block}
 use Rattle.stl.specs.Points.Firsts.{Marked}

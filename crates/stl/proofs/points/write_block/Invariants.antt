@@ -1,4 +1,4 @@
--- `stl_points::write_block` meets its contract: after k turns the block's first k corners are written. Assumes nothing.
+-- `points::write_block` meets its contract: after k turns the block's first k corners are written. Assumes nothing.
 use Rattle.std.proofs.Common.{◌+◌}
 use Rattle.stl.specs.Points.CanStart.{Written}
 use Rattle.stl.proofs.points.write_block.Given as goal

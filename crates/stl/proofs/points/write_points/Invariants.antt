@@ -1,4 +1,4 @@
--- `stl_points::write_points` meets its contract: the corners below lo are written. Assumes nothing.
+-- `points::write_points` meets its contract: the corners below lo are written. Assumes nothing.
 use Rattle.std.proofs.Common.{◌≤◌, ◌-◌}
 use Rattle.stl.specs.Points.CanStart.{Written}
 use Rattle.stl.proofs.points.write_points.Given as goal
