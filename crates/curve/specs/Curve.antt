@@ -1,4 +1,4 @@
--- Points along an edge curve, request 7 of document 02, as two public calls. p0 to p3 are the four control points, their coordinates already times their weights; L is the list lent for the points.
+-- Points along the curve of an edge, as two public calls. p0 to p3 are the four control points, their coordinates already times their weights; L is the list lent for the points.
 use Rattle.std.specs.Prelude.{ℕ, ◌-◌, ◌≡◌, List, [], ◌∷◌, flat_map, length, pos, Float, Result, Ok, Err}
 use Rattle.std.specs.List.{range_with_len}
 use Rattle.std.specs.Float.{binary64}

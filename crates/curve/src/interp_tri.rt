@@ -6,6 +6,9 @@ ghost use Rattle.curve.specs.InterpTri.Bezier.{hnormalize, lerp4, cubic_bezier_2
 
 use linalg::{Vec3, Vec4};
 
+// The least length that `safe_normalize` divides by.
+const MIN_LENGTH: f64 = 1e-30;
+
 // The two control points of a linear segment: the Rust's pair.
 #[derive(Clone, Copy)]
 pub struct LinearSegment {
@@ -65,7 +68,7 @@ fn safe_normalize(v: Vec3) -> Vec3
     ensures { result ≡ safe_normalize v }
 {
     let len = linalg::length(v);
-    if len < 1e-30 {
+    if len < MIN_LENGTH {
         return Vec3::ZERO;
     }
     v / len

@@ -1,4 +1,4 @@
--- The laws of `stl_file`, all for the crates above.
+-- The laws of `file`.
 pub mod Points
 pub mod Edges
 pub mod Signed

@@ -1,4 +1,4 @@
--- The laws of `stl_pairs`.
+-- The laws of `pairs`.
 pub mod Backs
 pub mod Scans
 pub mod Covers

@@ -1,4 +1,4 @@
--- The laws of `stl_points`.
+-- The laws of `points`.
 pub mod Marks
 pub mod Counts
 pub mod Writing

@@ -50,21 +50,21 @@ file_fits s room accepted =
     )
 
 -- and of the lists lent for it, of these lengths
-pub record ListsFit (s : List ℕ) (triangles points halfedges normals : ℕ) : Type 0 where
-  pub points_room : 9 * triangles ≤ points
-  pub halfedges_room : 12 * triangles ≤ halfedges
-  pub normals_room : 3 * triangles ≤ normals
+pub record ListsFit (s : List ℕ) (triangles pos_len h_len face_normals_len : ℕ) : Type 0 where
+  pub pos_room : 9 * triangles ≤ pos_len
+  pub h_room : 12 * triangles ≤ h_len
+  pub face_normals_room : 3 * triangles ≤ face_normals_len
   pub fits : FileFits s
 
-pub lists_fit : (s : List ℕ) (triangles points halfedges normals : ℕ) → triangles ≡ triangle_count s → check_file s (has_room s points halfedges normals) ≡ Ok tt → ListsFit s triangles points halfedges normals
-lists_fit s triangles points halfedges normals counted accepted =
-    let fit = file_fits s (has_room s points halfedges normals) accepted in
-    let p = and_parts (leb (9 * triangle_count s) points && leb (12 * triangle_count s) halfedges) (leb (3 * triangle_count s) normals) fit.0 in
-    let q = and_parts (leb (9 * triangle_count s) points) (leb (12 * triangle_count s) halfedges) p.0 in
+pub lists_fit : (s : List ℕ) (triangles pos_len h_len face_normals_len : ℕ) → triangles ≡ triangle_count s → check_file s (has_room s pos_len h_len face_normals_len) ≡ Ok tt → ListsFit s triangles pos_len h_len face_normals_len
+lists_fit s triangles pos_len h_len face_normals_len counted accepted =
+    let fit = file_fits s (has_room s pos_len h_len face_normals_len) accepted in
+    let p = and_parts (leb (9 * triangle_count s) pos_len && leb (12 * triangle_count s) h_len) (leb (3 * triangle_count s) face_normals_len) fit.0 in
+    let q = and_parts (leb (9 * triangle_count s) pos_len) (leb (12 * triangle_count s) h_len) p.0 in
     rw counted (record {
-      points_room = leb-true _ _ q.0;
-      halfedges_room = leb-true _ _ q.1;
-      normals_room = leb-true _ _ p.1;
+      pos_room = leb-true _ _ q.0;
+      h_room = leb-true _ _ q.1;
+      face_normals_room = leb-true _ _ p.1;
       fits = fit.1;
     })
 

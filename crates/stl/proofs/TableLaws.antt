@@ -1,4 +1,4 @@
--- The laws of `stl_table`; `SameKey` and `Tables` are for the crates above too.
+-- The laws of `table`; those of `SameKey` and `Tables` serve `points` and `pairs` too.
 pub mod Walks
 pub mod SameKey
 pub mod Looks

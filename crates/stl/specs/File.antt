@@ -1,4 +1,4 @@
--- The specs of `stl_file`, in the order of reading.
+-- The specs of `file`, in the order of reading.
 pub mod File
 pub mod Points
 pub mod Edges

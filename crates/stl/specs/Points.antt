@@ -1,3 +1,3 @@
--- The specs of `stl_points`, in the order of reading. Only contracts inside `stl_points` cite them.
+-- The specs of `points`, in the order of reading. Only contracts inside it cite them.
 pub mod Firsts
 pub mod CanStart

@@ -1,4 +1,4 @@
--- The reading of binary STL as a public call: its answer, and the lists after it. s are the file's bytes, P, L and A the lists that are lent for points, halfedges and normals.
+-- The reading of binary STL as a public call: its answer, and the lists after it. s are the file's bytes, P, L and A the lists that are lent for positions, halfedges and face normals.
 use Rattle.std.specs.Prelude.{ℕ, ◌*◌, ◌/◌, ◌≡◌, List, ◌&&◌, length, take, ℤ, Float, Result, Ok, Err, ⊤}
 use Rattle.mesh.specs.Mesh.{halfedge_stride, as_halfedges}
 use Rattle.questions.specs.Questions.{has_length}
@@ -40,14 +40,14 @@ read_stl s P L A = answer_of (check_lists s P L A) (counts_of s)
 
 -- ---- the lists after it: their first places are filled, and further places stay; all stay where it refuses
 
-abbrev pub points_after : List ℕ → List Float → List ℤ → List Float → List Float
-points_after s P L A = when_accepted (check_lists s P L A) (filled (point_item s) (3 * point_count s) P) P
+abbrev pub pos_after : List ℕ → List Float → List ℤ → List Float → List Float
+pos_after s P L A = when_accepted (check_lists s P L A) (filled (point_item s) (3 * point_count s) P) P
 
-abbrev pub halfedges_after : List ℕ → List Float → List ℤ → List Float → List ℤ
-halfedges_after s P L A = when_accepted (check_lists s P L A) (filled (halfedge_item s) (halfedge_count s * halfedge_stride) L) L
+abbrev pub h_after : List ℕ → List Float → List ℤ → List Float → List ℤ
+h_after s P L A = when_accepted (check_lists s P L A) (filled (halfedge_item s) (halfedge_count s * halfedge_stride) L) L
 
-abbrev pub normals_after : List ℕ → List Float → List ℤ → List Float → List Float
-normals_after s P L A = when_accepted (check_lists s P L A) (filled (normal_item s) (3 * triangle_count s) A) A
+abbrev pub face_normals_after : List ℕ → List Float → List ℤ → List Float → List Float
+face_normals_after s P L A = when_accepted (check_lists s P L A) (filled (normal_item s) (3 * triangle_count s) A) A
 
 -- ---- what follows
 
@@ -63,9 +63,9 @@ abbrev pub IsMesh : Reading → List Float → List ℤ → List Float → Type 
 IsMesh (Ok counts) P L A =
     let n = counts.halfedges in
     let p = counts.points in
-    let points = take (p * 3) P in
+    let positions = take (p * 3) P in
     let halfedges = take (n * halfedge_stride) L in
-    let normals = take n A in
-    (check_mesh (as_halfedges halfedges) n p (has_length (length points) p 3 && has_length (length halfedges) n halfedge_stride && has_length (length normals) (n / 3) 3) ≡ Ok tt)
+    let face_normals = take n A in
+    (check_mesh (as_halfedges halfedges) n p (has_length (length positions) p 3 && has_length (length halfedges) n halfedge_stride && has_length (length face_normals) (n / 3) 3) ≡ Ok tt)
     × (check_rows (Ok tt) halfedges n n ≡ Ok tt)
 IsMesh (Err refusal) P L A = ⊤

@@ -1,11 +1,9 @@
 // A binary STL file, whose numbers are read at their places: corners with their bits, normals as floats.
 
-mod file;
-
-ghost use Rattle.std.specs.Prelude.{◌≡◌, ◌*◌, ◌<◌, ◌≤◌, ◌^◌, length};
+ghost use Rattle.std.specs.Prelude.{◌≡◌, ◌+◌, ◌*◌, ◌<◌, ◌≤◌, ◌^◌, length};
+ghost use Rattle.mesh.specs.Mesh.{max_halfedges};
 ghost use Rattle.stl.specs.File.File.{clean, triangle_count, length_fits, corner_at, triangle_at, normal_item};
 
-pub use file::File;
 use little_endian::LittleEndian;
 
 // Header, count of triangles and normal stand before the first corner; a triangle has so many bytes, and a corner so many of them.
@@ -18,6 +16,16 @@ const TRIANGLE_BYTES: usize = 50;
 const CORNER_BYTES: usize = 12;
 
 const FLOAT_BYTES: usize = 4;
+
+// The bytes of a file, as long as the count of its triangles says, and this count, which is within its limit.
+#[derive(Clone, Copy)]
+pub struct File<'a> {
+    pub bytes: &'a [u8],
+    pub triangles: usize,
+    pub ghost counted: { triangles ≡ triangle_count bytes.now },
+    pub ghost long: { 84 + 50 * triangles ≡ length bytes.now },
+    pub ghost few: { 3 * triangles ≤ max_halfedges },
+}
 
 // The bits of a corner's three f32 numbers, with 0 for -0.
 #[derive(Clone, Copy, PartialEq, Eq)]

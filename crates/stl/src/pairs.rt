@@ -155,84 +155,77 @@ pub fn lowest_unpaired(file: &File<'_>) -> usize
 }
 
 // End and row of halfedge e. Each halfedge has its start already.
-fn write_end(file: &File<'_>, e: usize, halfedges: &mut [i32])
-    requires { CanEnd file.now e halfedges.old }
-    ensures ends { EndsRows file.now.bytes.now (e + 1) halfedges.new }
-    ensures starts { Starts file.now.bytes.now (3 * file.now.triangles) halfedges.new }
-    ensures further { Further (3 * file.now.triangles * halfedge_stride) halfedges.old halfedges.new }
+fn write_end(file: &File<'_>, e: usize, h: &mut [i32])
+    requires { CanEnd file.now e h.old }
+    ensures ends { EndsRows file.now.bytes.now (e + 1) h.new }
+    ensures starts { Starts file.now.bytes.now (3 * file.now.triangles) h.new }
+    ensures further { Further (3 * file.now.triangles * halfedge_stride) h.old h.new }
 {
     let at = e * HALFEDGE_STRIDE;
-    halfedges[at + 1] = halfedges[mesh::next_halfedge(e) * HALFEDGE_STRIDE];
-    halfedges[at + 3] = e as i32;
+    h[at + 1] = h[mesh::next_halfedge(e) * HALFEDGE_STRIDE];
+    h[at + 3] = e as i32;
 }
 
 // End and row of every halfedge.
-fn write_ends(file: &File<'_>, halfedges: &mut [i32])
-    requires { Starts file.now.bytes.now (3 * file.now.triangles) halfedges.old × (12 * file.now.triangles ≤ length halfedges.old) }
-    ensures ends { EndsRows file.now.bytes.now (3 * file.now.triangles) halfedges.new }
-    ensures starts { Starts file.now.bytes.now (3 * file.now.triangles) halfedges.new }
-    ensures further { Further (3 * file.now.triangles * halfedge_stride) halfedges.old halfedges.new }
+fn write_ends(file: &File<'_>, h: &mut [i32])
+    requires { Starts file.now.bytes.now (3 * file.now.triangles) h.old × (12 * file.now.triangles ≤ length h.old) }
+    ensures ends { EndsRows file.now.bytes.now (3 * file.now.triangles) h.new }
+    ensures starts { Starts file.now.bytes.now (3 * file.now.triangles) h.new }
+    ensures further { Further (3 * file.now.triangles * halfedge_stride) h.old h.new }
 {
     for e in 0..3 * file.triangles {
-        write_end(file, e, halfedges);
+        write_end(file, e, h);
     }
 }
 
 // Halfedge f, whose reverse has this key, and the block's halfedge that it leads back to get each other as their pair.
-fn write_pair(
-    block: &Block<'_>,
-    table: &[u16],
-    tags: &[u8],
-    f: usize,
-    key: Key,
-    halfedges: &mut [i32],
-)
-    requires { (f < 3 * block.now.file.triangles) × (key ≡ reverse_key block.now.file.bytes.now f) × CanPair block.now table.now tags.now f halfedges.old }
-    ensures pairs { CanPair block.now table.now tags.now (f + 1) halfedges.new }
-    ensures kept { Kept (3 * block.now.file.triangles * halfedge_stride) halfedges.old halfedges.new }
+fn write_pair(block: &Block<'_>, table: &[u16], tags: &[u8], f: usize, key: Key, h: &mut [i32])
+    requires { (f < 3 * block.now.file.triangles) × (key ≡ reverse_key block.now.file.bytes.now f) × CanPair block.now table.now tags.now f h.old }
+    ensures pairs { CanPair block.now table.now tags.now (f + 1) h.new }
+    ensures kept { Kept (3 * block.now.file.triangles * halfedge_stride) h.old h.new }
 {
     let k = table::find(block, block.count, table, tags, key);
     if k < block.count {
         let e = block.lo + k;
-        halfedges[f * HALFEDGE_STRIDE + 2] = e as i32;
-        halfedges[e * HALFEDGE_STRIDE + 2] = f as i32;
+        h[f * HALFEDGE_STRIDE + 2] = e as i32;
+        h[e * HALFEDGE_STRIDE + 2] = f as i32;
     }
 }
 
 // The halfedges of triangle t.
-fn write_triangle(block: &Block<'_>, table: &[u16], tags: &[u8], t: usize, halfedges: &mut [i32])
-    requires { (t < block.now.file.triangles) × CanPair block.now table.now tags.now (3 * t) halfedges.old }
-    ensures pairs { CanPair block.now table.now tags.now (3 * (t + 1)) halfedges.new }
-    ensures kept { Kept (3 * block.now.file.triangles * halfedge_stride) halfedges.old halfedges.new }
+fn write_triangle(block: &Block<'_>, table: &[u16], tags: &[u8], t: usize, h: &mut [i32])
+    requires { (t < block.now.file.triangles) × CanPair block.now table.now tags.now (3 * t) h.old }
+    ensures pairs { CanPair block.now table.now tags.now (3 * (t + 1)) h.new }
+    ensures kept { Kept (3 * block.now.file.triangles * halfedge_stride) h.old h.new }
 {
     let keys = reverse_keys(&block.file, t);
     let e = 3 * t;
-    write_pair(block, table, tags, e, keys.first, halfedges);
-    write_pair(block, table, tags, e + 1, keys.second, halfedges);
-    write_pair(block, table, tags, e + 2, keys.third, halfedges);
+    write_pair(block, table, tags, e, keys.first, h);
+    write_pair(block, table, tags, e + 1, keys.second, h);
+    write_pair(block, table, tags, e + 2, keys.third, h);
 }
 
 // The pairs of which one halfedge is the block's, and none below it: of the block's halfedges and those after them.
 #[inline(never)]
-fn write_block(block: &Block<'_>, halfedges: &mut [i32])
-    requires { (block.now.keys ≡ Edges) × AllPaired block.now.file.bytes.now × Paired block.now.file.bytes.now (Below block.now.file.bytes.now block.now.lo) halfedges.old × (12 * block.now.file.triangles ≤ length halfedges.old) }
-    ensures pairs { Paired block.now.file.bytes.now (Below block.now.file.bytes.now (block.now.lo + block.now.count)) halfedges.new }
-    ensures kept { Kept (3 * block.now.file.triangles * halfedge_stride) halfedges.old halfedges.new }
+fn write_block(block: &Block<'_>, h: &mut [i32])
+    requires { (block.now.keys ≡ Edges) × AllPaired block.now.file.bytes.now × Paired block.now.file.bytes.now (Below block.now.file.bytes.now block.now.lo) h.old × (12 * block.now.file.triangles ≤ length h.old) }
+    ensures pairs { Paired block.now.file.bytes.now (Below block.now.file.bytes.now (block.now.lo + block.now.count)) h.new }
+    ensures kept { Kept (3 * block.now.file.triangles * halfedge_stride) h.old h.new }
 {
     let mut table = [0; SLOTS];
     let mut tags = [0; BLOCK];
     enter_all(block, &mut table, &mut tags);
     for t in block.lo / 3..block.file.triangles {
-        write_triangle(block, &table, &tags, t, halfedges);
+        write_triangle(block, &table, &tags, t, h);
     }
 }
 
 // End, pair and row of every halfedge, where each has its start and all are paired.
-pub fn write_pairs(file: &File<'_>, halfedges: &mut [i32])
-    requires { AllPaired file.now.bytes.now × Starts file.now.bytes.now (3 * file.now.triangles) halfedges.old × (12 * file.now.triangles ≤ length halfedges.old) }
-    ensures { halfedges.new ≡ filled (halfedge_item file.now.bytes.now) (3 * file.now.triangles * halfedge_stride) halfedges.old }
+pub fn write_pairs(file: &File<'_>, h: &mut [i32])
+    requires { AllPaired file.now.bytes.now × Starts file.now.bytes.now (3 * file.now.triangles) h.old × (12 * file.now.triangles ≤ length h.old) }
+    ensures { h.new ≡ filled (halfedge_item file.now.bytes.now) (3 * file.now.triangles * halfedge_stride) h.old }
 {
-    write_ends(file, halfedges);
+    write_ends(file, h);
     let n = 3 * file.triangles;
     let mut lo = 0;
     while lo < n {
@@ -243,7 +236,7 @@ pub fn write_pairs(file: &File<'_>, halfedges: &mut [i32])
             lo,
             count,
         };
-        write_block(&block, halfedges);
+        write_block(&block, h);
         lo += count;
     }
 }

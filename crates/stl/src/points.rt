@@ -1,7 +1,7 @@
 // The points of a file, a block of corners at a time and with arrays of the call's own: their number, and their writing together
 // with the start of each halfedge.
 // Each function asks for its own corner, and how many are done stays a parameter: both differ from call to call. The written lists
-// stay parameters: of a struct that lends them a clause would say `lists.new.points.now` for `points.new`.
+// stay parameters: of a struct that lends them a clause would say `lists.new.pos.now` for `pos.new`.
 
 ghost use Rattle.std.specs.Prelude.{◌≡◌, ◌+◌, ◌*◌, ◌<◌, ◌≤◌, length, leb};
 ghost use Rattle.common.specs.Count.{count_below};
@@ -115,15 +115,16 @@ pub fn points_fit(file: &File<'_>) -> bool
     count_points(file) <= mesh::MAX_POINTS
 }
 
-// The three numbers of point v, which appears at this corner.
+// The three numbers of point v, which appears at this corner. Not `put_point` of `smoothing`, which writes a point of f64: a corner
+// has the bits of f32, and the reading uses neither `smoothing` nor `linalg`.
 #[tactic(auto, unfolding(crate::specs::File::Lists::coordinate, crate::specs::Points::CanStart::put_point))]
-fn put_point(points: &mut [f64], v: usize, corner: Corner)
-    requires { 3 * v + 3 ≤ length points.old }
-    ensures { points.new ≡ put_point points.old v corner }
+fn put_point(pos: &mut [f64], v: usize, corner: Corner)
+    requires { 3 * v + 3 ≤ length pos.old }
+    ensures { pos.new ≡ put_point pos.old v corner }
 {
-    points[3 * v] = float::widen_bits(corner.x);
-    points[3 * v + 1] = float::widen_bits(corner.y);
-    points[3 * v + 2] = float::widen_bits(corner.z);
+    pos[3 * v] = float::widen_bits(corner.x);
+    pos[3 * v + 1] = float::widen_bits(corner.y);
+    pos[3 * v + 2] = float::widen_bits(corner.z);
 }
 
 // The start of the block's halfedge k, after so many points: a corner that is the first of its point writes it, and another one
@@ -134,20 +135,20 @@ fn write_start(
     first: &[u32],
     k: usize,
     below: usize,
-    points: &mut [f64],
-    halfedges: &mut [i32],
+    pos: &mut [f64],
+    h: &mut [i32],
 ) -> usize
-    requires { CanStart block.now first.now k below points.old halfedges.old }
-    ensures { Written block.now.file (block.now.lo + (k + 1)) result points.old points.new halfedges.old halfedges.new }
+    requires { CanStart block.now first.now k below pos.old h.old }
+    ensures { Written block.now.file (block.now.lo + (k + 1)) result pos.old pos.new h.old h.new }
 {
     let c = block.lo + k;
     let lower = first[k] as usize;
     if lower == c {
-        put_point(points, below, file::corner_at(&block.file, c));
-        halfedges[c * HALFEDGE_STRIDE] = below as i32;
+        put_point(pos, below, file::corner_at(&block.file, c));
+        h[c * HALFEDGE_STRIDE] = below as i32;
         return below + 1;
     }
-    halfedges[c * HALFEDGE_STRIDE] = halfedges[lower * HALFEDGE_STRIDE];
+    h[c * HALFEDGE_STRIDE] = h[lower * HALFEDGE_STRIDE];
     below
 }
 
@@ -156,27 +157,27 @@ fn write_block(
     block: &Block<'_>,
     first: &[u32],
     below: usize,
-    points: &mut [f64],
-    halfedges: &mut [i32],
+    pos: &mut [f64],
+    h: &mut [i32],
 ) -> usize
-    requires { CanStart block.now first.now 0 below points.old halfedges.old }
-    ensures { Written block.now.file (block.now.lo + block.now.count) result points.old points.new halfedges.old halfedges.new }
+    requires { CanStart block.now first.now 0 below pos.old h.old }
+    ensures { Written block.now.file (block.now.lo + block.now.count) result pos.old pos.new h.old h.new }
 {
     let mut written = below;
     for k in 0..block.count {
-        written = write_start(block, first, k, written, points, halfedges);
+        written = write_start(block, first, k, written, pos, h);
     }
     written
 }
 
 // The points, and the start of each halfedge, into lists with room for them. The number of points.
 #[inline(never)]
-pub fn write_points(file: &File<'_>, points: &mut [f64], halfedges: &mut [i32]) -> usize
-    requires { (9 * file.now.triangles ≤ length points.old) × (12 * file.now.triangles ≤ length halfedges.old) }
+pub fn write_points(file: &File<'_>, pos: &mut [f64], h: &mut [i32]) -> usize
+    requires { (9 * file.now.triangles ≤ length pos.old) × (12 * file.now.triangles ≤ length h.old) }
     ensures count { result ≡ point_count file.now.bytes.now }
-    ensures points { points.new ≡ filled (point_item file.now.bytes.now) (3 * point_count file.now.bytes.now) points.old }
-    ensures starts { Starts file.now.bytes.now (3 * file.now.triangles) halfedges.new }
-    ensures further { Further (3 * file.now.triangles * halfedge_stride) halfedges.old halfedges.new }
+    ensures pos { pos.new ≡ filled (point_item file.now.bytes.now) (3 * point_count file.now.bytes.now) pos.old }
+    ensures starts { Starts file.now.bytes.now (3 * file.now.triangles) h.new }
+    ensures further { Further (3 * file.now.triangles * halfedge_stride) h.old h.new }
 {
     let mut first = [0; BLOCK];
     let n = 3 * file.triangles;
@@ -191,7 +192,7 @@ pub fn write_points(file: &File<'_>, points: &mut [f64], halfedges: &mut [i32]) 
             count,
         };
         firsts(&block, &mut first);
-        written = write_block(&block, &first, written, points, halfedges);
+        written = write_block(&block, &first, written, pos, h);
         lo += count;
     }
     written

@@ -90,7 +90,7 @@ fn root(key: Key) -> Path
     let hash = hash(key);
     Path {
         slot: hash as usize % ROOTS,
-        bits: hash / 131072,
+        bits: hash / ROOTS as u32,
         depth: 0,
     }
 }

@@ -20,7 +20,7 @@ use Rattle.stl.proofs.FileLaws.Edges.{reverses_same, reverse_back, twice_bad, pa
 use Rattle.stl.specs.declared.table.Keys.TheVariants.{Edges}
 use Rattle.stl.specs.declared.table.block.Block.{Block}
 use Rattle.stl.specs.Pairs.Twins.{back_at}
-use Rattle.stl.specs.Pairs.Written.{AllPaired, EndsRows, Below, Done, Paired}
+use Rattle.stl.specs.Pairs.Written.{AllPaired, EndsRows, Below, Done, Paired, CanPair}
 use Rattle.stl.proofs.PairsLaws.Backs.{back_reverse, back_is}
 
 module _ (s : List ℕ) where
@@ -148,6 +148,17 @@ module _ (B : Block) (edges : B.keys ≡ Edges) (all : AllPaired B.file.bytes.no
   pub pairs_end : (L : List ℤ) → Paired B.file.bytes.now (Done B (3 * B.file.triangles)) L → Paired B.file.bytes.now (Below B.file.bytes.now (B.lo + B.count)) L
   pairs_end L old e he (inl d) = old e he (inr (inl (d, omega (arith, (pair_twice e he).0, B.file.counted))))
   pairs_end L old e he (inr d) = old e he (inr (inr (d, omega (arith, B.file.counted))))
+
+-- halfedge f is done, in a list as long
+pub can_next : {B : Block} {T G : List ℕ} {f : ℕ} {L L' : List ℤ} → CanPair B T G f L → Paired B.file.bytes.now (Done B (f + 1)) L' → length L' ≡ length L → CanPair B T G (f + 1) L'
+can_next h p l =
+    record {
+      edges_keys = h.edges_keys;
+      indexed = h.indexed;
+      all = h.all;
+      paired = p;
+      room = omega (arith, h.room);
+    }
 
 -- ---- all blocks are done
 module _ (s : List ℕ) (n : ℕ) (counted : n ≡ halfedge_count s) (L : List ℤ) where

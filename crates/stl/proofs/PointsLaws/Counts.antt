@@ -14,7 +14,7 @@ use Rattle.common.specs.Count.{count_below}
 use Rattle.common.proofs.Count.{count_yes, count_no, count_within}
 use Rattle.stl.specs.File.File.{halfedge_count, corner_at}
 use Rattle.stl.specs.File.Points.{first_of, is_first, point_count}
-use Rattle.stl.specs.declared.file.file.File.{File}
+use Rattle.stl.specs.declared.file.File.{File}
 use Rattle.stl.proofs.FileLaws.Points.{first_within, first_least, first_corner}
 use Rattle.stl.specs.Table.Keys.{key_at}
 use Rattle.stl.specs.declared.table.Key.{Key}

@@ -24,7 +24,7 @@ use Rattle.stl.specs.File.Points.{is_first, point_of, corner_of}
 use Rattle.stl.specs.File.Lists.{coordinate, point_item}
 use Rattle.stl.specs.File.Starts.{Starts, Further}
 use Rattle.stl.specs.declared.file.Corner.{Corner}
-use Rattle.stl.specs.declared.file.file.File.{File}
+use Rattle.stl.specs.declared.file.File.{File}
 use Rattle.stl.proofs.FileLaws.Signed.{signed, signed_again}
 use Rattle.stl.proofs.FileLaws.Points.{corner_of_lem, same_number, number_within}
 use Rattle.stl.specs.declared.table.Keys.TheVariants.{Points}
@@ -79,7 +79,7 @@ pub written_none : (F : File) (P : List Float) (L : List ℤ) → Written F 0 0 
 written_none F P L =
     record {
       counted = count_start (is_first F.bytes.now);
-      points = filled_none (point_item F.bytes.now) P;
+      pos = filled_none (point_item F.bytes.now) P;
       starts = λ i h. absurd (omega arith);
       further = (refl, λ i h. refl);
     }
@@ -89,7 +89,7 @@ pub written_self : {F : File} {c v : ℕ} {P₀ P : List Float} {L₀ L : List �
 written_self {F} {c} {v} {P₀} {P} h =
     record {
       counted = h.counted;
-      points = filled_self (point_item F.bytes.now) (3 * v) P₀ P h.points;
+      pos = filled_self (point_item F.bytes.now) (3 * v) P₀ P h.pos;
       starts = h.starts;
       further = (refl, λ i h. refl);
     }
@@ -100,7 +100,7 @@ written_more {F} {c} {c'} {v} {v'} {P₀} {P} {P'} h k l =
     let m : 3 * v ≤ 3 * v' = omega (arith, h.counted, k.counted, count_mono (is_first F.bytes.now) c c' l) in
     record {
       counted = k.counted;
-      points = filled_more (point_item F.bytes.now) (3 * v) (3 * v') P₀ P P' m h.points k.points;
+      pos = filled_more (point_item F.bytes.now) (3 * v) (3 * v') P₀ P P' m h.pos k.pos;
       starts = k.starts;
       further = (k.further.0 ∙ h.further.0, λ i g. k.further.1 i g ∙ h.further.1 i g);
     }
@@ -117,8 +117,8 @@ module _ {B : Block} {first : List ℕ} {P₀ : List Float} {L₀ : List ℤ} wh
         long = l;
         inside = i;
         written = written_self (rw z at w);
-        point_room = p;
-        halfedge_room = h;
+        pos_room = p;
+        h_room = h;
       }
 
   -- and the others, after those below k
@@ -130,8 +130,8 @@ module _ {B : Block} {first : List ℕ} {P₀ : List Float} {L₀ : List ℤ} wh
         long = h.long;
         inside = i;
         written = written_self w;
-        point_room = omega (arith, h.point_room);
-        halfedge_room = omega (arith, h.halfedge_room, w.further.0);
+        pos_room = omega (arith, h.pos_room);
+        h_room = omega (arith, h.h_room, w.further.0);
       }
 
 -- ---- a halfedge
@@ -147,10 +147,10 @@ module _ {B : Block} {first : List ℕ} {k v : ℕ} {P : List Float} {L : List �
   number_fits = omega (arith, points_below, in_file, B.file.few)
 
   pub room : 3 * v + 3 ≤ length P
-  room = omega (arith, points_below, in_file, h.point_room)
+  room = omega (arith, points_below, in_file, h.pos_room)
 
   pub lower_in : get_or first k 0 * halfedge_stride < length L
-  lower_in = omega (arith, mark_below B first h.points_keys h.marked k h.inside, in_file, h.halfedge_room)
+  lower_in = omega (arith, mark_below B first h.points_keys h.marked k h.inside, in_file, h.h_room)
 
   next : B.lo + (k + 1) ≡ suc (B.lo + k)
   next = omega arith
@@ -164,9 +164,9 @@ module _ {B : Block} {first : List ℕ} {k v : ℕ} {P : List Float} {L : List �
       let f = mark_first B first h.points_keys h.marked k h.inside e in
       record {
         counted = rw next (omega (arith, w.counted, count_yes (is_first s) c f));
-        points = p ∙ rw q (point_put B.file c v P in_file f w.counted w.points room);
-        starts = rw next (start_put B.file c L in_file h.halfedge_room (to_z w32 v) w.starts (signed v (omega (arith, number_fits)) ∙ ap pos (w.counted ∙ sym (first_number s c f))));
-        further = start_further B.file c L in_file h.halfedge_room (to_z w32 v);
+        pos = p ∙ rw q (point_put B.file c v P in_file f w.counted w.pos room);
+        starts = rw next (start_put B.file c L in_file h.h_room (to_z w32 v) w.starts (signed v (omega (arith, number_fits)) ∙ ap pos (w.counted ∙ sym (first_number s c f))));
+        further = start_further B.file c L in_file h.h_room (to_z w32 v);
       }
 
   -- and another one
@@ -181,7 +181,7 @@ module _ {B : Block} {first : List ℕ} {k v : ℕ} {P : List Float} {L : List �
       let y : to_z w32 (of_z w32 (get_or L (r * halfedge_stride) (pos 0))) ≡ pos (point_of s c) = signed_again (point_of s c) x (omega (arith, number_within s c, in_file, B.file.few)) in
       record {
         counted = rw next (omega (arith, w.counted, count_no (is_first s) c (mark_later B first h.points_keys h.marked k h.inside e)));
-        points = w.points;
-        starts = rw next (start_put B.file c L in_file h.halfedge_room _ w.starts y);
-        further = start_further B.file c L in_file h.halfedge_room _;
+        pos = w.pos;
+        starts = rw next (start_put B.file c L in_file h.h_room _ w.starts y);
+        further = start_further B.file c L in_file h.h_room _;
       }

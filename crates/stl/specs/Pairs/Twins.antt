@@ -1,15 +1,16 @@
--- What the passes that decide question 32 leave behind, a block B of halfedges at a time. Only contracts inside `stl_pairs` cite these. s are the file's bytes.
+-- What the passes that decide question 32 leave behind, a block B of halfedges at a time. Only contracts inside `pairs` cite these. s are the file's bytes.
 use Rattle.std.specs.Prelude.{ℕ, ◌≤◌, ◌<◌, ◌≡◌, List, true, false, get_or, length}
 use Rattle.mesh.specs.Mesh.{next_halfedge}
 use Rattle.stl.specs.File.File.{halfedge_count, corner_at}
 use Rattle.stl.specs.File.Edges.{is_reverse, is_paired}
 use Rattle.stl.specs.Table.Keys.{first_at}
+use Rattle.stl.specs.declared.pairs.TheConstants.{NONE}
 use Rattle.stl.specs.declared.table.Key.{Key}
 use Rattle.stl.specs.declared.table.block.Block.{Block}
 
 -- no halfedge
 abbrev pub none : ℕ
-none = 4294967295
+none = NONE
 
 -- the key of the reverse of f's directed edge
 abbrev pub reverse_key : List ℕ → ℕ → Key

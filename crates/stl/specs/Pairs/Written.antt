@@ -1,11 +1,11 @@
--- What the writing of ends, pairs and rows goes by. Only contracts inside `stl_pairs` and its call cite these. s are the file's bytes, L is the list of halfedges.
+-- What the writing of ends, pairs and rows goes by. Only contracts inside `pairs` and its call cite these. s are the file's bytes, L is the list of halfedges.
 use Rattle.std.specs.Prelude.{ℕ, ◌+◌, ◌*◌, ◌%◌, ◌≤◌, ◌<◌, ◌≡◌, ◌⊎◌, List, true, get_or, length, ℤ, pos}
 use Rattle.mesh.specs.Mesh.{halfedge_stride, next_halfedge}
 use Rattle.stl.specs.File.File.{halfedge_count}
 use Rattle.stl.specs.File.Points.{point_of}
 use Rattle.stl.specs.File.Edges.{pair_of, is_paired}
 use Rattle.stl.specs.File.Starts.{Starts}
-use Rattle.stl.specs.declared.file.file.File.{File}
+use Rattle.stl.specs.declared.file.File.{File}
 use Rattle.stl.specs.Table.Tree.{Indexed}
 use Rattle.stl.specs.declared.table.Keys.TheVariants.{Edges}
 use Rattle.stl.specs.declared.table.block.Block.{Block}

@@ -1,4 +1,4 @@
--- The lower place of each place of a block B that has its key, as it comes about. Only contracts inside `stl_points` cite these.
+-- The lower place of each place of a block B that has its key, as it comes about. Only contracts inside `points` cite these.
 use Rattle.std.specs.Prelude.{ℕ, ◌+◌, ◌≤◌, ◌<◌, ◌≡◌, List, get_or}
 use Rattle.stl.specs.Table.Keys.{key_at, first_at}
 use Rattle.stl.specs.declared.table.Keys.{Keys}

@@ -1,4 +1,4 @@
--- The table as a tree: how a walk goes through it, and when it holds the first places of a block. Only contracts inside `stl_table` cite the first part.
+-- The table as a tree: how a walk goes through it, and when it holds the first places of a block. Only contracts inside `table` cite the first part.
 use Rattle.std.specs.Prelude.{ℕ, suc, ◌+◌, ◌*◌, ◌/◌, ◌%◌, ◌≤◌, ◌<◌, ◌≡◌, List, Bool, true, false, cond, length, get_or, eqb, Result, Ok, Err}
 use Rattle.stl.specs.Table.Size.{roots, slots}
 use Rattle.stl.specs.Table.Keys.{key_at, has_key}
@@ -13,7 +13,7 @@ hash_of key =
     + (key.end.x * 0x12b2_ae3d + key.end.y * 0x0765_71f7 + key.end.z * 0x1165_667b)) % 4294967291
 
 unfoldable pub root_of : Key → Path
-root_of key = record { slot = hash_of key % roots; bits = hash_of key / 131072; depth = 0 }
+root_of key = record { slot = hash_of key % roots; bits = hash_of key / roots; depth = 0 }
 
 -- the tag of a key whose walk begins at a path: the upper 8 bits of its hash
 unfoldable pub tag_of : Path → ℕ

@@ -10,4 +10,4 @@ pub returns-clause-pairs : goal.returns-clause-pairs
 returns-clause-pairs c =
     let B = c.args.block.now in
     let e : c.loop-t.t ≡ B.file.triangles = omega (arith, B.within) in
-    pairs_end B c.requires.0 c.requires.1 c.loop-t.halfedges (rw e at c.loop-t.invariant.pairs.paired)
+    pairs_end B c.requires.0 c.requires.1 c.loop-t.h (rw e at c.loop-t.invariant.pairs.paired)

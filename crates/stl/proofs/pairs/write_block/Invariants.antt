@@ -7,6 +7,6 @@ use Rattle.stl.proofs.pairs.write_block.Given as goal
 abbrev pub invariant-loop-t : goal.invariant-loop-t
 invariant-loop-t l =
     record {
-      pairs : CanPair l.block l.table l.tags (3 * l.t) l.halfedges;
-      kept : Kept (3 * l.block.file.triangles * halfedge_stride) l.fn.halfedges l.halfedges;
+      pairs : CanPair l.block l.table l.tags (3 * l.t) l.h;
+      kept : Kept (3 * l.block.file.triangles * halfedge_stride) l.fn.h l.h;
     }

@@ -8,7 +8,7 @@ use Rattle.stl.proofs.pairs.write_ends.Given as goal
 abbrev pub invariant-loop-e : goal.invariant-loop-e
 invariant-loop-e l =
     record {
-      ends : EndsRows l.file.bytes.now l.e l.halfedges;
-      starts : Starts l.file.bytes.now (3 * l.file.triangles) l.halfedges;
-      further : Further (3 * l.file.triangles * halfedge_stride) l.fn.halfedges l.halfedges;
+      ends : EndsRows l.file.bytes.now l.e l.h;
+      starts : Starts l.file.bytes.now (3 * l.file.triangles) l.h;
+      further : Further (3 * l.file.triangles * halfedge_stride) l.fn.h l.h;
     }

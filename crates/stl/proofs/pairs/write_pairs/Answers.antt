@@ -14,4 +14,4 @@ returns c =
     let l = c.loop-lo.invariant in
     let counted : n ≡ halfedge_count s = omega (arith, c.args.file.now.counted) in
     let e : c.loop-lo.lo ≡ n = omega (arith, l.within) in
-    filled_from_places (halfedge_item s) (n * halfedge_stride) c.args.halfedges.now c.loop-lo.halfedges (pos 0) l.further.0 (omega (arith, c.requires.2)) (item_is s n counted c.loop-lo.halfedges l.starts l.ends (rw e at l.pairs)) l.further.1
+    filled_from_places (halfedge_item s) (n * halfedge_stride) c.args.h.now c.loop-lo.h (pos 0) l.further.0 (omega (arith, c.requires.2)) (item_is s n counted c.loop-lo.h l.starts l.ends (rw e at l.pairs)) l.further.1

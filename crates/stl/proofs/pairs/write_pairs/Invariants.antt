@@ -9,10 +9,10 @@ abbrev pub invariant-loop-lo : goal.invariant-loop-lo
 invariant-loop-lo l =
     record {
       within : l.lo ≤ l.n;
-      pairs : Paired l.file.bytes.now (Below l.file.bytes.now l.lo) l.halfedges;
-      starts : Starts l.file.bytes.now (3 * l.file.triangles) l.halfedges;
-      ends : EndsRows l.file.bytes.now (3 * l.file.triangles) l.halfedges;
-      further : Further (3 * l.file.triangles * halfedge_stride) l.fn.halfedges l.halfedges;
+      pairs : Paired l.file.bytes.now (Below l.file.bytes.now l.lo) l.h;
+      starts : Starts l.file.bytes.now (3 * l.file.triangles) l.h;
+      ends : EndsRows l.file.bytes.now (3 * l.file.triangles) l.h;
+      further : Further (3 * l.file.triangles * halfedge_stride) l.fn.h l.h;
     }
 
 abbrev pub decreases-loop-lo : goal.decreases-loop-lo

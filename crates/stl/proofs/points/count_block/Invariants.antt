@@ -1,4 +1,4 @@
--- `stl_points::count_block` meets its contract: after k turns the block's first k corners are counted. Assumes nothing.
+-- `points::count_block` meets its contract: after k turns the block's first k corners are counted. Assumes nothing.
 use Rattle.std.proofs.Common.{◌≡◌, ◌+◌}
 use Rattle.common.specs.Count.{count_below}
 use Rattle.stl.specs.File.Points.{is_first}

@@ -1,4 +1,4 @@
--- `stl_points::count_points` meets its contract: the points of the corners below lo are counted. Assumes nothing.
+-- `points::count_points` meets its contract: the points of the corners below lo are counted. Assumes nothing.
 use Rattle.std.proofs.Common.{◌≡◌, ◌≤◌, ◌-◌}
 use Rattle.common.specs.Count.{count_below}
 use Rattle.stl.specs.File.Points.{is_first}

@@ -1,4 +1,4 @@
--- `stl_points::enter_all` meets its contract: after m turns the first m places are entered. Assumes nothing.
+-- `points::enter_all` meets its contract: after m turns the first m places are entered. Assumes nothing.
 use Rattle.stl.specs.Table.Tree.{Indexed}
 use Rattle.stl.specs.Points.Firsts.{InBlock}
 use Rattle.stl.proofs.points.enter_all.Given as goal

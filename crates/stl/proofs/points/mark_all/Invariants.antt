@@ -1,4 +1,4 @@
--- `stl_points::mark_all` meets its contract: the marks are right for the places from j on. Assumes nothing.
+-- `points::mark_all` meets its contract: the marks are right for the places from j on. Assumes nothing.
 use Rattle.stl.specs.Points.Firsts.{Marked}
 use Rattle.stl.proofs.points.mark_all.Given as goal
 

@@ -5,7 +5,7 @@ use Rattle.stl.proofs.PointsLaws.Writing.{written_none, written_more, can_block}
 use Rattle.stl.proofs.points.write_points.Goals as goal
 
 pub loop-lo-init : goal.loop-lo-init
-loop-lo-init c = (omega arith, written_none c.args.file.now c.args.points.now c.args.halfedges.now)
+loop-lo-init c = (omega arith, written_none c.args.file.now c.args.pos.now c.args.h.now)
 
 pub write_block-written-requires : goal.write_block-written-requires
 write_block-written-requires c =
@@ -18,7 +18,7 @@ loop-lo-preserved c =
 pub returns-clause-count : goal.returns-clause-count
 returns-clause-count c = counted_all c.args.file.now c.loop-lo.lo c.loop-lo.written c.loop-lo.invariant.1.counted (omega arith)
 
-pub returns-clause-points : goal.returns-clause-points
-returns-clause-points c =
+pub returns-clause-pos : goal.returns-clause-pos
+returns-clause-pos c =
     let e = counted_all c.args.file.now c.loop-lo.lo c.loop-lo.written c.loop-lo.invariant.1.counted (omega arith) in
-    rw e at c.loop-lo.invariant.1.points
+    rw e at c.loop-lo.invariant.1.pos

@@ -5,8 +5,8 @@ use Rattle.stl.proofs.points.write_start.Goals as goal
 pub put_point-requires : goal.put_point-requires
 put_point-requires c = room c.requires
 
-pub overflow_cast-halfedges : goal.overflow_cast-halfedges
-overflow_cast-halfedges c = omega (arith, number_fits c.requires)
+pub overflow_cast-h : goal.overflow_cast-h
+overflow_cast-h c = omega (arith, number_fits c.requires)
 
 pub overflow_add-result : goal.overflow_add-result
 overflow_add-result c = omega (arith, number_fits c.requires)

@@ -1,4 +1,4 @@
--- `stl_table::look` meets its contract: the walk goes on from where it stands, and node numbers rise.
+-- `table::look` meets its contract: the walk goes on from where it stands, and node numbers rise.
 use Rattle.stl.proofs.TableLaws.Looks.{Going, left}
 use Rattle.stl.proofs.table.look.Given as goal
 
