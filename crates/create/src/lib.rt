@@ -10,11 +10,13 @@ mod shapes;
 pub mod sharp;
 mod whole;
 
-ghost use Rattle.std.specs.Prelude.{◌≡◌, ◌*◌, ◌≤◌, length, replicate};
+ghost use Rattle.std.specs.Prelude.{◌≡◌, ℕ, Bool, List, ℤ, Float, ◌*◌, ◌≤◌, length, replicate};
 ghost use Rattle.float.specs.Ops.{zero};
 ghost use Rattle.mesh.specs.Mesh.{as_halfedges};
-ghost use Rattle.questions.specs.Check.{when_accepted};
+ghost use Rattle.mesh.specs.Rows.{RowsUnread};
+ghost use Rattle.questions.specs.Check.{Checked, when_accepted};
 ghost use Rattle.create_shared.specs.Answer.{directionless_of, checked_of, Values};
+ghost use Rattle.create.specs.declared.sharp.Smoothness.{Smoothness};
 ghost use Rattle.create.specs.Sharp.Entries.{entries_of};
 ghost use Rattle.create.specs.Whole.Core.{create_directionless};
 ghost use Rattle.create.specs.Create.{lists_fit, scratch_fits, check_create, check_lists, tangents_after, create_answer};
@@ -165,3 +167,12 @@ pub fn create_tangents(
     let directionless = whole::make_tangents(mesh, old, t, fixed, flat, smooth, desired, at, link);
     Ok(directionless)
 }
+
+// Law: the call carries the rows of the halfedges unread (`RowsUnread`, crates/mesh/specs/Rows.antt). What it leaves in its scratch
+// lists is told by its answer.
+#[tactic(auto, using(mesh::proofs::Rows::rows_unread))]
+pub fn rows_unread()
+    ensures questions { (P N A : List Float) (R : List ℤ) (I : List ℕ) (Q T : List Float) (X F : List ℕ) (M D : List Float) (W L : List ℕ) (n p : ℕ) → RowsUnread (λ H. check_lists H P N A R I Q T X F M D W L n p) }
+    ensures answer { (P N A : List Float) (R : List ℤ) (I : List ℕ) (Q T : List Float) (X F : List ℕ) (M D : List Float) (W L : List ℕ) (old : Bool) (n p : ℕ) → RowsUnread (λ H. create_answer H P N A R I Q T X F M D W L old n p) }
+    ensures tangents { (checked : Checked) (P N A : List Float) (R : List ℤ) (E : List Smoothness) (T : List Float) (old : Bool) (n p : ℕ) → RowsUnread (λ H. tangents_after checked H P N A R E T old n p) }
+{}
