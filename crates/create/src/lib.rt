@@ -35,10 +35,10 @@ pub fn lists_fit(
     face_normals: usize,
     refs: usize,
     entries: usize,
-    values: usize,
+    smoothness: usize,
     tangents: usize,
 ) -> bool
-    ensures { result ≡ lists_fit halfedges positions normals face_normals refs entries values tangents n p }
+    ensures { result ≡ lists_fit halfedges positions normals face_normals refs entries smoothness tangents n p }
 {
     let lists = create_shared::mesh_lists_fit(
         n,
@@ -49,7 +49,7 @@ pub fn lists_fit(
         face_normals,
         refs,
     );
-    lists & questions::has_length(values, entries, 1) & questions::has_length(tangents, n, 4)
+    lists & questions::has_length(smoothness, entries, 1) & questions::has_length(tangents, n, 4)
 }
 
 // Question 2 of the scratch lists, from the length of each.
@@ -79,18 +79,18 @@ fn check_create(
     h: &[i32],
     refs: &[i32],
     entries: &[usize],
-    values: &[f64],
+    smoothness: &[f64],
     lengths: bool,
 ) -> Result<(), Refusal>
-    ensures { result ≡ check_create (as_halfedges h.now) refs.now entries.now values.now n p lengths }
+    ensures { result ≡ check_create (as_halfedges h.now) refs.now entries.now smoothness.now n p lengths }
 {
     let checked = questions::check_mesh(h, n, p, lengths);
-    questions::check_entries(questions::check_refs(checked, refs, n), entries, values, n)
+    questions::check_entries(questions::check_refs(checked, refs, n), entries, smoothness, n)
 }
 
 // Making from sharp edges, for lists of any length and content. `pos` and `normals` have three numbers for each point,
-// `face_normals` and `refs` three for each triangle; `entries` and `values` are the halfedges and the smoothness of the
-// sharp entries. With `old` the tangents t hold the old ones. Of the scratch lists `at` has a place for each point, each
+// `face_normals` and `refs` three for each triangle; `entries` and `smoothness` are the halfedges and the smoothness of
+// the sharp entries. With `old` the tangents t hold the old ones. Of the scratch lists `at` has a place for each point, each
 // other one for each halfedge. The answer counts the circular tangents on an edge without direction.
 // The lists are parameters of their own and no struct, as the C interface has them: counts, lists read, lists written, scratch.
 // `create_entries` is the same call of a list of structs, by document 01's form by place for the sharp entries: a lent slice of
@@ -105,7 +105,7 @@ pub fn create_tangents(
     face_normals: &[f64],
     refs: &[i32],
     entries: &[usize],
-    values: &[f64],
+    smoothness: &[f64],
     old: bool,
     t: &mut [f64],
     fixed: &mut [u8],
@@ -115,8 +115,8 @@ pub fn create_tangents(
     at: &mut [usize],
     link: &mut [usize],
 ) -> Result<usize, Refusal>
-    ensures answer { result ≡ create_answer (as_halfedges h.now) pos.now normals.now face_normals.now refs.now entries.now values.now t.old fixed.old flat.old smooth.old desired.old at.old link.old old n p }
-    ensures tangents { t.new ≡ tangents_after (checked_of result) (as_halfedges h.now) pos.now normals.now face_normals.now refs.now (entries_of entries.now values.now) t.old old n p }
+    ensures answer { result ≡ create_answer (as_halfedges h.now) pos.now normals.now face_normals.now refs.now entries.now smoothness.now t.old fixed.old flat.old smooth.old desired.old at.old link.old old n p }
+    ensures tangents { t.new ≡ tangents_after (checked_of result) (as_halfedges h.now) pos.now normals.now face_normals.now refs.now (entries_of entries.now smoothness.now) t.old old n p }
     ensures fixed { fixed.new ≡ when_accepted (checked_of result) (replicate n 0) fixed.old }
     ensures flat { flat.new ≡ when_accepted (checked_of result) (replicate n 0) flat.old }
     ensures smooth { smooth.new ≡ when_accepted (checked_of result) (replicate n zero) smooth.old }
@@ -124,7 +124,7 @@ pub fn create_tangents(
     ensures at { at.new ≡ when_accepted (checked_of result) (replicate p 0) at.old }
     ensures link { link.new ≡ when_accepted (checked_of result) (replicate n 0) link.old }
     ensures bound { directionless_of result ≤ 2 * n }
-    ensures values { Values (check_lists (as_halfedges h.now) pos.now normals.now face_normals.now refs.now entries.now values.now t.old fixed.old flat.old smooth.old desired.old at.old link.old n p) (create_directionless (as_halfedges h.now) pos.now refs.now (entries_of entries.now values.now) t.old old n p) result }
+    ensures values { Values (check_lists (as_halfedges h.now) pos.now normals.now face_normals.now refs.now entries.now smoothness.now t.old fixed.old flat.old smooth.old desired.old at.old link.old n p) (create_directionless (as_halfedges h.now) pos.now refs.now (entries_of entries.now smoothness.now) t.old old n p) result }
 {
     let lists = lists_fit(
         n,
@@ -135,7 +135,7 @@ pub fn create_tangents(
         face_normals.len(),
         refs.len(),
         entries.len(),
-        values.len(),
+        smoothness.len(),
         t.len(),
     );
     let scratch = scratch_fits(
@@ -149,12 +149,12 @@ pub fn create_tangents(
         link.len(),
     );
     let lengths = lists & scratch;
-    let checked = check_create(n, p, h, refs, entries, values, lengths);
+    let checked = check_create(n, p, h, refs, entries, smoothness, lengths);
     // Document 01's form by place: the check's answer is opened by `let .. else`.
     let Ok(()) = checked else {
         return questions::refused(checked);
     };
-    sharp::entry_smoothness(entries, values, smooth);
+    sharp::entry_smoothness(entries, smoothness, smooth);
     let mesh = MeshLists {
         n: n,
         p: p,

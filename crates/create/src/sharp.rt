@@ -55,12 +55,12 @@ pub fn add_entry(smooth: &mut [f64], e: usize, s: f64)
 }
 
 // The smoothness that the entries of two flat lists give each halfedge, whatever the list held.
-pub fn entry_smoothness(entries: &[usize], values: &[f64], smooth: &mut [f64])
-    requires { (length values.now ≡ length entries.now) × EntriesIn (entries_of entries.now values.now) (length smooth.old) }
-    ensures { smooth.new ≡ entry_smoothness (entries_of entries.now values.now) (length smooth.old) }
+pub fn entry_smoothness(entries: &[usize], smoothness: &[f64], smooth: &mut [f64])
+    requires { (length smoothness.now ≡ length entries.now) × EntriesIn (entries_of entries.now smoothness.now) (length smooth.old) }
+    ensures { smooth.new ≡ entry_smoothness (entries_of entries.now smoothness.now) (length smooth.old) }
 {
     smooth.fill(NO_ENTRY);
-    for (e, s) in entries.iter().zip(values) {
+    for (e, s) in entries.iter().zip(smoothness) {
         add_entry(smooth, *e, *s);
     }
 }

@@ -6,4 +6,4 @@ use Rattle.create.proofs.SharpLaws.Adding.{added}
 use Rattle.create.proofs.sharp.entry_smoothness.Given as goal
 
 abbrev pub invariant-loop-e : goal.invariant-loop-e
-invariant-loop-e l = l.smooth ≡ added l.initial.smooth (entries_of l.entries l.values) (length l.yielded)
+invariant-loop-e l = l.smooth ≡ added l.initial.smooth (entries_of l.entries l.smoothness) (length l.yielded)
