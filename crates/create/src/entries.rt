@@ -1,5 +1,5 @@
-// `create_tangents` of src/smoothing_tangents.rs with its sharp entries as the Rust lends them, a list of structs: a public call as
-// `create` is. It lends the list of structs on.
+// `create_tangents` of src/smoothing_tangents.rs with its sharp entries as the Rust lends them, a list of structs: a public call beside
+// `crate::create_tangents`.
 
 ghost use Rattle.std.specs.Prelude.{◌≡◌, ℕ, Bool, List, ℤ, Float, ◌*◌, ◌≤◌, ◌&&◌, length, replicate};
 ghost use Rattle.float.specs.Ops.{zero};
@@ -60,8 +60,6 @@ fn check_lists(
 
 // Making from sharp edges, for lists of any length and content: `crate::create_tangents` with the sharp entries as structs.
 // The parameters are in the order of that call: the C interface's counts, lists read, lists written, scratch.
-// It stands beside that call by document 01's form by place for the sharp entries: a lent slice of structs, read by one thin entry
-// point, after a core over two flat lists.
 pub fn create_entries(
     n: usize,
     p: usize,
@@ -108,7 +106,7 @@ pub fn create_entries(
         at.len(),
         link.len(),
     );
-    // Document 01's form by place: the check's answer is opened by `let .. else`.
+    // The rule for a public call: the check's answer is opened by `let .. else`.
     let Ok(()) = checked else {
         return questions::refused(checked);
     };

@@ -1,5 +1,6 @@
-// `create_tangents` of src/smoothing_tangents.rs (document 01's making from sharp edges) as a public call: its
-// questions, the smoothness that the entries give, and then `create_core`.
+// Making from sharp edges: `create_tangents` of src/smoothing_tangents.rs as a public call, with its questions. `sharp` has the sharp
+// entries, `edges` and `creases` what they make creases, `initial` and `shapes` the tangents, and `whole` the making on an accepted
+// mesh; `entries` is the same call of a list of structs.
 #![tactic(auto)]
 
 mod creases;
@@ -70,8 +71,7 @@ pub fn scratch_fits(
     angles & questions::has_length(at, p, 1) & questions::has_length(link, n, 1)
 }
 
-// The questions 1 to 10; `lengths` is the answer to question 2. For the two flat lists, as `create_entries::check_lists` is for the
-// structs: document 01's core, and its thin entry point.
+// The questions 1 to 10, put to two flat lists of entries; `lengths` is the answer to question 2.
 #[tactic(auto, unfolding(crate::specs::Create::check_create))]
 fn check_create(
     n: usize,
@@ -93,8 +93,8 @@ fn check_create(
 // the sharp entries. With `old` the tangents t hold the old ones. Of the scratch lists `at` has a place for each point, each
 // other one for each halfedge. The answer counts the circular tangents on an edge without direction.
 // The lists are parameters of their own and no struct, as the C interface has them: counts, lists read, lists written, scratch.
-// `create_entries` is the same call of a list of structs, by document 01's form by place for the sharp entries: a lent slice of
-// structs, read by one thin entry point, after a core over two flat lists, which is this.
+// `entries::create_entries` is the same call of a list of structs. The rule for the sharp entries: a core over two flat lists, which
+// is this, and one thin entry point that reads a lent slice of structs.
 #[tactic(auto, unfolding(mesh::specs::Mesh::as_halfedges))]
 pub fn create_tangents(
     n: usize,
@@ -150,7 +150,7 @@ pub fn create_tangents(
     );
     let lengths = lists & scratch;
     let checked = check_create(n, p, h, refs, entries, smoothness, lengths);
-    // Document 01's form by place: the check's answer is opened by `let .. else`.
+    // The rule for a public call: the check's answer is opened by `let .. else`.
     let Ok(()) = checked else {
         return questions::refused(checked);
     };

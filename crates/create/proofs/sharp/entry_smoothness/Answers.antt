@@ -1,4 +1,4 @@
--- `create_smoothness::entry_smoothness` meets its contract. Assumes nothing.
+-- `create::sharp::entry_smoothness` meets its contract. Assumes nothing.
 use Rattle.std.proofs.Common.{rules}
 use Prim.Native.Nat.{◌<◌}
 use mathlib.Core.Path.{◌≡◌, ap, ◌∙◌}

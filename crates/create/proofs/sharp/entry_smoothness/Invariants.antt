@@ -1,4 +1,4 @@
--- `create_smoothness::entry_smoothness` meets its contract. The invariant: the list is what the entries passed make of it. Assumes nothing.
+-- `create::sharp::entry_smoothness` meets its contract. The invariant: the list is what the entries passed make of it. Assumes nothing.
 use mathlib.Core.Path.{◌≡◌}
 use lib.ListN.{length}
 use Rattle.create.specs.Sharp.Entries.{entries_of}
