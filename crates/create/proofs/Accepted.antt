@@ -25,7 +25,7 @@ use Rattle.create.specs.Create.{lists_fit, scratch_fits, check_create, check_lis
 -- question 2 of the lists read and of the tangents
 pub record ListsFit (h l m a r i q t n p : ℕ) : Type 0 where
   pub mesh_lists : MeshListsFit h l m a n p
-  pub values : q ≡ i
+  pub smoothness : q ≡ i
   pub tangents : t ≡ n * 4
 
 lists_fit_lem : (h l m a r i q t n p : ℕ) → lists_fit h l m a r i q t n p ≡ true → ListsFit h l m a r i q t n p
@@ -34,7 +34,7 @@ lists_fit_lem h l m a r i q t n p e =
     let e₆ = and_parts _ (has_length q i 1) e₇.0 in
     record {
       mesh_lists = mesh_lists_fit_lem h l m a r n p e₆.0;
-      values = has_one q i e₆.1;
+      smoothness = has_one q i e₆.1;
       tangents = has_length_lem t n 4 e₇.1;
     }
 
@@ -67,7 +67,7 @@ scratch_fits_lem x f s d c l n p e =
 pub record AcceptedLists (H : Halfedges) (P N A : List Float) (I : List ℕ) (Q T : List Float) (X F : List ℕ) (S D : List Float) (C L : List ℕ) (n p : ℕ) : Type 0 where
   pub sound : Sound H n p
   pub mesh_lists : MeshListsFit H.numbers (length P) (length N) (length A) n p
-  pub values : length Q ≡ length I
+  pub smoothness : length Q ≡ length I
   pub named : (k : ℕ) → k < length I → get_or I k 0 < n
   pub clear : (k : ℕ) → k < length I → sign_clear (get_or Q k nan) ≡ true
   pub tangents : length T ≡ n * 4
@@ -95,7 +95,7 @@ accepted_lists H P N A R I Q T X F S D C L n p e =
     record {
       sound = b.1;
       mesh_lists = l.mesh_lists;
-      values = l.values;
+      smoothness = l.smoothness;
       named = a.1;
       clear = a.2;
       tangents = l.tangents;

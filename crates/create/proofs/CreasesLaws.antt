@@ -1,4 +1,4 @@
--- The laws of `create_creases`: those that the crates above cite are public.
+-- The laws of the module `creases`.
 pub mod Lent
 pub mod Creases
 pub mod Linked

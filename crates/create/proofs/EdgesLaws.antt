@@ -1,3 +1,3 @@
--- The laws of `create_edges`: those that the crates above cite are public.
+-- The laws of the module `edges`.
 pub mod Boundaries
 pub mod Edges

@@ -1,2 +1,2 @@
--- The laws of `create_entries`.
+-- The laws of the module `entries`.
 pub mod Answer

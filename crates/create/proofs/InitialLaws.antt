@@ -1,3 +1,3 @@
--- The laws of `create_initial`: those that the crates above cite are public.
+-- The laws of the module `initial`.
 pub mod Counts
 pub mod First

@@ -1,3 +1,3 @@
--- The laws of `create_sharpen`, which the crates above cite.
+-- The laws of the module `shapes`.
 pub mod Lent
 pub mod Bound

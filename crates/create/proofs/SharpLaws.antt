@@ -1,3 +1,3 @@
--- The laws of `create_smoothness`. Those that the crates above cite are public.
+-- The laws of the module `sharp`.
 pub mod Adding
 pub mod Flat

@@ -1,4 +1,4 @@
--- The laws of `create_core`: those that the crates above cite are public.
+-- The laws of the module `whole`.
 pub mod Shape
 pub mod Core
 pub mod Filled

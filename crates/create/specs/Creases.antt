@@ -1,4 +1,4 @@
--- The specs of `create_creases`, in the order of reading.
+-- The specs of the module `creases`, in the order of reading.
 pub mod Creases
 pub mod Linked
 pub mod Lists

@@ -13,8 +13,8 @@ use Rattle.create.specs.Whole.Core.{create_tangents, create_directionless}
 
 -- question 2 of the lists that the call reads, and of the tangents: what their lengths must be
 abbrev pub lists_fit : ℕ → ℕ → ℕ → ℕ → ℕ → ℕ → ℕ → ℕ → ℕ → ℕ → Bool
-lists_fit halfedges positions normals face_normals refs entries values tangents n p =
-    mesh_lists_fit halfedges positions normals face_normals refs n p && has_length values entries 1 && has_length tangents n 4
+lists_fit halfedges positions normals face_normals refs entries smoothness tangents n p =
+    mesh_lists_fit halfedges positions normals face_normals refs n p && has_length smoothness entries 1 && has_length tangents n 4
 
 -- question 2 of scratch: `at` has a place for each point, each other list one for each halfedge
 abbrev pub scratch_fits : ℕ → ℕ → ℕ → ℕ → ℕ → ℕ → ℕ → ℕ → Bool

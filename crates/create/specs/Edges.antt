@@ -1,4 +1,4 @@
--- The specs of `create_edges`, in the order of reading.
+-- The specs of the module `edges`, in the order of reading.
 pub mod Edges
 pub mod Smoothness
 pub mod Lent

@@ -1,2 +1,2 @@
--- The specs of `create_entries`.
+-- The specs of the module `entries`.
 pub mod CreateEntries

@@ -1,4 +1,4 @@
--- The specs of `create_initial`, in the order of reading. `Faces` and `Lent` are for the contracts inside a call.
+-- The specs of the module `initial`, in the order of reading. `Faces` and `Lent` are for the contracts inside a call.
 pub mod First
 pub mod Faces
 pub mod Lent

@@ -1,3 +1,3 @@
--- The specs of `create_smoothness`.
+-- The specs of the module `sharp`.
 pub mod Entries
 pub mod EntrySmoothness

@@ -1,4 +1,4 @@
--- The specs of `create_core`, in the order of reading. `Lent` and `Filled` are for the contracts inside a call.
+-- The specs of the module `whole`, in the order of reading. `Lent` and `Filled` are for the contracts inside a call.
 pub mod Shape
 pub mod Lent
 pub mod Core

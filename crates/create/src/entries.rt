@@ -1,11 +1,13 @@
-// `create_tangents` of src/smoothing_tangents.rs with its sharp entries as the Rust lends them, a list of structs: a public call as
-// `create` is. It lends the list of structs on.
+// `create_tangents` of src/smoothing_tangents.rs with its sharp entries as the Rust lends them, a list of structs: a public call beside
+// `crate::create_tangents`.
 
-ghost use Rattle.std.specs.Prelude.{◌≡◌, ◌*◌, ◌≤◌, ◌&&◌, length, replicate};
+ghost use Rattle.std.specs.Prelude.{◌≡◌, ℕ, Bool, List, ℤ, Float, ◌*◌, ◌≤◌, ◌&&◌, length, replicate};
 ghost use Rattle.float.specs.Ops.{zero};
 ghost use Rattle.mesh.specs.Mesh.{as_halfedges};
+ghost use Rattle.mesh.specs.Rows.{RowsUnread};
 ghost use Rattle.questions.specs.Check.{check_mesh, check_refs, check_entries, when_accepted};
 ghost use Rattle.create_shared.specs.Answer.{directionless_of, checked_of, Values};
+ghost use Rattle.create.specs.declared.sharp.Smoothness.{Smoothness};
 ghost use Rattle.create.specs.Sharp.Entries.{halfedges_of, smoothness_of};
 ghost use Rattle.create.specs.Create.{lists_fit, scratch_fits, tangents_after};
 ghost use Rattle.create.specs.Whole.Core.{create_directionless};
@@ -58,8 +60,6 @@ fn check_lists(
 
 // Making from sharp edges, for lists of any length and content: `crate::create_tangents` with the sharp entries as structs.
 // The parameters are in the order of that call: the C interface's counts, lists read, lists written, scratch.
-// It stands beside that call by document 01's form by place for the sharp entries: a lent slice of structs, read by one thin entry
-// point, after a core over two flat lists.
 pub fn create_entries(
     n: usize,
     p: usize,
@@ -106,7 +106,7 @@ pub fn create_entries(
         at.len(),
         link.len(),
     );
-    // Document 01's form by place: the check's answer is opened by `let .. else`.
+    // The rule for a public call: the check's answer is opened by `let .. else`.
     let Ok(()) = checked else {
         return questions::refused(checked);
     };
@@ -123,3 +123,11 @@ pub fn create_entries(
     let directionless = whole::make_tangents(mesh, old, t, fixed, flat, smooth, desired, at, link);
     Ok(directionless)
 }
+
+// Law: the call carries the rows of the halfedges unread (`RowsUnread`, crates/mesh/specs/Rows.antt); its tangents are those that
+// `crate::rows_unread` speaks of.
+#[tactic(auto, using(mesh::proofs::Rows::rows_unread))]
+pub fn rows_unread()
+    ensures questions { (P N A : List Float) (R : List ℤ) (E : List Smoothness) (T : List Float) (X F : List ℕ) (M D : List Float) (W L : List ℕ) (n p : ℕ) → RowsUnread (λ H. check_lists H P N A R E T X F M D W L n p) }
+    ensures answer { (P N A : List Float) (R : List ℤ) (E : List Smoothness) (T : List Float) (X F : List ℕ) (M D : List Float) (W L : List ℕ) (old : Bool) (n p : ℕ) → RowsUnread (λ H. create_answer H P N A R E T X F M D W L old n p) }
+{}

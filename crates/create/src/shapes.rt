@@ -105,8 +105,8 @@ fn sharpen_meeting_at(lists: &ShapeLists<'_>, t: &mut [f64], mean: f64, current:
     sharpen_tangent(t, current, s);
 }
 
-// The vertex cycle of a crease through a point, from its first halfedge on. A loop and no iterator, here and below: document 01
-// names this form.
+// The vertex cycle of a crease through a point, from its first halfedge on. A loop and no iterator, here and below: the rule for
+// a walk round a point.
 fn sharpen_sides(
     lists: &ShapeLists<'_>,
     t: &mut [f64],

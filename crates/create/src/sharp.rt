@@ -17,10 +17,9 @@ pub struct Smoothness {
     pub smoothness: f64,
 }
 
-// The questions 9 and 10, after earlier answers: `questions::check_entries` of a list of structs. It stands beside that one, and
-// `sharp_smoothness` beside `entry_smoothness`, by document 01's form by place for the sharp entries: a lent slice of structs, read
-// by one thin entry point, after a core over two flat lists. The earlier answer is a parameter, since it is one of the definition,
-// too: without it the clause would say `check_entries (Ok tt)`, and each caller would have a line for the `?`.
+// The questions 9 and 10, after earlier answers: `questions::check_entries` of a list of structs. The earlier answer is a parameter,
+// since it is one of the definition, too: without it the clause would say `check_entries (Ok tt)`, and each caller would have a line
+// for the `?`.
 #[tactic(auto, unfolding(questions::specs::Check::check_entries))]
 pub fn check_sharp(
     sofar: Result<(), Refusal>,
@@ -55,18 +54,17 @@ pub fn add_entry(smooth: &mut [f64], e: usize, s: f64)
 }
 
 // The smoothness that the entries of two flat lists give each halfedge, whatever the list held.
-pub fn entry_smoothness(entries: &[usize], values: &[f64], smooth: &mut [f64])
-    requires { (length values.now ≡ length entries.now) × EntriesIn (entries_of entries.now values.now) (length smooth.old) }
-    ensures { smooth.new ≡ entry_smoothness (entries_of entries.now values.now) (length smooth.old) }
+pub fn entry_smoothness(entries: &[usize], smoothness: &[f64], smooth: &mut [f64])
+    requires { (length smoothness.now ≡ length entries.now) × EntriesIn (entries_of entries.now smoothness.now) (length smooth.old) }
+    ensures { smooth.new ≡ entry_smoothness (entries_of entries.now smoothness.now) (length smooth.old) }
 {
     smooth.fill(NO_ENTRY);
-    for (e, s) in entries.iter().zip(values) {
+    for (e, s) in entries.iter().zip(smoothness) {
         add_entry(smooth, *e, *s);
     }
 }
 
-// The same of a list of entries, by document 01's form by place, as `check_sharp` says. A loop of its own: one for both would take
-// an iterator, and a contract of what it yields.
+// The same of a list of structs. A loop of its own: one for both would take an iterator, and a contract of what it yields.
 #[tactic(auto, using(crate::proofs::SharpLaws::Adding::add_more, crate::proofs::SharpLaws::Adding::named_at))]
 pub fn sharp_smoothness(sharp: &[Smoothness], smooth: &mut [f64])
     requires { EntriesIn sharp.now (length smooth.old) }

@@ -1,4 +1,4 @@
--- The laws of `normals_state`, which the crates above cite, but for `Tests`.
+-- The laws of the module `state`.
 pub mod Tests
 pub mod Carried
 pub mod Units

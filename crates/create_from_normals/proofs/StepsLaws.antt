@@ -1,4 +1,4 @@
--- The laws of `normals_steps`, which the crates above cite.
+-- The laws of the module `steps`.
 pub mod Lent
 pub mod Carried
 pub mod Counts

@@ -1,4 +1,4 @@
--- The laws of `normals_walks`. `Same` and `Bound` are for the crates above.
+-- The laws of the module `walks`.
 pub mod Lent
 pub mod Rounds
 pub mod Counting

@@ -1,4 +1,4 @@
--- The laws of `normals_weights`.
+-- The laws of the module `weights`.
 pub mod Folds
 pub mod Circular
 pub mod Writes

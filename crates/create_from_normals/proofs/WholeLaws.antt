@@ -1,4 +1,4 @@
--- The laws of `normals_core`: those that the crates above cite are public.
+-- The laws of the module `whole`.
 pub mod Core
 pub mod Flags
 pub mod Lent

@@ -1,4 +1,4 @@
--- The specs of `normals_state`.
+-- The specs of the module `state`.
 pub mod State
 pub mod Carried
 pub mod Units

@@ -1,3 +1,3 @@
--- The specs of `normals_steps`.
+-- The specs of the module `steps`.
 pub mod Steps
 pub mod Carried

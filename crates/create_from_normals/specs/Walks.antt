@@ -1,3 +1,3 @@
--- The specs of `normals_walks`.
+-- The specs of the module `walks`.
 pub mod Walks
 pub mod Lists

@@ -1,11 +1,11 @@
-// `create_tangents_from_normals` of src/smoothing_tangents.rs (document 01's making from normals) as a public call: its
-// questions, and then `normals_core`.
+// Making from normals: `create_tangents_from_normals` of src/smoothing_tangents.rs as a public call, with its questions. `state` has
+// what the loop round a vertex cycle carries, `steps` the bodies of the loops, `walks` the loops, and `whole` the making on an
+// accepted mesh.
 #![tactic(auto)]
 
 mod state;
 mod steps;
 mod walks;
-mod weights;
 mod whole;
 
 ghost use Rattle.std.specs.Prelude.{◌≡◌, ◌*◌, ◌≤◌, length, replicate, IfOk, OnOk};
@@ -15,7 +15,7 @@ ghost use Rattle.questions.specs.Check.{when_accepted};
 ghost use Rattle.create_shared.specs.Answer.{directionless_of, checked_of, Values};
 ghost use Rattle.create_from_normals.specs.State.State.{get_normal};
 ghost use Rattle.create_from_normals.specs.Whole.Core.{from_normals_directionless};
-ghost use Rattle.create_from_normals.specs.Weights.Weights.{Weights};
+ghost use Rattle.create_from_normals.specs.Weights.{Weights, WeightsOf};
 ghost use Rattle.create_from_normals.specs.FromNormals.{lists_fit, scratch_fits, check_normals, check_lists, tangents_after, create_answer};
 ghost use Rattle.create_from_normals.specs.OldNormals.{OldTangents, OldCount};
 
@@ -139,7 +139,7 @@ pub fn create_tangents_from_normals<'a>(
     let scratch = scratch_fits(n, p, fixed, inside, current, desired, first);
     let lengths = lists & scratch;
     let checked = check_normals(n, p, h, refs, rows.len() / 3, lengths);
-    // Document 01's form by place: the check's answer is opened by `let .. else`.
+    // The rule for a public call: the check's answer is opened by `let .. else`.
     let Ok(()) = checked else {
         return questions::refused(checked);
     };
@@ -156,3 +156,10 @@ pub fn create_tangents_from_normals<'a>(
     let directionless = whole::make_tangents(&read, old, t, fixed, inside, current, desired, first);
     Ok(directionless)
 }
+
+// Law: on a sound mesh making from normals leaves at each halfedge the weight -1, 0, or that of a circular tangent along its edge,
+// and never -3 (specs/Weights.antt, `WeightsOf`).
+#[tactic(auto, using(crate::proofs::WeightsLaws::Weights::weights))]
+pub fn weights_hold()
+    ensures { WeightsOf }
+{}

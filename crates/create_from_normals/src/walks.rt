@@ -20,7 +20,7 @@ use linalg::Vec3;
 // ---- a vertex cycle
 
 // The first loop, from halfedge e: what it carries after the last one, and what it counts. A loop and no iterator, here and in both
-// walks below: document 01 names this form. The two lists that are written stay parameters, and their lengths clauses, here and
+// walks below: the rule for a walk round a point. The two lists that are written stay parameters, and their lengths clauses, here and
 // below: of a struct that lends them a clause would say `made.entry.t.now` for `t.old` and `made.exit.t.now` for `t.new`.
 fn normal_walk(
     walks: &WalkLists<'_>,

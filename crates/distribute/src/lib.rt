@@ -8,8 +8,9 @@ pub mod preview;
 mod steps;
 mod walks;
 
-ghost use Rattle.std.specs.Prelude.{◌≡◌};
+ghost use Rattle.std.specs.Prelude.{◌≡◌, ℕ, List, Float};
 ghost use Rattle.mesh.specs.Mesh.{as_halfedges};
+ghost use Rattle.mesh.specs.Rows.{RowsUnread};
 ghost use Rattle.distribute.specs.Steps.FloatSteps.{float_steps};
 ghost use Rattle.distribute.specs.Distribute.{looked_of, turned_of, check_with, check_lists, spread_tangents, distribute_tangents, tangents_after, scratch_after, AnyOrder, Values};
 ghost use Rattle.distribute.specs.Claims.{GuardsNeverFire, AnglesInLists, OwnStartsNamed};
@@ -103,4 +104,12 @@ pub fn distribute_tangents(
 // `order` speak (specs/Claims.antt, `OwnStartsNamed`).
 pub fn own_starts_hold()
     ensures { OwnStartsNamed }
+{}
+
+// Law: the call carries the rows of the halfedges unread (`RowsUnread`, crates/mesh/specs/Rows.antt).
+#[tactic(auto, using(mesh::proofs::Rows::rows_unread))]
+pub fn rows_unread()
+    ensures questions { (P N : List Float) (X : List ℕ) (T C D : List Float) (n p : ℕ) → RowsUnread (λ H. check_lists H P N X T C D n p) }
+    ensures answer { (P N : List Float) (X : List ℕ) (T C D : List Float) (n p : ℕ) → RowsUnread (λ H. distribute_tangents H P N X T C D n p) }
+    ensures tangents { (P N : List Float) (X : List ℕ) (T C D : List Float) (n p : ℕ) → RowsUnread (λ H. tangents_after H P N X T C D n p) }
 {}

@@ -1,8 +1,9 @@
 // The preview of spreading as a public call: what `distribute_tangents` of src/smoothing_tangents.rs would look at and turn. The tangents
 // are only read.
 
-ghost use Rattle.std.specs.Prelude.{◌≡◌, ◌*◌, length};
+ghost use Rattle.std.specs.Prelude.{◌≡◌, ℕ, List, Float, ◌*◌, length};
 ghost use Rattle.mesh.specs.Mesh.{as_halfedges};
+ghost use Rattle.mesh.specs.Rows.{RowsUnread};
 ghost use Rattle.distribute.specs.Spread.Spread.{pass};
 ghost use Rattle.distribute.specs.Steps.FloatSteps.{float_steps};
 ghost use Rattle.distribute.specs.Walks.Walks.{steps_of};
@@ -69,3 +70,10 @@ pub fn preview_tangents(
     let counts = preview_all(&lists, t, bytes);
     Ok(counts)
 }
+
+// Law: the call carries the rows of the halfedges unread (`RowsUnread`, crates/mesh/specs/Rows.antt).
+#[tactic(auto, using(mesh::proofs::Rows::rows_unread))]
+pub fn rows_unread()
+    ensures answer { (P N : List Float) (X : List ℕ) (T : List Float) (Y : List ℕ) (n p : ℕ) → RowsUnread (λ H. preview_tangents H P N X T Y n p) }
+    ensures bytes { (P N : List Float) (X : List ℕ) (T : List Float) (Y : List ℕ) (n p : ℕ) → RowsUnread (λ H. bytes_after H P N X T Y n p) }
+{}

@@ -4,8 +4,9 @@
 
 pub mod inner;
 
-ghost use Rattle.std.specs.Prelude.{◌≡◌, length};
+ghost use Rattle.std.specs.Prelude.{◌≡◌, ℕ, List, Float, length};
 ghost use Rattle.mesh.specs.Mesh.{as_halfedges};
+ghost use Rattle.mesh.specs.Rows.{RowsUnread};
 ghost use Rattle.questions.specs.Check.{Values};
 ghost use Rattle.linearize.specs.Linearize.{lengths_fit, linearize_answer, tangents_after};
 
@@ -39,3 +40,10 @@ pub fn linearize_flat_tangents(
     inner::linearize_all(n, p, h, pos, t);
     checked
 }
+
+// Law: the call carries the rows of the halfedges unread (`RowsUnread`, crates/mesh/specs/Rows.antt).
+#[tactic(auto, using(mesh::proofs::Rows::rows_unread))]
+pub fn rows_unread()
+    ensures answer { (P T : List Float) (n p : ℕ) → RowsUnread (λ H. linearize_answer H P T n p) }
+    ensures tangents { (P T : List Float) (n p : ℕ) → RowsUnread (λ H. tangents_after H P T n p) }
+{}

@@ -11,6 +11,7 @@ ghost use Rattle.std.specs.Prelude.{◌≡◌, ◌↔◌, ℕ, Bool, true, IsErr
 ghost use Rattle.std.specs.Int.Signed.{le_z};
 ghost use Rattle.std.specs.Float.{nan};
 ghost use Rattle.mesh.specs.Mesh.{max_halfedges, max_points, halfedge_stride, prop_vert, ref_at, as_halfedges, no_index};
+ghost use Rattle.mesh.specs.Rows.{RowsUnread};
 ghost use Rattle.mesh.specs.Sound.{Sound};
 ghost use Rattle.questions.specs.Questions.{has_length, mesh_fits, points_fit, sign_clear};
 ghost use Rattle.questions.specs.All.{triangles_hold, ask_each};
@@ -244,3 +245,9 @@ pub fn check_rows(
     checked?;
     ask(Question::Row, n, |e| has_row(h, rows, e))
 }
+
+// Law: the questions 1 to 7 read no row of a halfedge (`RowsUnread`, crates/mesh/specs/Rows.antt).
+#[tactic(auto, using(mesh::proofs::Rows::rows_unread))]
+pub fn rows_unread()
+    ensures { (n p : ℕ) (lengths : Bool) → RowsUnread (λ H. check_mesh H n p lengths) }
+{}

@@ -5,9 +5,11 @@
 // them flat, and of a struct that lends them a clause would say `entries.new.halfedges.now` for `halfedges.new`.
 #![tactic(auto)]
 
-ghost use Rattle.std.specs.Prelude.{◌≡◌, ◌+◌, ◌≤◌, ◌<◌, length, cond};
+ghost use Rattle.std.specs.Prelude.{◌≡◌, ℕ, List, Float, ◌+◌, ◌≤◌, ◌<◌, length, cond};
 ghost use Rattle.common.specs.Count.{count_below};
 ghost use Rattle.mesh.specs.Mesh.{as_halfedges};
+ghost use Rattle.mesh.specs.Rows.{RowsUnread};
+ghost use Rattle.sharpen.specs.declared.edge.Rule.{Rule};
 ghost use Rattle.sharpen.specs.declared.edge.Rule.TheVariants.{Ported, Clean};
 ghost use Rattle.sharpen.specs.Entries.{entries_in, push_edge, list_edge, list_edges};
 ghost use Rattle.sharpen.specs.Turn.{listed_by, EdgeFits};
@@ -224,3 +226,10 @@ pub fn sharpen_edges_clean(
         smoothness,
     )
 }
+
+// Law: both listings carry the rows of the halfedges unread (`RowsUnread`, crates/mesh/specs/Rows.antt).
+#[tactic(auto, using(mesh::proofs::Rows::rows_unread))]
+pub fn rows_unread()
+    ensures answer { (rule : Rule) (A : List Float) (angle smooth : Float) (I : List ℕ) (Q : List Float) (n p : ℕ) → RowsUnread (λ H. sharpen_edges rule H A angle smooth I Q n p) }
+    ensures entries { (rule : Rule) (A : List Float) (angle smooth : Float) (I : List ℕ) (Q : List Float) (n p : ℕ) → RowsUnread (λ H. entries_after rule H A angle smooth I Q n p) }
+{}

@@ -2,8 +2,9 @@
 // has no marked halfedge a marked neighbour?
 #![tactic(auto)]
 
-ghost use Rattle.std.specs.Prelude.{◌≡◌, true, ◌+◌, ◌*◌, ◌<◌};
+ghost use Rattle.std.specs.Prelude.{◌≡◌, ℕ, List, Float, true, ◌+◌, ◌*◌, ◌<◌};
 ghost use Rattle.mesh.specs.Mesh.{halfedge_stride, as_halfedges};
+ghost use Rattle.mesh.specs.Rows.{RowsUnread};
 ghost use Rattle.questions.specs.Check.{check_mesh};
 ghost use Rattle.common.specs.Fold.{fold_to};
 ghost use Rattle.mesh.specs.Sound.{Sound};
@@ -107,3 +108,9 @@ pub fn valid_tangents(
     };
     Ok(marks_valid(n, p, h, t))
 }
+
+// Law: the call carries the rows of the halfedges unread (`RowsUnread`, crates/mesh/specs/Rows.antt).
+#[tactic(auto, using(mesh::proofs::Rows::rows_unread))]
+pub fn rows_unread()
+    ensures { (P T : List Float) (n p : ℕ) → RowsUnread (λ H. valid_answer H P T n p) }
+{}

@@ -1,4 +1,4 @@
--- On an accepted mesh the lent lists hold what `create_creases` reads and writes. Assumes nothing.
+-- On an accepted mesh the lent lists hold what the module `creases` reads and writes. Assumes nothing.
 use Prim.Native.Nat.{ℕ, suc, ◌+◌, ◌*◌, ◌<◌}
 use native.Mathlib.Omega.{arith}
 use mathlib.Core.Path.{◌≡◌, sym, subst}

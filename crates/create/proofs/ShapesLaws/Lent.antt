@@ -1,4 +1,4 @@
--- On an accepted mesh the lent lists hold what `create_sharpen` reads and writes. Assumes nothing.
+-- On an accepted mesh the lent lists hold what the module `shapes` reads and writes. Assumes nothing.
 use Prim.Native.Nat.{ℕ, ◌*◌, ◌<◌}
 use mathlib.Core.Path.{◌≡◌, refl, sym, ap, ◌∙◌, subst}
 use mathlib.Core.Bool.{Bool}

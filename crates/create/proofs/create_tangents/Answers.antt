@@ -27,21 +27,21 @@ answer : (h : List ℤ) (P N A : List Float) (R : List ℤ) (I : List ℕ) (Q T 
 unfolding as_halfedges
 answer h P N A R I Q T X F S D C L n p a b e = rw (← a, ← b) e
 
-checked_is : (c : After-check_create-checked) → let a = c.args in c.check_create-checked.result ≡ check_lists (as_halfedges a.h.now) a.pos.now a.normals.now a.face_normals.now a.refs.now a.entries.now a.values.now a.t.now a.fixed.now a.flat.now a.smooth.now a.desired.now a.at.now a.link.now a.n a.p
+checked_is : (c : After-check_create-checked) → let a = c.args in c.check_create-checked.result ≡ check_lists (as_halfedges a.h.now) a.pos.now a.normals.now a.face_normals.now a.refs.now a.entries.now a.smoothness.now a.t.now a.fixed.now a.flat.now a.smooth.now a.desired.now a.at.now a.link.now a.n a.p
 checked_is c =
     let a = c.args in
-    answer a.h.now a.pos.now a.normals.now a.face_normals.now a.refs.now a.entries.now a.values.now a.t.now a.fixed.now a.flat.now a.smooth.now a.desired.now a.at.now a.link.now a.n a.p c.lists_fit-lists.ensures c.scratch_fits-scratch.ensures c.check_create-checked.ensures
+    answer a.h.now a.pos.now a.normals.now a.face_normals.now a.refs.now a.entries.now a.smoothness.now a.t.now a.fixed.now a.flat.now a.smooth.now a.desired.now a.at.now a.link.now a.n a.p c.lists_fit-lists.ensures c.scratch_fits-scratch.ensures c.check_create-checked.ensures
 
-lists : (c : After-check_create-checked) → c.check_create-checked.result ≡ Ok tt → let a = c.args in AcceptedLists (as_halfedges a.h.now) a.pos.now a.normals.now a.face_normals.now a.entries.now a.values.now a.t.now a.fixed.now a.flat.now a.smooth.now a.desired.now a.at.now a.link.now a.n a.p
+lists : (c : After-check_create-checked) → c.check_create-checked.result ≡ Ok tt → let a = c.args in AcceptedLists (as_halfedges a.h.now) a.pos.now a.normals.now a.face_normals.now a.entries.now a.smoothness.now a.t.now a.fixed.now a.flat.now a.smooth.now a.desired.now a.at.now a.link.now a.n a.p
 lists c e =
     let a = c.args in
-    accepted_lists (as_halfedges a.h.now) a.pos.now a.normals.now a.face_normals.now a.refs.now a.entries.now a.values.now a.t.now a.fixed.now a.flat.now a.smooth.now a.desired.now a.at.now a.link.now a.n a.p (sym (checked_is c) ∙ e)
+    accepted_lists (as_halfedges a.h.now) a.pos.now a.normals.now a.face_normals.now a.refs.now a.entries.now a.smoothness.now a.t.now a.fixed.now a.flat.now a.smooth.now a.desired.now a.at.now a.link.now a.n a.p (sym (checked_is c) ∙ e)
 
 pub entry_smoothness-requires : goal.entry_smoothness-requires
 entry_smoothness-requires c =
     let a = c.args in
     let w = lists (goal.at.entry_smoothness-requires c).After-check_create-checked c.in-Ok.is in
-    (w.values, subst (EntriesIn (entries_of a.entries.now a.values.now)) (sym w.scratch.smooth) (flat_entries_in a.entries.now a.values.now a.n w.values w.named w.clear))
+    (w.smoothness, subst (EntriesIn (entries_of a.entries.now a.smoothness.now)) (sym w.scratch.smooth) (flat_entries_in a.entries.now a.smoothness.now a.n w.smoothness w.named w.clear))
 
 pub invariant_of-mesh : goal.invariant_of-mesh
 invariant_of-mesh c =
@@ -58,8 +58,8 @@ pub returns : goal.returns
 returns c =
     let a = c.args in
     let m = c.make_tangents-directionless in
-    let r = made (as_halfedges a.h.now) a.pos.now a.normals.now a.face_normals.now a.refs.now a.entries.now a.values.now a.t.now a.fixed.now a.flat.now a.smooth.now a.desired.now a.at.now a.link.now a.n a.p (entries_of a.entries.now a.values.now) a.old (checked_is (goal.at.returns c).After-check_create-checked)
-    (λ w. flat_entries_in a.entries.now a.values.now a.n w.values w.named w.clear) c.in-Ok.is c.entry_smoothness.ensures m.ensures.tangents m.ensures.directionless in
+    let r = made (as_halfedges a.h.now) a.pos.now a.normals.now a.face_normals.now a.refs.now a.entries.now a.smoothness.now a.t.now a.fixed.now a.flat.now a.smooth.now a.desired.now a.at.now a.link.now a.n a.p (entries_of a.entries.now a.smoothness.now) a.old (checked_is (goal.at.returns c).After-check_create-checked)
+    (λ w. flat_entries_in a.entries.now a.smoothness.now a.n w.smoothness w.named w.clear) c.in-Ok.is c.entry_smoothness.ensures m.ensures.tangents m.ensures.directionless in
     record {
       answer = r.0;
       tangents = r.1;

@@ -42,7 +42,7 @@ unfoldable pub first_tangents : Halfedges → List Float → List Float → List
 first_tangents H P N A R inside n =
     fold_to (put_first_tangent H P N A inside (vert_flat_face H R (is_flat (flat_faces H R n)) n)) (replicate (n * 4) zero) n
 
--- ---- request 3's count
+-- ---- the count of circular tangents on an edge without direction
 
 -- The `else` of the loop's `is_inside_quad(edge_idx)`: `tangent_from_normal` of halfedge e, whose `circular_tangent` is on the edge of e. That edge has no direction.
 unfoldable pub first_directionless : Halfedges → List Float → (ℕ → Bool) → ℕ → Bool

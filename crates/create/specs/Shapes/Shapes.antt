@@ -44,7 +44,7 @@ shape_vert H P flat n vert m v = shape_crease H P flat n (vert_halfedge H n v) (
 unfoldable pub shape_verts : Halfedges → List Float → (ℕ → Bool) → ℕ → (ℕ → List Pair) → ℕ → Tangents → Tangents
 shape_verts H P flat n vert p m = fold_to (shape_vert H P flat n vert) m p
 
--- ---- request 3's count
+-- ---- the count of circular tangents on an edge without direction
 
 -- Of a point: with two pairs, `circular_tangent` of `new_tangent` and of `-new_tangent`, on either edge of the crease. No other case computes one.
 unfoldable pub crease_directionless : Halfedges → List Float → Crease → ℕ

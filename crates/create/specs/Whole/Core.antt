@@ -1,4 +1,4 @@
--- `create_tangents` of src/smoothing_tangents.rs: the tangents that it leaves on an accepted mesh, and request 3's count. H are the halfedges, P the positions, N the point normals, A the face normals, R the face references, E the sharp entries, T the tangents as lent, `old` whether these are old tangents, n and p the counts of halfedges and points.
+-- `create_tangents` of src/smoothing_tangents.rs: the tangents that it leaves on an accepted mesh, and how many circular tangents it computes on an edge without direction. H are the halfedges, P the positions, N the point normals, A the face normals, R the face references, E the sharp entries, T the tangents as lent, `old` whether these are old tangents, n and p the counts of halfedges and points.
 use Rattle.std.specs.Prelude.{ℕ, ◌+◌, List, Bool, ℤ, Float}
 use Rattle.mesh.specs.Mesh.{Halfedges}
 use Rattle.smoothing.specs.Edges.{is_inside_quad}
@@ -27,7 +27,7 @@ verts_of H R E n =
 unfoldable pub create_tangents : Halfedges → List Float → List Float → List Float → List ℤ → List Smoothness → List Float → Bool → ℕ → ℕ → List Float
 create_tangents H P N A R E T old n p = create_with H P N A R (verts_of H R E n) T old n p
 
--- ---- request 3's count: the circular tangents that the making computes on an edge without direction, with those that a crease writes over
+-- ---- the count: the circular tangents that the making computes on an edge without direction, with those that a crease writes over
 
 -- first the tangents that are not inside a quad, then both of each crease through a point. Straightening and spreading compute no circular tangent.
 unfoldable pub directionless_with : Halfedges → List Float → List ℤ → (ℕ → List Pair) → List Float → Bool → ℕ → ℕ → ℕ

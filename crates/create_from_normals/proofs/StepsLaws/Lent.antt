@@ -1,4 +1,4 @@
--- On an accepted mesh the lent lists hold what `normals_steps` reads and writes, and a walk names only such halfedges as it comes by. Assumes nothing.
+-- On an accepted mesh the lent lists hold what the module `steps` reads and writes, and a walk names only such halfedges as it comes by. Assumes nothing.
 use Prim.Native.Nat.{ℕ}
 use mathlib.Core.Path.{◌≡◌, sym, subst}
 use mathlib.Core.Bool.{Bool, true, false, xor}

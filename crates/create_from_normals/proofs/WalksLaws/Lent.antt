@@ -1,4 +1,4 @@
--- The lists of a call hold what `normals_walks` reads and writes. Assumes nothing.
+-- The lists of a call hold what the module `walks` reads and writes. Assumes nothing.
 use Prim.Native.Nat.{ℕ, ◌*◌, ◌+◌, ◌/◌, ◌<◌, ◌≤◌}
 use native.Mathlib.Omega.{arith}
 use mathlib.Core.Path.{◌≡◌, ap, subst, ◌∙◌}

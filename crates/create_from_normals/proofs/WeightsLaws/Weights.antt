@@ -27,7 +27,7 @@ use Rattle.distribute.specs.Steps.FloatSteps.{float_steps}
 use Rattle.distribute.proofs.WalksLaws.Lawful.{lawful}
 use Rattle.distribute.specs.Distribute.{spread_tangents}
 use Rattle.create_from_normals.specs.Whole.Core.{normal_tangents, create_tangents_from_normals}
-use Rattle.create_from_normals.specs.Weights.Weights.{MadeWeight, inside, further, circular, WeightsOf}
+use Rattle.create_from_normals.specs.Weights.{MadeWeight, inside, further, circular, WeightsOf}
 use Rattle.create_from_normals.proofs.WeightsLaws.Circular.{circular_clear}
 use Rattle.create_from_normals.proofs.WeightsLaws.Verts.{AllMade, vert_keeps}
 

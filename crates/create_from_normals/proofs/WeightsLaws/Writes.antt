@@ -24,7 +24,7 @@ use Rattle.create_from_normals.specs.Steps.Steps.{tangent_between, inside_quad_w
 use Rattle.create_from_normals.specs.declared.state.CycleState.{CycleState}
 use Rattle.create_from_normals.proofs.StepsLaws.Carried.{one_above}
 use Rattle.std.proofs.lemmas.Bool.{cond_both}
-use Rattle.create_from_normals.specs.Weights.Weights.{MadeWeight, inside, circular}
+use Rattle.create_from_normals.specs.Weights.{MadeWeight, inside, circular}
 
 -- ---- a write at halfedge e
 

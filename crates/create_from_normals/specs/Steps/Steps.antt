@@ -1,4 +1,4 @@
--- The bodies of the loops of `create_tangents_from_normals` over a vertex cycle, and its last step at a point; and what each adds to request 3's count. H are the halfedges, P the positions, A the face normals, `normal` gives the normal of a halfedge, `inside` which halfedges are inside a quad, T the tangents, X the fixed flags.
+-- The bodies of the loops of `create_tangents_from_normals` over a vertex cycle, and its last step at a point; and what each adds to the count of circular tangents on an edge without direction. H are the halfedges, P the positions, A the face normals, `normal` gives the normal of a halfedge, `inside` which halfedges are inside a quad, T the tangents, X the fixed flags.
 use Rattle.std.specs.Prelude.{ℕ, ◌<◌, List, Bool, cond, set, Float}
 use Rattle.std.specs.Float.Ieee.{lt, eq, neg}
 use Rattle.float.specs.Ops.{zero, one, three}

@@ -1,4 +1,4 @@
--- The loops of `create_tangents_from_normals` round a vertex cycle, what it does at a point, and the loop over the points; and what each adds to request 3's count, by the same steps. H are the halfedges, P the positions, N the point normals, A the face normals, `normal` gives the normal of a halfedge, `inside` which halfedges are inside a quad, n how many halfedges there are, T the tangents.
+-- The loops of `create_tangents_from_normals` round a vertex cycle, what it does at a point, and the loop over the points; and what each adds to the count of circular tangents on an edge without direction, by the same steps. H are the halfedges, P the positions, N the point normals, A the face normals, `normal` gives the normal of a halfedge, `inside` which halfedges are inside a quad, n how many halfedges there are, T the tangents.
 use Rattle.std.specs.Prelude.{ℕ, ◌+◌, Bool, cond, ◌&&◌, ltb, Float}
 use mathlib.Core.List.{List, foldl}
 use Rattle.linalg.specs.declared.Vec3.{Vec3}

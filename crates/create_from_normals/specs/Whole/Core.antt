@@ -1,4 +1,4 @@
--- `create_tangents_from_normals` of src/smoothing_tangents.rs: the tangents that it leaves on an accepted mesh, and request 3's count. H are the halfedges, P the positions, N the point normals, A the face normals, R the face references, `normal` gives the normal of a halfedge, T the tangents as lent, `old` whether these are old tangents, n and p the counts of halfedges and points.
+-- `create_tangents_from_normals` of src/smoothing_tangents.rs: the tangents that it leaves on an accepted mesh, and how many circular tangents it computes on an edge without direction. H are the halfedges, P the positions, N the point normals, A the face normals, R the face references, `normal` gives the normal of a halfedge, T the tangents as lent, `old` whether these are old tangents, n and p the counts of halfedges and points.
 use Rattle.std.specs.Prelude.{ℕ, ◌*◌, ◌≡◌, List, Bool, length, replicate, ℤ, Float}
 use Rattle.float.specs.Ops.{zero}
 use Rattle.linalg.specs.declared.Vec3.{Vec3}
@@ -40,7 +40,7 @@ create_tangents_from_normals H P N A R normal T old n p =
     let m = normal_tangents H P N A R normal T old n p in
     (spread_tangents H P N m.fixed m.tangents n).tangents
 
--- ---- request 3's count: the circular tangents that the making computes on an edge without direction, with those that are written over
+-- ---- the count: the circular tangents that the making computes on an edge without direction, with those that are written over
 
 -- of the loop over the points. Spreading computes no circular tangent.
 unfoldable pub from_normals_directionless : Halfedges → List Float → List Float → List Float → List ℤ → (ℕ → Vec3) → List Float → Bool → ℕ → ℕ → ℕ

@@ -1,4 +1,4 @@
--- `create_creases::count` meets its contract: 0 counts as 0, all else as 1. Assumes nothing.
+-- `create::creases::count` meets its contract: 0 counts as 0, all else as 1. Assumes nothing.
 use Rattle.std.proofs.Common.{◌≡◌, refl, ◌∙◌, Bool, true, false, cond, not, pos}
 use lib.Ieee.{binary64, of_int, of_bits, eq, ne}
 use mir.Val.{bool_byte}

@@ -1,4 +1,4 @@
--- `create_creases::crease_sums` meets its contract. The invariant: the sums over what is left of the list, from those so far, are the sums over all. Assumes nothing.
+-- `create::creases::crease_sums` meets its contract. The invariant: the sums over what is left of the list, from those so far, are the sums over all. Assumes nothing.
 use native.Mathlib.Omega.{arith}
 use mathlib.Core.Path.{sym}
 use mathlib.Core.List.{foldl-map}

@@ -1,4 +1,4 @@
--- `create_creases::link_creases` meets its contract. The invariant: the creases from f on are linked. Assumes nothing.
+-- `create::creases::link_creases` meets its contract. The invariant: the creases from f on are linked. Assumes nothing.
 use mathlib.Core.Path.{◌≡◌}
 use lib.ListN.{length}
 use native.Mathlib.Omega.{arith}

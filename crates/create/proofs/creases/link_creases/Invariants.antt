@@ -1,4 +1,4 @@
--- `create_creases::link_creases` meets its contract. The invariant: the creases from f on are linked. Assumes nothing.
+-- `create::creases::link_creases` meets its contract. The invariant: the creases from f on are linked. Assumes nothing.
 use lib.ListN.{length}
 use Rattle.mesh.specs.Mesh.{as_halfedges}
 use Rattle.create.specs.Creases.Linked.{LinkedFrom}

@@ -1,4 +1,4 @@
--- `create_creases::link_edge` meets its contract: no crease, or both of its halfedges are put in front. Assumes nothing.
+-- `create::creases::link_edge` meets its contract: no crease, or both of its halfedges are put in front. Assumes nothing.
 use mathlib.Core.Path.{refl, sym, ◌∙◌}
 use native.Mathlib.Omega.{arith}
 use lib.ListN.{length}

@@ -1,4 +1,4 @@
--- `create_edges::add_flat_boundaries` meets its contract. The invariant: the list is the fold over the halfedges passed. Assumes nothing.
+-- `create::edges::add_flat_boundaries` meets its contract. The invariant: the list is the fold over the halfedges passed. Assumes nothing.
 use mathlib.Core.Path.{◌≡◌}
 use Rattle.common.specs.Fold.{fold_to}
 use Rattle.mesh.specs.Mesh.{as_halfedges}

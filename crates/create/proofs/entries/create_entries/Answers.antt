@@ -1,4 +1,4 @@
--- `create_entries::create_entries` meets its contract. Assumes nothing.
+-- `create::entries::create_entries` meets its contract. Assumes nothing.
 use Rattle.std.proofs.Common.{◌≡◌, sym, subst, ◌∙◌, Ok, rules}
 use Rattle.mesh.specs.Mesh.{as_halfedges}
 use Rattle.create_shared.proofs.Answered.{values_of}

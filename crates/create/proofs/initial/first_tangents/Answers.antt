@@ -1,4 +1,4 @@
--- `create_initial::first_tangents` meets its contract: three calls in a row. Assumes nothing.
+-- `create::initial::first_tangents` meets its contract: three calls in a row. Assumes nothing.
 use mathlib.Core.Path.{◌≡◌, ap, ◌∙◌}
 use Rattle.mesh.specs.Mesh.{as_halfedges}
 use Rattle.smoothing.specs.Faces.{is_flat}

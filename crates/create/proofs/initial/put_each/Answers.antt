@@ -1,4 +1,4 @@
--- `create_initial::put_each` meets its contract. The invariant: the list is the fold over the halfedges passed, and holds the lent weights from there on; and it is counted which of those passed have no direction. Assumes nothing.
+-- `create::initial::put_each` meets its contract. The invariant: the list is the fold over the halfedges passed, and holds the lent weights from there on; and it is counted which of those passed have no direction. Assumes nothing.
 use Rattle.create.proofs.InitialLaws.Counts.{firsts_within}
 use Rattle.create.proofs.InitialLaws.First.{first_turn, first_ahead, first_counts}
 use Rattle.create.specs.Initial.Lent.{inside_quad, counts_first}

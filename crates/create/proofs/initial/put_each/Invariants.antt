@@ -1,4 +1,4 @@
--- `create_initial::put_each` meets its contract. The invariant: the list is the fold over the halfedges passed, and holds the lent weights from there on; and it is counted which of those passed have no direction. Assumes nothing.
+-- `create::initial::put_each` meets its contract. The invariant: the list is the fold over the halfedges passed, and holds the lent weights from there on; and it is counted which of those passed have no direction. Assumes nothing.
 use Rattle.create.specs.Initial.Lent.{counts_first, put_first}
 use Rattle.smoothing.specs.Lists.{weight_at}
 use Rattle.common.specs.Fold.{fold_to}

@@ -1,4 +1,4 @@
--- `create_initial::put_edges` meets its contract. The invariant: the list is the fold over the edges passed, and the count the sum over them, which at the end are those over the halfedges. Assumes nothing.
+-- `create::initial::put_edges` meets its contract. The invariant: the list is the fold over the edges passed, and the count the sum over them, which at the end are those over the halfedges. Assumes nothing.
 use Prim.Native.Nat.{◌+◌}
 use native.Mathlib.Omega.{arith}
 use mathlib.Core.Path.{◌≡◌, ◌∙◌}

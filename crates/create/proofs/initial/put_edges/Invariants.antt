@@ -1,4 +1,4 @@
--- `create_initial::put_edges` meets its contract. The invariant: the list is the fold over the edges passed, and the count the sum over them, which at the end are those over the halfedges. Assumes nothing.
+-- `create::initial::put_edges` meets its contract. The invariant: the list is the fold over the edges passed, and the count the sum over them, which at the end are those over the halfedges. Assumes nothing.
 use mathlib.Core.Path.{◌≡◌}
 use mathlib.Core.Bool.{false}
 use Rattle.common.specs.Fold.{fold_to}

@@ -1,4 +1,4 @@
--- `create_sharpen::shape_through` meets its contract: the lists hold what `align_tangents` writes. Assumes nothing.
+-- `create::shapes::shape_through` meets its contract: the lists hold what `align_tangents` writes. Assumes nothing.
 use native.Mathlib.Omega.{arith}
 use Rattle.create.proofs.ShapesLaws.Lent.{making_in}
 use Rattle.create.proofs.shapes.shape_through.Goals as goal

@@ -1,4 +1,4 @@
--- `create_sharpen::shape_vert` meets its contract: three calls in a row. Assumes nothing.
+-- `create::shapes::shape_vert` meets its contract: three calls in a row. Assumes nothing.
 use Rattle.smoothing.specs.Faces.{is_flat}
 use Rattle.create_shared.specs.Makings.{tangents_of}
 use Rattle.create.proofs.ShapesLaws.Lent.{crease_in, crease_apart}

@@ -1,4 +1,4 @@
--- `create_sharpen::shape_verts` meets its contract. The invariant: both lists are the fold over the points passed, and the count is the sum over them. Assumes nothing.
+-- `create::shapes::shape_verts` meets its contract. The invariant: both lists are the fold over the points passed, and the count is the sum over them. Assumes nothing.
 use Rattle.create.specs.Shapes.Lent.{vert_count}
 use Rattle.create.proofs.ShapesLaws.Bound.{creases_within}
 use Rattle.common.proofs.Sums.{sum_turn, sum_mono}

@@ -1,4 +1,4 @@
--- `create_sharpen::shape_verts` meets its contract. The invariant: both lists are the fold over the points passed, and the count is the sum over them. Assumes nothing.
+-- `create::shapes::shape_verts` meets its contract. The invariant: both lists are the fold over the points passed, and the count is the sum over them. Assumes nothing.
 use mathlib.Core.Path.{◌≡◌}
 use Rattle.common.specs.Fold.{fold_to}
 use Rattle.common.specs.Count.{sum}

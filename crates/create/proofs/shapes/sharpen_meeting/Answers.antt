@@ -1,4 +1,4 @@
--- `create_sharpen::sharpen_meeting` meets its contract: a walk once round a vertex cycle. The invariant: what is left of the fold gives the whole. Assumes nothing.
+-- `create::shapes::sharpen_meeting` meets its contract: a walk once round a vertex cycle. The invariant: what is left of the fold gives the whole. Assumes nothing.
 use Rattle.create.specs.Shapes.Lent.{mesh_of}
 use Rattle.create.specs.Shapes.Sharpen.{sharpen_meeting_at, sharpen_meeting}
 use Rattle.cycles.proofs.Around.{next_permutes}

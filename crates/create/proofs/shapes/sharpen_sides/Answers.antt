@@ -1,4 +1,4 @@
--- `create_sharpen::sharpen_sides` meets its contract: a walk once round a vertex cycle. The invariant: what is left of the fold gives the whole. Assumes nothing.
+-- `create::shapes::sharpen_sides` meets its contract: a walk once round a vertex cycle. The invariant: what is left of the fold gives the whole. Assumes nothing.
 use Rattle.create.specs.Shapes.Sharpen.{Sides, sides_of, sharpen_side, sharpen_sides}
 use Rattle.cycles.proofs.Around.{next_permutes}
 use Rattle.cycles.proofs.Loops.{around_start, around_step, around_less, around_fold_step, around_fold_stop}

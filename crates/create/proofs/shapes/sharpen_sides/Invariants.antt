@@ -1,4 +1,4 @@
--- `create_sharpen::sharpen_sides` meets its contract: a walk once round a vertex cycle. The invariant: what is left of the fold gives the whole. Assumes nothing.
+-- `create::shapes::sharpen_sides` meets its contract: a walk once round a vertex cycle. The invariant: what is left of the fold gives the whole. Assumes nothing.
 use Rattle.create.specs.Shapes.Lent.{mesh_of}
 use Rattle.create.specs.Shapes.Sharpen.{sides_of, sharpen_side}
 use Rattle.cycles.proofs.Loops.{Walking}

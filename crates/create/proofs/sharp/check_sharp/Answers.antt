@@ -1,4 +1,4 @@
--- `create_smoothness::check_sharp` meets its contract: place k of either flat list is that of entry k.
+-- `create::sharp::check_sharp` meets its contract: place k of either flat list is that of entry k.
 use Rattle.std.proofs.Common.{rules, sym}
 use Rattle.std.proofs.lemmas.List.{get_or-map, length-map}
 use Rattle.std.specs.Float.{nan}

@@ -1,4 +1,4 @@
--- `create_smoothness::entry_smoothness` meets its contract. Assumes nothing.
+-- `create::sharp::entry_smoothness` meets its contract. Assumes nothing.
 use Rattle.std.proofs.Common.{rules}
 use Prim.Native.Nat.{◌<◌}
 use mathlib.Core.Path.{◌≡◌, ap, ◌∙◌}
@@ -17,10 +17,10 @@ use Rattle.create.proofs.sharp.entry_smoothness.Goals as goal
 use Rattle.create.proofs.sharp.entry_smoothness.Goals.{In-Some}
 
 -- this turn's pair is the entry at its place
-turn : (c : In-Some) → (length c.loop-e.yielded < length (entries_of c.args.entries.now c.args.values.now)) × (get_or (entries_of c.args.entries.now c.args.values.now) (length c.loop-e.yielded) no_entry ≡ record { halfedge = c.in-Some.e.now; smoothness = c.in-Some.s.now })
+turn : (c : In-Some) → (length c.loop-e.yielded < length (entries_of c.args.entries.now c.args.smoothness.now)) × (get_or (entries_of c.args.entries.now c.args.smoothness.now) (length c.loop-e.yielded) no_entry ≡ record { halfedge = c.in-Some.e.now; smoothness = c.in-Some.s.now })
 turn c =
     let I = c.args.entries.now in
-    let Q = c.args.values.now in
+    let Q = c.args.smoothness.now in
     let same = c.requires.0 in
     let start = c.into_iter-e-iterator.result in
     let first : iter_rest (zip_first start) ≡ I = search rules in
@@ -35,7 +35,7 @@ add_entry-requires c =
 
 pub loop-e-preserved : goal.loop-e-preserved
 loop-e-preserved c =
-    let E = entries_of c.args.entries.now c.args.values.now in
+    let E = entries_of c.args.entries.now c.args.smoothness.now in
     let l = c.loop-e in
     let t = turn (goal.at.loop-e-preserved c).In-Some in
     rw (length_push l.yielded (c.in-Some.e, c.in-Some.s), add_more c.fill.new.self E _ t.0, t.1, ← l.invariant) c.add_entry.ensures
@@ -43,7 +43,7 @@ loop-e-preserved c =
 pub returns : goal.returns
 returns c =
     let I = c.args.entries.now in
-    let Q = c.args.values.now in
+    let Q = c.args.smoothness.now in
     let E = entries_of I Q in
     let start = c.into_iter-e-iterator.result in
     let first : iter_rest (zip_first start) ≡ I = search rules in

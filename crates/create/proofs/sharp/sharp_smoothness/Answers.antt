@@ -1,4 +1,4 @@
--- `create_smoothness::sharp_smoothness` meets its contract. Assumes nothing.
+-- `create::sharp::sharp_smoothness` meets its contract. Assumes nothing.
 use Rattle.create.proofs.SharpLaws.Adding.{all_added}
 use Rattle.std.proofs.Common.{◌∙◌, arith}
 use Rattle.create.proofs.sharp.sharp_smoothness.Goals as goal

@@ -1,4 +1,4 @@
--- `create_core::make_tangents` meets its contract: three calls in a row. Assumes nothing.
+-- `create::whole::make_tangents` meets its contract: three calls in a row. Assumes nothing.
 use Rattle.mesh.specs.Mesh.{as_halfedges}
 use Rattle.create.proofs.WholeLaws.Core.{created}
 use Rattle.create.proofs.whole.make_tangents.Goals as goal

@@ -1,4 +1,4 @@
--- `create_core::shape_tangents` meets its contract: four calls in a row. Assumes nothing.
+-- `create::whole::shape_tangents` meets its contract: four calls in a row. Assumes nothing.
 use Prim.Native.Nat.{◌+◌}
 use native.Mathlib.Omega.{arith}
 use mathlib.Core.Path.{◌≡◌, ap, ◌∙◌}

@@ -1,4 +1,4 @@
--- `normals_state::put_units` meets its contract. The invariant: the list is the fold over the triangles passed. Assumes nothing.
+-- `create_from_normals::state::put_units` meets its contract. The invariant: the list is the fold over the triangles passed. Assumes nothing.
 use mathlib.Core.Path.{◌≡◌}
 use Rattle.common.specs.Fold.{fold_to}
 use Rattle.create_from_normals.specs.State.Units.{put_unit}

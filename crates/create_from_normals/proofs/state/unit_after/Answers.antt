@@ -1,4 +1,4 @@
--- `normals_state::unit_after` meets its contract: where the normals are the same, so are their unit vectors. Assumes nothing.
+-- `create_from_normals::state::unit_after` meets its contract: where the normals are the same, so are their unit vectors. Assumes nothing.
 use mathlib.Core.Path.{sym, ap, ◌∙◌}
 use Rattle.smoothing.specs.Directions.{safe_normalize}
 use Rattle.create_from_normals.proofs.StateLaws.Carried.{same_normal_lem}

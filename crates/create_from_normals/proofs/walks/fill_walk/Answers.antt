@@ -1,4 +1,4 @@
--- `normals_walks::fill_walk` meets its contract: a walk once round a vertex cycle, backwards. The invariant: what is left of the counted fold gives the whole. Assumes nothing.
+-- `create_from_normals::walks::fill_walk` meets its contract: a walk once round a vertex cycle, backwards. The invariant: what is left of the counted fold gives the whole. Assumes nothing.
 use Rattle.create_from_normals.specs.Walks.Walks.{fill_walk, fill_walk_directionless}
 use Rattle.create_from_normals.proofs.WalksLaws.Counting.{Counting, counting_start, counting_step, counting_less, counting_within, counting_state, counting_count}
 use Rattle.create_from_normals.specs.Steps.Steps.{Fill, fill_of, fill_step, fill_directionless}

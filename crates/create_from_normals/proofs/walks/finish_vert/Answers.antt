@@ -1,4 +1,4 @@
--- `normals_walks::finish_vert` meets its contract: what its calls need, and a bound of what it counts. Assumes nothing.
+-- `create_from_normals::walks::finish_vert` meets its contract: what its calls need, and a bound of what it counts. Assumes nothing.
 use native.Mathlib.Omega.{arith}
 use mathlib.Core.Path.{sym, subst, ◌∙◌}
 use Rattle.create_from_normals.specs.Steps.Steps.{FaceEdgesIn}

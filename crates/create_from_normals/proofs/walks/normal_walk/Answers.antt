@@ -1,4 +1,4 @@
--- `normals_walks::normal_walk` meets its contract: a walk once round a vertex cycle. The invariant: what is left of the counted fold gives the whole, and the normal that is carried is the current halfedge's. Assumes nothing.
+-- `create_from_normals::walks::normal_walk` meets its contract: a walk once round a vertex cycle. The invariant: what is left of the counted fold gives the whole, and the normal that is carried is the current halfedge's. Assumes nothing.
 use Rattle.create_from_normals.specs.Walks.Walks.{normal_walk, normal_walk_directionless}
 use Rattle.create_from_normals.specs.declared.walks.lists.WalkLists.{WalkLists}
 use Rattle.create_from_normals.specs.Walks.Lists.{mesh_of, normal_of}

@@ -1,4 +1,4 @@
--- `normals_walks::normal_walk` meets its contract: a walk once round a vertex cycle. The invariant: what is left of the counted fold gives the whole, and the normal that is carried is the current halfedge's. Assumes nothing.
+-- `create_from_normals::walks::normal_walk` meets its contract: a walk once round a vertex cycle. The invariant: what is left of the counted fold gives the whole, and the normal that is carried is the current halfedge's. Assumes nothing.
 use Rattle.create_from_normals.specs.Walks.Lists.{mesh_of, normal_of}
 use Rattle.create_from_normals.proofs.WalksLaws.Counting.{Counting}
 use Rattle.create_from_normals.specs.Steps.Steps.{StateIn, walk_of, normal_step, normal_step_directionless}

@@ -1,4 +1,4 @@
--- `normals_walks::normals_vert` meets its contract: a bound of what it counts. Assumes nothing.
+-- `create_from_normals::walks::normals_vert` meets its contract: a bound of what it counts. Assumes nothing.
 use native.Mathlib.Omega.{arith}
 use Rattle.common.proofs.Count.{count_within}
 use Rattle.cycles.proofs.Starts.{starts_at}

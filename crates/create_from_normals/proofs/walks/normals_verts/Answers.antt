@@ -1,4 +1,4 @@
--- `normals_walks::normals_verts` meets its contract. The invariant: both lists and the count are the counted fold over the points passed. Assumes nothing.
+-- `create_from_normals::walks::normals_verts` meets its contract. The invariant: both lists and the count are the counted fold over the points passed. Assumes nothing.
 use Rattle.create_from_normals.specs.Walks.Walks.{normals_verts, normals_verts_directionless}
 use Rattle.create_from_normals.proofs.WalksLaws.Counting.{turn}
 use Rattle.create_from_normals.proofs.WalksLaws.Bound.{verts_within}

@@ -1,4 +1,4 @@
--- `normals_walks::normals_verts` meets its contract. The invariant: both lists and the count are the counted fold over the points passed. Assumes nothing.
+-- `create_from_normals::walks::normals_verts` meets its contract. The invariant: both lists and the count are the counted fold over the points passed. Assumes nothing.
 use Rattle.create_from_normals.specs.Walks.Lists.{normals_vert_by, normals_vert_count}
 use Rattle.create_shared.specs.Makings.{tangents_of}
 use Rattle.common.specs.Fold.{fold_to}

@@ -1,4 +1,4 @@
--- `normals_walks::vert_normal_walk` meets its contract: a walk once round a vertex cycle. The invariant: what is left of the counted fold gives the whole. Assumes nothing.
+-- `create_from_normals::walks::vert_normal_walk` meets its contract: a walk once round a vertex cycle. The invariant: what is left of the counted fold gives the whole. Assumes nothing.
 use Rattle.create_from_normals.specs.Walks.Walks.{vert_normal_walk, vert_normal_walk_directionless}
 use Rattle.create_from_normals.proofs.WalksLaws.Counting.{counting_start, counting_step, counting_less, counting_within, counting_state, counting_count}
 use Rattle.create_from_normals.proofs.StepsLaws.Counts.{vert_normal_one}

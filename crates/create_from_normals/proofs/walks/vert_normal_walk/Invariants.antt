@@ -1,4 +1,4 @@
--- `normals_walks::vert_normal_walk` meets its contract: a walk once round a vertex cycle. The invariant: what is left of the counted fold gives the whole. Assumes nothing.
+-- `create_from_normals::walks::vert_normal_walk` meets its contract: a walk once round a vertex cycle. The invariant: what is left of the counted fold gives the whole. Assumes nothing.
 use Rattle.create_from_normals.specs.Walks.Lists.{mesh_of}
 use Rattle.create_from_normals.proofs.WalksLaws.Counting.{Counting}
 use Rattle.create_from_normals.specs.Steps.Steps.{vert_normal_step, vert_normal_directionless}

@@ -1,4 +1,4 @@
--- `normals_core::inside_quad_step` meets its contract: each way is what the test picks; the pair has the same flag. Assumes nothing.
+-- `create_from_normals::whole::inside_quad_step` meets its contract: each way is what the test picks; the pair has the same flag. Assumes nothing.
 use mathlib.Core.Bool.{true≢false}
 use mathlib.Core.Path.{sym, ◌∙◌}
 use Rattle.smoothing.specs.Inner.{put_edge}

@@ -1,4 +1,4 @@
--- `normals_core::inside_quads` meets its contract: the invariant: the list is the fold over the halfedges passed. Assumes nothing.
+-- `create_from_normals::whole::inside_quads` meets its contract: the invariant: the list is the fold over the halfedges passed. Assumes nothing.
 use native.Mathlib.Omega.{arith}
 use Rattle.create_from_normals.proofs.WholeLaws.Flags.{inside_ended}
 use Rattle.create_from_normals.proofs.whole.inside_quads.Goals as goal

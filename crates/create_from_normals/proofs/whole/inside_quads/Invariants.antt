@@ -1,4 +1,4 @@
--- `normals_core::inside_quads` meets its contract: the invariant: the list is the fold over the halfedges passed. Assumes nothing.
+-- `create_from_normals::whole::inside_quads` meets its contract: the invariant: the list is the fold over the halfedges passed. Assumes nothing.
 use mathlib.Core.Path.{◌≡◌}
 use Rattle.common.specs.Fold.{fold_to}
 use Rattle.create_from_normals.specs.Whole.Flags.{halfedges_of, inside_quad_step}

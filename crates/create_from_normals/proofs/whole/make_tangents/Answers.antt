@@ -1,4 +1,4 @@
--- `normals_core::make_tangents` meets its contract: four calls in a row. Assumes nothing.
+-- `create_from_normals::whole::make_tangents` meets its contract: four calls in a row. Assumes nothing.
 use Rattle.create_from_normals.proofs.StateLaws.Units.{units_in}
 use Rattle.create_from_normals.specs.Walks.Lists.{mesh_of, normal_of}
 use Rattle.create_from_normals.proofs.WholeLaws.Core.{created}

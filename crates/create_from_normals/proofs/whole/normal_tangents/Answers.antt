@@ -1,4 +1,4 @@
--- `normals_core::normal_tangents` meets its contract: five calls in a row. Assumes nothing.
+-- `create_from_normals::whole::normal_tangents` meets its contract: five calls in a row. Assumes nothing.
 use Rattle.float.specs.Ops.{zero}
 use Rattle.common.proofs.Filled.{cleared}
 use Rattle.create_from_normals.specs.Walks.Lists.{normal_of}
