@@ -11,8 +11,8 @@ ghost use Rattle.mesh.specs.Mesh.{as_halfedges};
 ghost use Rattle.sharpen.specs.declared.edge.Rule.TheVariants.{Ported, Clean};
 ghost use Rattle.sharpen.specs.Entries.{entries_in, push_edge, list_edge, list_edges};
 ghost use Rattle.sharpen.specs.Turn.{listed_by, EdgeFits};
-ghost use Rattle.sharpen.specs.Sharpen.{entries_of, tally_of, lengths_fit, sharpen_edges, entries_after, Values};
-ghost use Rattle.sharpen.specs.Edges.{HoldEdges, EntriesFiltered, edges_after};
+ghost use Rattle.sharpen.specs.Sharpen.{entries_of, tally_of, lengths_fit};
+ghost use Rattle.sharpen.specs.Edges.{EntriesFiltered, Outcome};
 
 mod crease_lists;
 mod edge;
@@ -121,7 +121,7 @@ fn lengths_fit(
 }
 
 // The listing by a rule: what both calls do.
-#[tactic(auto, using(crate::proofs::Room::lists_checked, crate::proofs::Values::values_of, crate::proofs::Values::parts_of))]
+#[tactic(auto, using(crate::proofs::Room::lists_checked, crate::proofs::Outcome::outcome_refused))]
 fn sharpen_by(
     rule: Rule,
     n: usize,
@@ -133,12 +133,7 @@ fn sharpen_by(
     halfedges: &mut [usize],
     smoothness: &mut [f64],
 ) -> Result<Listed, Refusal>
-    ensures answer { result ≡ sharpen_edges rule (as_halfedges h.now) normals.now angle smooth halfedges.old smoothness.old n p }
-    ensures listed { halfedges.new ≡ (entries_after rule (as_halfedges h.now) normals.now angle smooth halfedges.old smoothness.old n p).halfedges }
-    ensures copied { smoothness.new ≡ (entries_after rule (as_halfedges h.now) normals.now angle smooth halfedges.old smoothness.old n p).smoothness }
-    ensures values { Values rule (as_halfedges h.now) normals.now angle smooth halfedges.old smoothness.old n p result }
-    ensures edges { HoldEdges (as_halfedges h.now) smooth halfedges.old smoothness.old (edges_after rule (as_halfedges h.now) normals.now angle halfedges.old smoothness.old n p) (entries_in halfedges.new smoothness.new (entries_of result)) }
-    ensures counted { tally_of result ≡ length (edges_after Clean (as_halfedges h.now) normals.now angle halfedges.old smoothness.old n p) }
+    ensures outcome { Outcome rule (as_halfedges h.now) normals.now angle smooth halfedges.old smoothness.old n p halfedges.new smoothness.new result }
 {
     let checked = questions::check_mesh(h, n, p, lengths_fit(n, h, normals, halfedges, smoothness));
     // Document 01's form by place: the check's answer is opened by `let .. else`.
@@ -173,12 +168,7 @@ pub fn sharpen_edges(
     halfedges: &mut [usize],
     smoothness: &mut [f64],
 ) -> Result<Listed, Refusal>
-    ensures answer { result ≡ sharpen_edges Ported (as_halfedges h.now) normals.now angle smooth halfedges.old smoothness.old n p }
-    ensures listed { halfedges.new ≡ (entries_after Ported (as_halfedges h.now) normals.now angle smooth halfedges.old smoothness.old n p).halfedges }
-    ensures copied { smoothness.new ≡ (entries_after Ported (as_halfedges h.now) normals.now angle smooth halfedges.old smoothness.old n p).smoothness }
-    ensures values { Values Ported (as_halfedges h.now) normals.now angle smooth halfedges.old smoothness.old n p result }
-    ensures edges { HoldEdges (as_halfedges h.now) smooth halfedges.old smoothness.old (edges_after Ported (as_halfedges h.now) normals.now angle halfedges.old smoothness.old n p) (entries_in halfedges.new smoothness.new (entries_of result)) }
-    ensures counted { tally_of result ≡ length (edges_after Clean (as_halfedges h.now) normals.now angle halfedges.old smoothness.old n p) }
+    ensures outcome { Outcome Ported (as_halfedges h.now) normals.now angle smooth halfedges.old smoothness.old n p halfedges.new smoothness.new result }
 {
     sharpen_by(
         Rule::Ported,
@@ -204,12 +194,7 @@ pub fn sharpen_edges_clean(
     halfedges: &mut [usize],
     smoothness: &mut [f64],
 ) -> Result<Listed, Refusal>
-    ensures answer { result ≡ sharpen_edges Clean (as_halfedges h.now) normals.now angle smooth halfedges.old smoothness.old n p }
-    ensures listed { halfedges.new ≡ (entries_after Clean (as_halfedges h.now) normals.now angle smooth halfedges.old smoothness.old n p).halfedges }
-    ensures copied { smoothness.new ≡ (entries_after Clean (as_halfedges h.now) normals.now angle smooth halfedges.old smoothness.old n p).smoothness }
-    ensures values { Values Clean (as_halfedges h.now) normals.now angle smooth halfedges.old smoothness.old n p result }
-    ensures edges { HoldEdges (as_halfedges h.now) smooth halfedges.old smoothness.old (edges_after Clean (as_halfedges h.now) normals.now angle halfedges.old smoothness.old n p) (entries_in halfedges.new smoothness.new (entries_of result)) }
-    ensures counted { tally_of result ≡ length (edges_after Clean (as_halfedges h.now) normals.now angle halfedges.old smoothness.old n p) }
+    ensures outcome { Outcome Clean (as_halfedges h.now) normals.now angle smooth halfedges.old smoothness.old n p halfedges.new smoothness.new result }
     ensures filtered { EntriesFiltered (as_halfedges h.now) normals.now angle smooth halfedges.old smoothness.old n p (entries_in halfedges.new smoothness.new (entries_of result)) }
 {
     sharpen_by(
