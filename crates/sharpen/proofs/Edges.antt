@@ -156,7 +156,7 @@ module _ (H : Halfedges) (A : List Float) (angle : Float) (n : ℕ) where
     holds_edges : (rule : Rule) (smooth : Float) → HoldEdges H smooth I Q (edges_of rule H A angle n) (creases rule H A angle smooth I Q n)
     holds_edges rule smooth =
         let lists = lists_checked H A I Q n p accepted in
-        rw (edges_are rule) at (edges_held H smooth I Q (is_listed rule H A (min_radians angle)) n lists.halfedges lists.smoothness (entries_room rule A (min_radians angle) lists.sound) n (omega arith))
+        rw (edges_are rule) at (edges_held H smooth I Q (is_listed rule H A (min_radians angle)) n lists.entries lists.smoothness (entries_room rule A (min_radians angle) lists.sound) n (omega arith))
 
 -- what is in front of the lists
 entries_front : {H : Halfedges} {smooth : Float} {I : List ℕ} {Q : List Float} {edges : List ℕ} {s : Entries} → HoldEdges H smooth I Q edges s → take s.count s.halfedges ≡ entries_of H edges
