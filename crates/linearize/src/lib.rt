@@ -21,7 +21,7 @@ fn lengths_fit(n: usize, p: usize, h: &[i32], pos: &[f64], t: &[f64]) -> bool
 
 // The call, for lists of any length and content.
 // The signature stays flat, as the C interface lends: counts, lists read, lists written, scratch.
-#[tactic(auto, using(crate::proofs::Laws::accepted_lists))]
+#[tactic(auto, using(questions::proofs::Accepted::accepted))]
 pub fn linearize_flat_tangents(
     n: usize,
     p: usize,

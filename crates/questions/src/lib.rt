@@ -201,34 +201,34 @@ pub fn check_refs(sofar: Result<(), Refusal>, refs: &[i32], n: usize) -> Result<
 #[tactic(auto, unfolding(crate::specs::Check::check_entries))]
 pub fn check_entries(
     sofar: Result<(), Refusal>,
-    halfedges: &[usize],
+    entries: &[usize],
     smoothness: &[f64],
     n: usize,
 ) -> Result<(), Refusal>
-    ensures answer { result ≡ check_entries sofar halfedges.now smoothness.now n }
-    ensures accepted { (result ≡ Ok tt) ↔ ((sofar ≡ Ok tt) × ((k : ℕ) → k < length halfedges.now → (get_or halfedges.now k 0 < n) × (sign_clear (get_or smoothness.now k nan) ≡ true))) }
+    ensures answer { result ≡ check_entries sofar entries.now smoothness.now n }
+    ensures accepted { (result ≡ Ok tt) ↔ ((sofar ≡ Ok tt) × ((k : ℕ) → k < length entries.now → (get_or entries.now k 0 < n) × (sign_clear (get_or smoothness.now k nan) ≡ true))) }
 {
     sofar?;
     ask(
         Question::Entry,
-        halfedges.len(),
-        |k| names_halfedge(halfedges, n, k),
+        entries.len(),
+        |k| names_halfedge(entries, n, k),
     )?;
     ask(
         Question::Sign,
-        halfedges.len(),
+        entries.len(),
         |k| has_clear_sign(smoothness, k),
     )
 }
 
-// Question 11, after those of `check_mesh`: the flags of the halfedges.
+// Question 11, after those of `check_mesh`: the flags of fixed halfedges.
 #[tactic(auto, unfolding(crate::specs::Check::check_flags))]
-pub fn check_flags(mesh: Result<(), Refusal>, flags: &[u8], n: usize) -> Result<(), Refusal>
-    ensures answer { result ≡ check_flags mesh flags.now n }
-    ensures accepted { (result ≡ Ok tt) ↔ ((mesh ≡ Ok tt) × ((e : ℕ) → e < n → get_or flags.now e 0 ≤ 1)) }
+pub fn check_flags(mesh: Result<(), Refusal>, fixed: &[u8], n: usize) -> Result<(), Refusal>
+    ensures answer { result ≡ check_flags mesh fixed.now n }
+    ensures accepted { (result ≡ Ok tt) ↔ ((mesh ≡ Ok tt) × ((e : ℕ) → e < n → get_or fixed.now e 0 ≤ 1)) }
 {
     mesh?;
-    ask(Question::Flag, n, |e| is_flag(flags, e))
+    ask(Question::Flag, n, |e| is_flag(fixed, e))
 }
 
 // Question 12, after those of `check_mesh`: the rows of the halfedges, of which there are so many.

@@ -74,10 +74,10 @@ pub fn has_mesh(refs: &[i32], t: usize) -> bool
     number_at(refs, t, REF_STRIDE, 0) >= 1
 }
 
-pub fn names_halfedge(halfedges: &[usize], n: usize, k: usize) -> bool
-    ensures { result ≡ names_halfedge halfedges.now n k }
+pub fn names_halfedge(entries: &[usize], n: usize, k: usize) -> bool
+    ensures { result ≡ names_halfedge entries.now n k }
 {
-    halfedges.get(k).copied().unwrap_or(0) < n
+    entries.get(k).copied().unwrap_or(0) < n
 }
 
 #[tactic(auto, unfolding(crate::specs::Questions::sign_clear))]
@@ -87,10 +87,10 @@ pub fn has_clear_sign(smoothness: &[f64], k: usize) -> bool
     smoothness.get(k).is_some_and(|s| sign_clear(*s))
 }
 
-pub fn is_flag(flags: &[u8], e: usize) -> bool
-    ensures { result ≡ is_flag flags.now e }
+pub fn is_flag(fixed: &[u8], e: usize) -> bool
+    ensures { result ≡ is_flag fixed.now e }
 {
-    flags.get(e).copied().unwrap_or(0) <= 1
+    fixed.get(e).copied().unwrap_or(0) <= 1
 }
 
 pub fn has_row(h: &[i32], rows: usize, e: usize) -> bool

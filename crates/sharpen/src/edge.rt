@@ -56,8 +56,8 @@ pub fn edge_kind(lists: &CreaseLists<'_>, e: usize) -> EdgeKind
         return EdgeKind::NoCrease;
     }
     let pair = mesh::paired_halfedge(lists.h, e);
-    let own = smoothing::point_at(lists.normals, e / 3);
-    let other = smoothing::point_at(lists.normals, pair / 3);
+    let own = smoothing::point_at(lists.face_normals, e / 3);
+    let other = smoothing::point_at(lists.face_normals, pair / 3);
     let d = linalg::dot(own, other);
     if dihedral(d) > lists.limit {
         // A crease that touches a zero normal has the dot product zero.

@@ -90,7 +90,7 @@ fn lengths_fit(n: usize, p: usize, h: &[i32], pos: &[f64]) -> bool
 
 // The public call, for lists of any length and content. Of the positions only the length is asked about.
 // The signature stays flat, as the C interface lends: counts, then the lists that are read.
-#[tactic(auto, using(crate::proofs::Laws::accepted_lists))]
+#[tactic(auto, using(questions::proofs::Accepted::accepted))]
 pub fn valid_tangents(
     n: usize,
     p: usize,

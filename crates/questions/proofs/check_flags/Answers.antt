@@ -9,4 +9,4 @@ pub returns-clause-accepted : goal.returns-clause-accepted
 unfolding check_flags
 returns-clause-accepted c =
     let a = c.args in
-    flags_exactly a.mesh a.n a.flags.now (rw c.in_ok-mesh.was (c.ask.ensures (is_flag a.flags.now) (λ k b h post. search rules)))
+    flags_exactly a.mesh a.n a.fixed.now (rw c.in_ok-mesh.was (c.ask.ensures (is_flag a.fixed.now) (λ k b h post. search rules)))
