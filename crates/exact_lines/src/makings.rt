@@ -1,23 +1,8 @@
-// Document 01's exact lines that are runs, by the public calls of the makings: the counts, a start of -1, and the smoothness of
-// an entry; and request 3's count where all points are one. Each line of the output is a call and its answer; the file `stdout`
-// has what the documents and the unchanged Rust say.
-#![tactic(auto)]
+// Both makings.
 
-use exact_lines_shared::{POSITIONS, halfedges, put};
+use crate::lines::{put, put_count};
+use crate::pillow::{FACE_NORMALS, NORMALS, POSITIONS, REFS, halfedges};
 use questions::Refusal;
-
-// The pillow's point normals, face normals and references.
-const NORMALS: [f64; 9] = [1.0, 2.0, 3.0, 1.0, 2.0, 3.0, 1.0, 2.0, 3.0];
-
-const FACE_NORMALS: [f64; 6] = [0.0, 0.0, 1.0, 0.0, 0.0, -1.0];
-
-const REFS: [i32; 6] = [1, 0, 0, 1, 0, 1];
-
-// The call, and how many circular tangents it computed on an edge without direction.
-fn put_count(rt: &impl Print, call: &str, asked: &str, making: Result<usize, Refusal>) {
-    let count = create_shared::directionless_of(making);
-    let _ = println!(rt; "{call}{asked}{count} without direction");
-}
 
 // Making from sharp edges of the pillow's lists, with so many halfedges, this start for halfedge 2, these positions and entries.
 fn make_sharp(
@@ -132,19 +117,20 @@ fn count(rt: &impl Print, asked: &str, pos: &[f64]) {
     );
 }
 
-fn main(rt: HostRuntime) {
-    make(&rt, "65535 halfedges: ", 65535, 2);
-    make(&rt, "65538 halfedges: ", 65538, 2);
-    make(&rt, "4 halfedges: ", 4, 2);
-    make(&rt, "a start of 2: ", 6, 2);
-    make(&rt, "a start of -1: ", 6, -1);
-    entry(&rt, "smoothness 1: ", 1.0);
-    entry(&rt, "smoothness 1/2: ", 0.5);
-    make_with(&rt, "smoothness -0: ", -0.0, &mut [0.0; 24]);
-    count(&rt, "the pillow: ", &POSITIONS);
-    count(&rt, "all points one point: ", &[3.0; 9]);
+// Both makings, by the counts, a start, the smoothness of an entry and the count.
+pub fn put_all(rt: &impl Print) {
+    make(rt, "65535 halfedges: ", 65535, 2);
+    make(rt, "65538 halfedges: ", 65538, 2);
+    make(rt, "4 halfedges: ", 4, 2);
+    make(rt, "a start of 2: ", 6, 2);
+    make(rt, "a start of -1: ", 6, -1);
+    entry(rt, "smoothness 1: ", 1.0);
+    entry(rt, "smoothness 1/2: ", 0.5);
+    make_with(rt, "smoothness -0: ", -0.0, &mut [0.0; 24]);
+    count(rt, "the pillow: ", &POSITIONS);
+    count(rt, "all points one point: ", &[3.0; 9]);
     put_count(
-        &rt,
+        rt,
         "making from sharp edges, ",
         "all points one point, a crease through point 1: ",
         make_sharp(6, 2, &[3.0; 9], &[0, 1], &[0.0, 0.0], &mut [0.0; 24]),
