@@ -5,7 +5,7 @@
 
 Each input is a valid one, or one with bits flipped, bytes inserted, dropped or exchanged, an end cut off or added, other counts, a
 record left out or doubled, or other numbers in its mesh, or random bytes. The program must end by itself within ten seconds with status 0
-and write one answer of document 01's form, and nothing else. The refusals are compared with a plain reading of document 01 (the records in
+and write one answer of its form, and nothing else. The refusals are compared with a plain reading of the rule (the records in
 replay/inputs.py, the questions here), and so is the mark check. Of tangents only the form is checked: the halfedge count, the numbers
 in order, 16 digits, one not-a-number, and for spreading the last line. An input whose records are accepted is put again with other rows,
 and must get the same answer. With --valgrind the program runs under valgrind, and any error that it reports is a failure. Prints how many
@@ -187,7 +187,7 @@ def one_input(rng):
     return "long", long_input(rng)
 
 
-# ---- what document 01 says of an input
+# ---- what the rule says of an input
 
 def lowest(test, n):
     return next((e for e in range(n) if not test(e)), None)
