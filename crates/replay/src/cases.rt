@@ -14,7 +14,6 @@ pub enum Operation {
     Spread,
     Create,
     CreateFromNormals,
-    Preview,
     CreaseClean,
 }
 
@@ -36,7 +35,6 @@ impl TryFrom<usize> for Operation {
             7 => Ok(Operation::Spread),
             8 => Ok(Operation::Create),
             9 => Ok(Operation::CreateFromNormals),
-            10 => Ok(Operation::Preview),
             11 => Ok(Operation::CreaseClean),
             _ => Err(UnknownOperation),
         }
@@ -44,7 +42,7 @@ impl TryFrom<usize> for Operation {
 }
 
 // The first question answered no, by its number, and its lowest place. No `questions::Refusal`: a question of a number would take a
-// match of 17 arms here, and an answer for a number of none, and would be compared by its number all the same.
+// match with an arm for each here, and an answer for a number of none, and would be compared by its number all the same.
 #[derive(Clone, Copy, PartialEq)]
 pub struct Refusal {
     pub number: usize,

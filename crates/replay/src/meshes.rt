@@ -13,24 +13,28 @@ use crate::listings;
 use crate::reader::Reader;
 use crate::tally::Tally;
 
-fn straighten(mut case: Case<'_>) -> bool {
+// Reads the lists of straightening or of the mark check, and asks `same` of them.
+fn with_tangents<F>(mut case: Case<'_>, same: F) -> bool
+where
+    F: FnOnce(Case<'_>, &[i32], &[f64], &mut [f64]) -> bool,
+    requires { F.IsAlwaysCallable same }
+{
     let mut pos = [0.0f64; 256];
     let mut h = [0i32; 256];
     let mut t = [0.0f64; 256];
     let pos = case.body.list(&mut pos);
     let h = case.body.list(&mut h);
     let t = case.body.list(&mut t);
+    same(case, h, pos, t)
+}
+
+// The tangents as the Rust left them come next.
+fn straighten(mut case: Case<'_>, h: &[i32], pos: &[f64], t: &mut [f64]) -> bool {
     let checked = linearize::linearize_flat_tangents(case.n, case.p, h, pos, t);
     ends_as(checked, case.outcome) && case.body.holds_list(t)
 }
 
-fn check(mut case: Case<'_>) -> bool {
-    let mut pos = [0.0f64; 256];
-    let mut h = [0i32; 256];
-    let mut t = [0.0f64; 256];
-    let pos = case.body.list(&mut pos);
-    let h = case.body.list(&mut h);
-    let t = case.body.list(&mut t);
+fn check(mut case: Case<'_>, h: &[i32], pos: &[f64], t: &mut [f64]) -> bool {
     let validity = validate::valid_tangents(case.n, case.p, h, pos, t);
     let valid = case.body.read::<usize>() == 1;
     ends_as(validity, case.outcome.map(|()| valid))
@@ -49,8 +53,8 @@ fn is_accepted(h: &[i32], n: usize, p: usize) -> bool
 
 fn agrees(case: Case<'_>) -> bool {
     match case.operation {
-        Ok(Operation::Straighten) => straighten(case),
-        Ok(Operation::Check) => check(case),
+        Ok(Operation::Straighten) => with_tangents(case, straighten),
+        Ok(Operation::Check) => with_tangents(case, check),
         Ok(Operation::Crease) => listings::agrees(case),
         Ok(Operation::TangentFromNormal) => edges::tangent_from_normal(case),
         Ok(Operation::InsideQuad) => edges::inside_quad(case),

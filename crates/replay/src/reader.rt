@@ -54,7 +54,7 @@ impl<'a> Reader<'a> {
 
     // Are the next numbers these?
     pub fn holds<T: Stored>(&mut self, xs: &[T]) -> bool {
-        xs.iter().all(|x| x.same(self.read()))
+        xs.iter().all(|x| x.is_next(self))
     }
 
     // Is the next list this one?
@@ -71,6 +71,11 @@ pub trait Stored: Copy + PartialEq {
     // Are two numbers the same, bit for bit?
     fn same(self, other: Self) -> bool {
         self == other
+    }
+
+    // Is it the number in front, bit for bit?
+    fn is_next(self, reader: &mut Reader<'_>) -> bool {
+        self.same(Self::read_from(reader))
     }
 }
 
@@ -99,7 +104,7 @@ impl Stored for u64 {
     }
 }
 
-// One not-a-number stands for all.
+// By its bits: one not-a-number stands for all, and a file has no other.
 impl Stored for f64 {
     fn read_from(reader: &mut Reader<'_>) -> Self {
         reader.number()
@@ -107,6 +112,10 @@ impl Stored for f64 {
 
     fn same(self, other: Self) -> bool {
         float::bits(self) == float::bits(other)
+    }
+
+    fn is_next(self, reader: &mut Reader<'_>) -> bool {
+        float::bits(self) == reader.number::<u64>()
     }
 }
 
