@@ -5,14 +5,14 @@
 
 Each input is a valid one, or one with bits flipped, bytes inserted, dropped or exchanged, an end cut off or added, other counts, a
 record left out or doubled, or other numbers in its mesh, or random bytes. The program must end by itself within ten seconds with status 0
-and write one answer of document 01's form, and nothing else. The refusals are compared with a plain reading of document 01 (the records in
-make_replay_inputs.py, the questions here), and so is the mark check. Of tangents only the form is checked: the halfedge count, the numbers
+and write one answer of its form, and nothing else. The refusals are compared with a plain reading of the rule (the records in
+replay/inputs.py, the questions here), and so is the mark check. Of tangents only the form is checked: the halfedge count, the numbers
 in order, 16 digits, one not-a-number, and for spreading the last line. An input whose records are accepted is put again with other rows,
 and must get the same answer. With --valgrind the program runs under valgrind, and any error that it reports is a failure. Prints how many
 answers of each kind there were. An input whose answer is wrong is written to fuzz-SEED-NUMBER.bin, and the script ends with status 1.
 """
 import collections, os, random, re, select, signal, struct, sys
-from make_replay_inputs import record, records_refusal
+from replay.inputs import record, records_refusal
 
 FLOATS = [0, 1 << 63, 0x3FF0 << 48, 0xBFF0 << 48, 0xC000 << 48, 0x7FF0 << 48, 0xFFF0 << 48, 0x7FF8 << 48, 0xFFF8 << 48 | 5, 1, 0x7FEF << 48, 0x3FE5555555555556]
 MARK = 0xBFF0 << 48
@@ -187,7 +187,7 @@ def one_input(rng):
     return "long", long_input(rng)
 
 
-# ---- what document 01 says of an input
+# ---- what the rule says of an input
 
 def lowest(test, n):
     return next((e for e in range(n) if not test(e)), None)
