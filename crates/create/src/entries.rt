@@ -10,7 +10,7 @@ ghost use Rattle.create_shared.specs.Answer.{directionless_of, checked_of, Value
 ghost use Rattle.create.specs.declared.sharp.Smoothness.{Smoothness};
 ghost use Rattle.create.specs.Create.{tangents_after};
 ghost use Rattle.create.specs.Whole.Core.{create_directionless};
-ghost use Rattle.create.specs.Entries.CreateEntries.{check_lists, create_answer};
+ghost use Rattle.create.specs.Entries.{check_lists, create_answer};
 
 use crate::sharp::Smoothness;
 use crate::{sharp, whole};

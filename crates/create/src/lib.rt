@@ -25,35 +25,8 @@ ghost use Rattle.create.specs.Create.{lists_fit, scratch_fits, check_lists, tang
 use create_shared::MeshLists;
 use questions::Refusal;
 
-// Question 2 of the lists that the call reads, and of the tangents, from the length of each. No struct, here or below: its fields
-// would be these lengths by the same names, and the caller would write each twice.
-fn lists_fit(
-    n: usize,
-    p: usize,
-    halfedges: usize,
-    positions: usize,
-    normals: usize,
-    face_normals: usize,
-    refs: usize,
-    entries: usize,
-    smoothness: usize,
-    tangents: usize,
-) -> bool
-    ensures { result ≡ lists_fit halfedges positions normals face_normals refs entries smoothness tangents n p }
-{
-    let lists = create_shared::mesh_lists_fit(
-        n,
-        p,
-        halfedges,
-        positions,
-        normals,
-        face_normals,
-        refs,
-    );
-    lists & questions::has_length(smoothness, entries, 1) & questions::has_length(tangents, n, 4)
-}
-
-// Question 2 of the scratch lists, from the length of each.
+// Question 2 of the scratch lists, from the length of each. No struct, here or below: its fields would be these lengths by the same
+// names, and the caller would write each twice.
 fn scratch_fits(
     n: usize,
     p: usize,
@@ -94,7 +67,7 @@ fn check_mesh_lists(
 ) -> Result<(), Refusal>
     ensures { result ≡ check_refs (check_mesh (as_halfedges h.now) n p (lists_fit (as_halfedges h.now).numbers (length pos.now) (length normals.now) (length face_normals.now) (length refs.now) entries smoothness t n p && scratch_fits fixed flat smooth desired at link n p)) refs.now n }
 {
-    let lists = lists_fit(
+    let read = create_shared::mesh_lists_fit(
         n,
         p,
         h.len(),
@@ -102,10 +75,10 @@ fn check_mesh_lists(
         normals.len(),
         face_normals.len(),
         refs.len(),
-        entries,
-        smoothness,
-        t,
     );
+    let lists = read
+        & questions::has_length(smoothness, entries, 1)
+        & questions::has_length(t, n, 4);
     let scratch = scratch_fits(n, p, fixed, flat, smooth, desired, at, link);
     let checked = questions::check_mesh(h, n, p, lists & scratch);
     questions::check_refs(checked, refs, n)
