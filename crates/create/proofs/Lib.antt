@@ -6,4 +6,3 @@ pub mod CreasesLaws
 pub mod InitialLaws
 pub mod ShapesLaws
 pub mod WholeLaws
-pub mod EntriesLaws

@@ -1,62 +1,21 @@
 // `create_tangents` of src/smoothing_tangents.rs with its sharp entries as the Rust lends them, a list of structs: a public call beside
 // `crate::create_tangents`.
 
-ghost use Rattle.std.specs.Prelude.{◌≡◌, ℕ, Bool, List, ℤ, Float, ◌*◌, ◌≤◌, ◌&&◌, length, replicate};
+ghost use Rattle.std.specs.Prelude.{◌≡◌, ℕ, Bool, List, ℤ, Float, ◌*◌, ◌≤◌, length, replicate};
 ghost use Rattle.float.specs.Ops.{zero};
 ghost use Rattle.mesh.specs.Mesh.{as_halfedges};
 ghost use Rattle.mesh.specs.Rows.{RowsUnread};
-ghost use Rattle.questions.specs.Check.{check_mesh, check_refs, check_entries, when_accepted};
+ghost use Rattle.questions.specs.Check.{when_accepted};
 ghost use Rattle.create_shared.specs.Answer.{directionless_of, checked_of, Values};
 ghost use Rattle.create.specs.declared.sharp.Smoothness.{Smoothness};
-ghost use Rattle.create.specs.Sharp.Entries.{halfedges_of, smoothness_of};
-ghost use Rattle.create.specs.Create.{lists_fit, scratch_fits, tangents_after};
+ghost use Rattle.create.specs.Create.{tangents_after};
 ghost use Rattle.create.specs.Whole.Core.{create_directionless};
-ghost use Rattle.create.specs.Entries.CreateEntries.{check_lists, create_answer};
+ghost use Rattle.create.specs.Entries.{check_lists, create_answer};
 
 use crate::sharp::Smoothness;
 use crate::{sharp, whole};
 use create_shared::MeshLists;
 use questions::Refusal;
-
-// The questions 1 to 10, as `crate::check_create` puts them to two flat lists. Of the lists that are written only the lengths are asked. No struct of the lengths: its fields would be
-// these by the same names, and the caller would write each twice.
-#[tactic(auto, unfolding(mesh::specs::Mesh::as_halfedges))]
-fn check_lists(
-    n: usize,
-    p: usize,
-    h: &[i32],
-    pos: &[f64],
-    normals: &[f64],
-    face_normals: &[f64],
-    refs: &[i32],
-    sharp: &[Smoothness],
-    t: usize,
-    fixed: usize,
-    flat: usize,
-    smooth: usize,
-    desired: usize,
-    at: usize,
-    link: usize,
-) -> Result<(), Refusal>
-    ensures { result ≡ check_entries (check_refs (check_mesh (as_halfedges h.now) n p (lists_fit (as_halfedges h.now).numbers (length pos.now) (length normals.now) (length face_normals.now) (length refs.now) (length sharp.now) (length sharp.now) t n p && scratch_fits fixed flat smooth desired at link n p)) refs.now n) (halfedges_of sharp.now) (smoothness_of sharp.now) n }
-{
-    let entries = sharp.len();
-    let lists = crate::lists_fit(
-        n,
-        p,
-        h.len(),
-        pos.len(),
-        normals.len(),
-        face_normals.len(),
-        refs.len(),
-        entries,
-        entries,
-        t,
-    );
-    let scratch = crate::scratch_fits(n, p, fixed, flat, smooth, desired, at, link);
-    let checked = questions::check_mesh(h, n, p, lists & scratch);
-    sharp::check_sharp(questions::check_refs(checked, refs, n), sharp, n)
-}
 
 // Making from sharp edges, for lists of any length and content: `crate::create_tangents` with the sharp entries as structs.
 // The parameters are in the order of that call: the C interface's counts, lists read, lists written, scratch.
@@ -89,7 +48,8 @@ pub fn create_entries(
     ensures bound { directionless_of result ≤ 2 * n }
     ensures values { Values (check_lists (as_halfedges h.now) pos.now normals.now face_normals.now refs.now sharp.now t.old fixed.old flat.old smooth.old desired.old at.old link.old n p) (create_directionless (as_halfedges h.now) pos.now refs.now sharp.now t.old old n p) result }
 {
-    let checked = check_lists(
+    let entries = sharp.len();
+    let mesh_lists = crate::check_mesh_lists(
         n,
         p,
         h,
@@ -97,7 +57,8 @@ pub fn create_entries(
         normals,
         face_normals,
         refs,
-        sharp,
+        entries,
+        entries,
         t.len(),
         fixed.len(),
         flat.len(),
@@ -106,6 +67,7 @@ pub fn create_entries(
         at.len(),
         link.len(),
     );
+    let checked = sharp::check_sharp(mesh_lists, sharp, n);
     // The rule for a public call: the check's answer is opened by `let .. else`.
     let Ok(()) = checked else {
         return questions::refused(checked);

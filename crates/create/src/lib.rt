@@ -11,50 +11,23 @@ mod shapes;
 pub mod sharp;
 mod whole;
 
-ghost use Rattle.std.specs.Prelude.{◌≡◌, ℕ, Bool, List, ℤ, Float, ◌*◌, ◌≤◌, length, replicate};
+ghost use Rattle.std.specs.Prelude.{◌≡◌, ℕ, Bool, List, ℤ, Float, ◌*◌, ◌≤◌, ◌&&◌, length, replicate};
 ghost use Rattle.float.specs.Ops.{zero};
 ghost use Rattle.mesh.specs.Mesh.{as_halfedges};
 ghost use Rattle.mesh.specs.Rows.{RowsUnread};
-ghost use Rattle.questions.specs.Check.{Checked, when_accepted};
+ghost use Rattle.questions.specs.Check.{Checked, check_mesh, check_refs, when_accepted};
 ghost use Rattle.create_shared.specs.Answer.{directionless_of, checked_of, Values};
 ghost use Rattle.create.specs.declared.sharp.Smoothness.{Smoothness};
 ghost use Rattle.create.specs.Sharp.Entries.{entries_of};
 ghost use Rattle.create.specs.Whole.Core.{create_directionless};
-ghost use Rattle.create.specs.Create.{lists_fit, scratch_fits, check_create, check_lists, tangents_after, create_answer};
+ghost use Rattle.create.specs.Create.{lists_fit, scratch_fits, check_lists, tangents_after, create_answer};
 
 use create_shared::MeshLists;
 use questions::Refusal;
 
-// Question 2 of the lists that the call reads, and of the tangents, from the length of each. No struct, here or below: its fields
-// would be these lengths by the same names, and the caller would write each twice.
-pub fn lists_fit(
-    n: usize,
-    p: usize,
-    halfedges: usize,
-    positions: usize,
-    normals: usize,
-    face_normals: usize,
-    refs: usize,
-    entries: usize,
-    smoothness: usize,
-    tangents: usize,
-) -> bool
-    ensures { result ≡ lists_fit halfedges positions normals face_normals refs entries smoothness tangents n p }
-{
-    let lists = create_shared::mesh_lists_fit(
-        n,
-        p,
-        halfedges,
-        positions,
-        normals,
-        face_normals,
-        refs,
-    );
-    lists & questions::has_length(smoothness, entries, 1) & questions::has_length(tangents, n, 4)
-}
-
-// Question 2 of the scratch lists, from the length of each.
-pub fn scratch_fits(
+// Question 2 of the scratch lists, from the length of each. No struct, here or below: its fields would be these lengths by the same
+// names, and the caller would write each twice.
+fn scratch_fits(
     n: usize,
     p: usize,
     fixed: usize,
@@ -71,21 +44,44 @@ pub fn scratch_fits(
     angles & questions::has_length(at, p, 1) & questions::has_length(link, n, 1)
 }
 
-// The questions 1 to 10, put to two flat lists of entries; `lengths` is the answer to question 2.
-#[tactic(auto, unfolding(crate::specs::Create::check_create))]
-fn check_create(
+// The questions 1 to 8, which both calls put: `entries` and `smoothness` are the lengths of the sharp entries' lists. Of the lists that
+// are written only the lengths are asked, too.
+#[tactic(auto, unfolding(mesh::specs::Mesh::as_halfedges))]
+fn check_mesh_lists(
     n: usize,
     p: usize,
     h: &[i32],
+    pos: &[f64],
+    normals: &[f64],
+    face_normals: &[f64],
     refs: &[i32],
-    entries: &[usize],
-    smoothness: &[f64],
-    lengths: bool,
+    entries: usize,
+    smoothness: usize,
+    t: usize,
+    fixed: usize,
+    flat: usize,
+    smooth: usize,
+    desired: usize,
+    at: usize,
+    link: usize,
 ) -> Result<(), Refusal>
-    ensures { result ≡ check_create (as_halfedges h.now) refs.now entries.now smoothness.now n p lengths }
+    ensures { result ≡ check_refs (check_mesh (as_halfedges h.now) n p (lists_fit (as_halfedges h.now).numbers (length pos.now) (length normals.now) (length face_normals.now) (length refs.now) entries smoothness t n p && scratch_fits fixed flat smooth desired at link n p)) refs.now n }
 {
-    let checked = questions::check_mesh(h, n, p, lengths);
-    questions::check_entries(questions::check_refs(checked, refs, n), entries, smoothness, n)
+    let read = create_shared::mesh_lists_fit(
+        n,
+        p,
+        h.len(),
+        pos.len(),
+        normals.len(),
+        face_normals.len(),
+        refs.len(),
+    );
+    let lists = read
+        & questions::has_length(smoothness, entries, 1)
+        & questions::has_length(t, n, 4);
+    let scratch = scratch_fits(n, p, fixed, flat, smooth, desired, at, link);
+    let checked = questions::check_mesh(h, n, p, lists & scratch);
+    questions::check_refs(checked, refs, n)
 }
 
 // Making from sharp edges, for lists of any length and content. `pos` and `normals` have three numbers for each point,
@@ -126,21 +122,17 @@ pub fn create_tangents(
     ensures bound { directionless_of result ≤ 2 * n }
     ensures values { Values (check_lists (as_halfedges h.now) pos.now normals.now face_normals.now refs.now entries.now smoothness.now t.old fixed.old flat.old smooth.old desired.old at.old link.old n p) (create_directionless (as_halfedges h.now) pos.now refs.now (entries_of entries.now smoothness.now) t.old old n p) result }
 {
-    let lists = lists_fit(
+    let mesh_lists = check_mesh_lists(
         n,
         p,
-        h.len(),
-        pos.len(),
-        normals.len(),
-        face_normals.len(),
-        refs.len(),
+        h,
+        pos,
+        normals,
+        face_normals,
+        refs,
         entries.len(),
         smoothness.len(),
         t.len(),
-    );
-    let scratch = scratch_fits(
-        n,
-        p,
         fixed.len(),
         flat.len(),
         smooth.len(),
@@ -148,8 +140,7 @@ pub fn create_tangents(
         at.len(),
         link.len(),
     );
-    let lengths = lists & scratch;
-    let checked = check_create(n, p, h, refs, entries, smoothness, lengths);
+    let checked = questions::check_entries(mesh_lists, entries, smoothness, n);
     // The rule for a public call: the check's answer is opened by `let .. else`.
     let Ok(()) = checked else {
         return questions::refused(checked);

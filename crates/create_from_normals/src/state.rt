@@ -122,10 +122,7 @@ fn put_unit(face_normals: &[f64], units: &mut [f64], t: usize)
     ensures { units.new ≡ put_unit face_normals.now units.old t }
 {
     let unit = smoothing::unit_vector(smoothing::point_at(face_normals, t));
-    let at = t * 3;
-    units[at] = unit.x;
-    units[at + 1] = unit.y;
-    units[at + 2] = unit.z;
+    smoothing::put_point(units, t, unit);
 }
 
 // The unit vectors of all triangles' normals, three numbers each, whatever the list held. By number: chunks of both lists were tried,

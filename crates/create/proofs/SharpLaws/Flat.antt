@@ -4,7 +4,7 @@ use native.Mathlib.Nat.{not-suc-le-zero, le_of_suc-le-suc, suc_inj, suc-ne-zero}
 use mathlib.Core.Path.{◌≡◌, refl, sym, ap, subst}
 use mathlib.Core.Bool.{true}
 use mathlib.Core.List.{List, [], ◌∷◌}
-use lib.ListN.{length, get_or, length-map}
+use lib.ListN.{length, get_or}
 use lib.Ieee.{Float, nan}
 use Rattle.questions.specs.Questions.{sign_clear}
 use Rattle.create.specs.Sharp.Entries.{halfedges_of, smoothness_of, entries_of}
@@ -41,8 +41,7 @@ flat_entries_in I Q n l h c = record {
   clear = λ k j. subst (λ (J : List Float). sign_clear (get_or J k nan) ≡ true) (sym (smoothness_back I Q l)) (c k (subst (λ (m : ℕ). k < m) (entries_length I Q l) j));
 }
 
--- and of a list of entries
-pub entries_in : (E : List Smoothness) (n : ℕ) → ((k : ℕ) → k < length (halfedges_of E) → get_or (halfedges_of E) k 0 < n) → ((k : ℕ) → k < length (halfedges_of E) → sign_clear (get_or (smoothness_of E) k nan) ≡ true) → EntriesIn E n
-entries_in E n h c =
-    let same = length-map E (λ e. e.halfedge) in
-    record { named = λ k j. h k (subst (λ (m : ℕ). k < m) (sym same) j); clear = λ k j. c k (subst (λ (m : ℕ). k < m) (sym same) j) }
+-- a list of entries is that of its flat lists
+pub entries_back : (E : List Smoothness) → entries_of (halfedges_of E) (smoothness_of E) ≡ E
+entries_back [] = refl
+entries_back (x ∷ E) = ap (λ (G : List Smoothness). x ∷ G) (entries_back E)

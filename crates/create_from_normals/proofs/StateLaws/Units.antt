@@ -4,13 +4,13 @@ use native.Mathlib.Decide.{ℕ_discrete}
 use native.Mathlib.Omega.{arith}
 use mathlib.Core.Path.{◌≡◌, sym, ap, ◌∙◌}
 use mathlib.Core.List.{List}
-use lib.ListN.{length, set, length-set}
+use lib.ListN.{length, length-set}
 use lib.Seq.{get_or-set_same, get_or-set_other, lt-length-set}
 use lib.Ieee.{Float}
 use Rattle.linalg.specs.declared.Vec3.{Vec3}
 use Rattle.common.specs.Fold.{fold_to}
 use Rattle.smoothing.specs.Directions.{safe_normalize, equal_units}
-use Rattle.smoothing.specs.Lists.{point_at}
+use Rattle.smoothing.specs.Lists.{point_at, put_point}
 use Rattle.smoothing.proofs.Directions.{equal_by_units}
 use Rattle.create_from_normals.specs.State.State.{has_face_normal}
 use Rattle.create_from_normals.specs.State.Carried.{halfedge_normal}
@@ -19,11 +19,8 @@ use Rattle.create_from_normals.specs.State.Units.{UnitsIn, put_unit, put_units}
 -- ---- three numbers
 
 module _ (U : List Float) (t : ℕ) (v : Vec3) where
-  abbrev stored : List Float
-  stored = set (set (set U (t * 3) v.x) (t * 3 + 1) v.y) (t * 3 + 2) v.z
-
-  stored_same : t * 3 + 3 ≤ length U → point_at stored t ≡ v
-  unfolding point_at
+  stored_same : t * 3 + 3 ≤ length U → point_at (put_point U t v) t ≡ v
+  unfolding point_at put_point
   stored_same h =
       let a : t * 3 < length U = omega arith in
       let b : t * 3 + 1 < length U = omega arith in
@@ -33,8 +30,8 @@ module _ (U : List Float) (t : ℕ) (v : Vec3) where
       let bc : t * 3 + 1 ≡ t * 3 + 2 → ⊥ = λ q. omega arith in
       simp (get_or-set_same, get_or-set_other, lt-length-set)
 
-  stored_other : (s : ℕ) → (s ≡ t → ⊥) → point_at stored s ≡ point_at U s
-  unfolding point_at
+  stored_other : (s : ℕ) → (s ≡ t → ⊥) → point_at (put_point U t v) s ≡ point_at U s
+  unfolding point_at put_point
   stored_other s h =
       let aa : s * 3 ≡ t * 3 → ⊥ = λ q. h (omega arith) in
       let ab : s * 3 ≡ t * 3 + 1 → ⊥ = λ q. h (omega arith) in
@@ -55,14 +52,14 @@ module _ (A U : List Float) (n : ℕ) (whole : length U ≡ n) where
     passed : (t : ℕ) → t < k → point_at W t ≡ safe_normalize (point_at A t)
 
   one_more : (W : List Float) (k : ℕ) → k * 3 + 3 ≤ n → Units W k → Units (put_unit A W k) (suc k)
-  unfolding put_unit
+  unfolding put_unit put_point
   one_more W k h w =
       record {
         numbers = simp length-set w.numbers;
         passed = λ t l. go t l (ℕ_discrete t k);
       }
     where
-      go : (t : ℕ) → t < suc k → Dec (t ≡ k) → point_at (stored W k (safe_normalize (point_at A k))) t ≡ safe_normalize (point_at A t)
+      go : (t : ℕ) → t < suc k → Dec (t ≡ k) → point_at (put_point W k (safe_normalize (point_at A k))) t ≡ safe_normalize (point_at A t)
       go t l (yes q) = rw q (stored_same W k (safe_normalize (point_at A k)) (omega (arith, w.numbers)))
       go t l (no q) = stored_other W k (safe_normalize (point_at A k)) t q ∙ w.passed t (omega arith)
 
