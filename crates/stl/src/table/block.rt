@@ -1,4 +1,4 @@
-// The block of places whose keys stand in a table.
+// The block of places whose keys stand in a table. It has a file of its own, as the definitions that `table` cites are about it.
 
 ghost use Rattle.std.specs.Prelude.{◌+◌, ◌*◌, ◌≤◌};
 ghost use Rattle.stl.specs.Table.Size.{block_size};
