@@ -2,6 +2,5 @@
 pub mod Bytes
 pub mod First
 pub mod Second
-pub mod Starts
 pub mod Pass
 pub mod Order

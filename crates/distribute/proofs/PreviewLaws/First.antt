@@ -12,8 +12,8 @@ use Rattle.cycles.specs.Cycles.{next_around}
 use Rattle.smoothing.specs.Lists.{tangent_at}
 use Rattle.distribute.specs.Spread.Steps.{Steps}
 use Rattle.distribute.specs.Spread.Spread.{Found}
-use Rattle.distribute.proofs.SpreadLaws.Loops.{first_left, first_below}
-use Rattle.distribute.proofs.SpreadLaws.Bodies.{FirstGoing, first_going, first_room, first_next, first_less, first_over}
+use Rattle.distribute.proofs.SpreadLaws.Loops.{first_left}
+use Rattle.distribute.proofs.SpreadLaws.Bodies.{FirstGoing, first_going, first_next, first_less, first_over}
 use Rattle.distribute.specs.Steps.FloatSteps.{Gathered, is_mark, is_start, tangent_direction, begin, gather, gather_edge}
 use Rattle.distribute.specs.Walks.Walks.{steps_of, first_found}
 use Rattle.distribute.specs.Preview.Walks.{summed_of, add_tangent}
@@ -52,13 +52,7 @@ module _ (lists : SpreadLists) (T : List Float) (start looked₀ : ℕ) where
   summing_begin b d first e = record { gathered = begin H P start (tangent_at T start); going = first_going (laws lists) b d refl refl; sums = rw e }
 
   module _ {x looked : ℕ} {s : Summed} (w : Summing x looked s) where
-    pub summing_room : (s.count < lists.n) × (looked < looked₀ + lists.n)
-    summing_room = first_room (laws lists) w.going
-
     module _ {y : ℕ} (e : y ≡ next_around H x) where
-      pub summing_below : y < lists.n
-      summing_below = first_below (laws lists) w.going.at e
-
       module _ {s' : Summed} (es : s' ≡ cond (is_mark (tangent_at T y).w) s (add_tangent (tangent_direction (tangent_at T y)) s)) where
         gathered' : Gathered
         gathered' = cond (is_mark (tangent_at T y).w) w.gathered (gather H P N start y (tangent_at T y) w.gathered)

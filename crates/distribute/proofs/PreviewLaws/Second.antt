@@ -11,8 +11,8 @@ use lib.ListN.{set}
 use Rattle.distribute.specs.Spread.Steps.{Steps, Lawful}
 use Rattle.distribute.specs.Spread.Spread.{State, marked, second_walk}
 use Rattle.distribute.proofs.SpreadLaws.Places.{is_stop, stop_is}
-use Rattle.distribute.proofs.SpreadLaws.Loops.{second_left, angles_left, angles_within, second_below}
-use Rattle.distribute.proofs.SpreadLaws.Bodies.{SecondGoing, second_going, second_leaves, second_less, second_next, second_over, second_few, index_on, state_on, plan_on}
+use Rattle.distribute.proofs.SpreadLaws.Loops.{angles_left, angles_within, second_below}
+use Rattle.distribute.proofs.SpreadLaws.Bodies.{SecondGoing, second_going, second_leaves, second_next, second_over, second_few, index_on, state_on, plan_on}
 use Rattle.distribute.specs.Walks.Walks.{state_of, more_turned}
 use Rattle.distribute.specs.declared.walks.Counts.{Counts}
 use Rattle.distribute.specs.Preview.Bytes.{turned_bytes}
@@ -49,15 +49,9 @@ module _ {S : Steps} (L : Lawful S) (ts : S.Tangents) (start : ℕ) (Y₀ : List
   over q s h = rw q record { bytes_are = s.bytes_are h; looked_is = sym s.looked_is; turned_is = sym s.turned_is }
 
   module _ {x i : ℕ} {Y : List ℕ} (w : Showing x i Y) {y : ℕ} (e : y ≡ step x) where
-    pub showing_below : y < n
-    showing_below = second_below L w.going.at e
-
     pub showing_leaves : not (eqb y start) && fixed y ≡ true → Y₀ ≡ turned_bytes S (state_of S ts k places)
         → Shows S (second_walk S (suc n) start start by (state_of S ts k places)) Y (more_turned k i)
     showing_leaves d = over (second_leaves L w.going e d) w.shown
-
-    pub showing_less : not (eqb y start) && fixed y ≡ false → y ≢ start → second_left S y < second_left S x
-    showing_less d o = second_less L w.going e d o
 
     module _ {i' : ℕ} {Y' : List ℕ} (ei : i' ≡ cond (marked S ts y) i (i + 1)) (ey : Y' ≡ cond (marked S ts y) Y (set Y y 1)) where
       index_is : i' ≡ index_on S y i w.state
@@ -81,7 +75,7 @@ module _ {S : Steps} (L : Lawful S) (ts : S.Tangents) (start : ℕ) (Y₀ : List
               rw m record {
                 looked_is = w.shown.looked_is;
                 turned_is = omega (arith, w.shown.turned_is);
-                bytes_are = λ h. (rw t at ey) ∙ ap (λ (l : List ℕ). set l y 1) (w.shown.bytes_are h) ∙ bytes_turn S y w.plan w.state showing_below;
+                bytes_are = λ h. (rw t at ey) ∙ ap (λ (l : List ℕ). set l y 1) (w.shown.bytes_are h) ∙ bytes_turn S y w.plan w.state (second_below L w.going.at e);
               }
 
       pub showing_next : not (eqb y start) && fixed y ≡ false → y ≢ start → Showing y i' Y'

@@ -2,7 +2,10 @@
 use mathlib.Core.Path.{sym, ◌∙◌}
 use native.Mathlib.Omega.{arith}
 use Rattle.mesh.proofs.Inside.{inside}
-use Rattle.distribute.proofs.PreviewLaws.First.{summing_begin, summing_room, summing_below, summing_next, summing_less, summing_over}
+use Rattle.distribute.proofs.SpreadLaws.Loops.{first_below}
+use Rattle.distribute.proofs.SpreadLaws.Bodies.{first_room}
+use Rattle.distribute.proofs.WalksLaws.Lawful.{laws}
+use Rattle.distribute.proofs.PreviewLaws.First.{summing_begin, summing_next, summing_less, summing_over}
 use Rattle.distribute.proofs.preview.walks.first_walk.Goals as goal
 
 pub loop-init : goal.loop-init
@@ -16,20 +19,20 @@ next_around-here-requires c =
     inside lists.sound lists.whole _ c.loop.invariant.going.at.walking.below
 
 pub overflow_add-looked : goal.overflow_add-looked
-overflow_add-looked c = omega (arith, summing_room c.args.walk.now.lists.now c.args.walk.now.t.now _ _ c.loop.invariant)
+overflow_add-looked c = omega (arith, first_room (laws c.args.walk.now.lists.now) c.loop.invariant.going)
 
 pub add_tangent-summed-requires : goal.add_tangent-summed-requires
 add_tangent-summed-requires c =
     let lists = c.args.walk.now.lists.now in
     let inv = c.loop.invariant in (
-      omega (arith, summing_below lists c.args.walk.now.t.now _ _ inv c.next_around-here.ensures),
-      omega (arith, summing_room lists c.args.walk.now.t.now _ _ inv, lists.sound.few_halfedges),
+      omega (arith, first_below (laws lists) inv.going.at c.next_around-here.ensures),
+      omega (arith, first_room (laws lists) inv.going, lists.sound.few_halfedges),
     )
 
 pub is_start-requires : goal.is_start-requires
 is_start-requires c =
     let lists = c.args.walk.now.lists.now in
-    let below = summing_below lists c.args.walk.now.t.now _ _ c.loop.invariant c.next_around-here.ensures in
+    let below = first_below (laws lists) c.loop.invariant.going.at c.next_around-here.ensures in
     (omega arith, omega arith)
 
 pub loop-smaller : goal.loop-smaller

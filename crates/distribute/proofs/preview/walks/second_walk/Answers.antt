@@ -4,10 +4,12 @@ use mathlib.Core.List.{[]}
 use native.Mathlib.Omega.{arith}
 use lib.Ieee.{nan}
 use Rattle.mesh.proofs.Inside.{inside}
+use Rattle.distribute.proofs.SpreadLaws.Loops.{second_below}
+use Rattle.distribute.proofs.SpreadLaws.Bodies.{second_less}
 use Rattle.distribute.specs.Steps.FloatSteps.{Plan}
 use Rattle.distribute.specs.declared.walks.Counts.{Counts}
 use Rattle.distribute.proofs.WalksLaws.Lawful.{laws}
-use Rattle.distribute.proofs.PreviewLaws.Second.{showing_begin, showing_below, showing_leaves, showing_less, showing_next, showing_over, showing_few, showing_within}
+use Rattle.distribute.proofs.PreviewLaws.Second.{showing_begin, showing_leaves, showing_next, showing_over, showing_few, showing_within}
 use Rattle.distribute.proofs.preview.walks.second_walk.Goals as goal
 
 -- any plan and any counts do for what does not depend on them
@@ -30,14 +32,14 @@ next_around-here-requires c =
 pub leaves-requires : goal.leaves-requires
 leaves-requires c =
     let lists = c.args.walk.now.lists.now in
-    omega (arith, showing_below (laws lists) _ _ _ any none [] (c.walk.invariant any none []) c.next_around-here.ensures)
+    omega (arith, second_below (laws lists) (c.walk.invariant any none []).going.at c.next_around-here.ensures)
 
 pub show_unmarked-i-requires : goal.show_unmarked-i-requires
 show_unmarked-i-requires c =
     let w = c.args.walk.now in
     let lists = c.args.walk.now.lists.now in
     let inv = c.walk.invariant any none [] in
-    let below = showing_below (laws lists) _ _ _ any none [] inv c.next_around-here.ensures in (
+    let below = second_below (laws lists) inv.going.at c.next_around-here.ensures in (
       omega arith,
       omega arith,
       omega (arith, showing_within (laws lists) _ _ _ any none [] w.start_below w.start_is inv, lists.sound.few_halfedges),
@@ -70,4 +72,4 @@ returns-then-here-walk-clause-few c =
 
 pub walk-smaller : goal.walk-smaller
 walk-smaller c =
-    showing_less (laws c.args.walk.now.lists.now) _ _ _ any none [] (c.walk.invariant any none []) c.next_around-here.ensures (sym c.leaves.ensures ∙ c.if-leaves.false) c.if-here-walk.false
+    second_less (laws c.args.walk.now.lists.now) (c.walk.invariant any none []).going c.next_around-here.ensures (sym c.leaves.ensures ∙ c.if-leaves.false) c.if-here-walk.false
