@@ -1,6 +1,6 @@
 -- What an accepted call establishes of its lists, and what it makes. Assumes nothing.
 use Prim.Native.Nat.{ℕ, ◌*◌, ◌≤◌, ◌<◌}
-use mathlib.Core.Path.{◌≡◌, sym, subst, ◌∙◌}
+use mathlib.Core.Path.{◌≡◌, refl, sym, subst, ◌∙◌}
 use mathlib.Core.Bool.{Bool, true, ◌&&◌}
 use mathlib.Core.List.{List}
 use lib.ListN.{length, get_or}
@@ -13,7 +13,7 @@ use Rattle.std.specs.Prelude.{Ok}
 use Rattle.questions.specs.Check.{Checked, check_mesh, check_refs, answer_of}
 use Rattle.std.proofs.lemmas.Bool.{and_parts}
 use Rattle.questions.proofs.Lengths.{has_length_lem, has_one}
-use Rattle.questions.proofs.Accepted.{accepted, refs_accepted, entries_accepted}
+use Rattle.questions.proofs.Accepted.{accepted, refs_exactly, entries_exactly}
 use Rattle.create.specs.Sharp.EntrySmoothness.{EntriesIn, entry_smoothness}
 use Rattle.create.specs.declared.sharp.Smoothness.{Smoothness}
 use Rattle.create.specs.Whole.Core.{create_directionless}
@@ -88,16 +88,16 @@ pub accepted_lists : (H : Halfedges) (P N A : List Float) (R : List ℤ) (I : Li
 unfolding check_create
 accepted_lists H P N A R I Q T X F S D C L n p e =
     let lengths = lists_fit H.numbers (length P) (length N) (length A) (length R) (length I) (length Q) (length T) n p && scratch_fits (length X) (length F) (length S) (length D) (length C) (length L) n p in
-    let a = entries_accepted (check_refs (check_mesh H n p lengths) R n) n I Q e in
-    let b = accepted H n p lengths (refs_accepted (check_mesh H n p lengths) n R a.0).0 in
+    let a = (entries_exactly (check_refs (check_mesh H n p lengths) R n) n I Q refl).0 e in
+    let b = accepted H n p lengths ((refs_exactly (check_mesh H n p lengths) n R refl).0 a.0).0 in
     let q = and_parts _ _ b.0 in
     let l = lists_fit_lem _ _ _ _ _ _ _ _ n p q.0 in
     record {
       sound = b.1;
       mesh_lists = l.mesh_lists;
       values = l.values;
-      named = a.1;
-      clear = a.2;
+      named = λ k h. (a.1 k h).0;
+      clear = λ k h. (a.1 k h).1;
       tangents = l.tangents;
       scratch = scratch_fits_lem _ _ _ _ _ _ n p q.1;
     }

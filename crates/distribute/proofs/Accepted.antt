@@ -1,5 +1,5 @@
 -- What an accepted call establishes of its lists.
-use mathlib.Core.Path.{◌≡◌}
+use mathlib.Core.Path.{◌≡◌, refl}
 use mathlib.Core.List.{List}
 use mathlib.Core.Bool.{true}
 use Prim.Native.Nat.{ℕ, ◌*◌}
@@ -11,7 +11,7 @@ use Rattle.mesh.specs.Mesh.{halfedge_stride, Halfedges}
 use Rattle.mesh.specs.Sound.{Sound}
 use Rattle.std.specs.Prelude.{Ok}
 use Rattle.std.proofs.lemmas.Bool.{and_parts}
-use Rattle.questions.proofs.Accepted.{accepted, flags_accepted}
+use Rattle.questions.proofs.Accepted.{accepted, flags_exactly}
 use Rattle.distribute.specs.Distribute.{lists_fit, lengths_fit, check_lists}
 
 -- the lists that spreading and its preview read or turn have their lengths
@@ -35,7 +35,7 @@ pub lists_of : (H : Halfedges) (P N : List Float) (X : List ℕ) (T C D : List F
     → Sound H n p × Read H P N X T n p × (length C ≡ n) × (length D ≡ n)
 unfolding check_lists
 lists_of H P N X T C D n p e =
-    let m = accepted H n p (lengths_fit H P N X T C D n p) (flags_accepted _ n X e).0 in
+    let m = accepted H n p (lengths_fit H P N X T C D n p) ((flags_exactly _ n X refl).0 e).0 in
     let a = and_parts _ _ m.0 in
     let b = and_parts (lists_fit H P N X T n p) _ a.0 in
     (m.1, read_of H P N X T n p b.0, grind (arith, common_steps), grind (arith, common_steps))
