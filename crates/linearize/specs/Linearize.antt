@@ -1,4 +1,4 @@
--- `linearize_flat_tangents` of src/smoothing_tangents.rs (document 01's straightening). H are the halfedges, P the positions, T the tangents, n and p the counts of halfedges and points.
+-- `linearize_flat_tangents` of src/smoothing_tangents.rs (straightening). H are the halfedges, P the positions, T the tangents, n and p the counts of halfedges and points.
 use Rattle.std.specs.Prelude.{ℕ, ◌*◌, ◌≡◌, List, Bool, cond, ◌&&◌, length, Float}
 use Rattle.std.specs.Float.Ieee.{eq}
 use Rattle.float.specs.Ops.{zero, one, two, three}

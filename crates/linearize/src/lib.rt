@@ -1,4 +1,4 @@
-// `linearize_flat_tangents` of src/smoothing_tangents.rs (document 01's straightening): a tangent of weight 0 is made
+// `linearize_flat_tangents` of src/smoothing_tangents.rs (straightening): a tangent of weight 0 is made
 // straight, edge by edge.
 // Each function asks for its own place (`e * 4 + 4 ≤ length t`, `HalfedgeIn`): the place differs from call to call, so no struct of
 // the lists can hold it.
@@ -122,7 +122,7 @@ pub fn linearize_flat_tangents(
     ensures values { Values (linearize_answer (as_halfedges h.now) pos.now t.old n p) result }
 {
     let checked = questions::check_mesh(h, n, p, lengths_fit(n, p, h, pos, t));
-    // Document 01's form by place: the check's answer is opened by `let .. else`.
+    // The check's answer is opened by `let .. else`.
     let Ok(()) = checked else {
         return checked;
     };

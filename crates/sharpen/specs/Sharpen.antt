@@ -11,7 +11,7 @@ use Rattle.sharpen.specs.declared.Listed.{Listed}
 use Rattle.sharpen.specs.declared.edge.Rule.{Rule}
 use Rattle.sharpen.specs.declared.edge.Rule.TheVariants.{Clean}
 
--- ---- document 01's values of an answer
+-- ---- the values of an answer
 
 -- what was listed, or the refusal
 abbrev pub Listing : Type 0

@@ -1,4 +1,4 @@
--- `valid_tangents` of src/smoothing_tangents.rs (document 01's mark check). H are the halfedges, P the positions, T the tangents, n and p the counts of halfedges and points.
+-- `valid_tangents` of src/smoothing_tangents.rs (the mark check). H are the halfedges, P the positions, T the tangents, n and p the counts of halfedges and points.
 use Rattle.std.specs.Prelude.{ℕ, ◌≡◌, List, Bool, true, cond, not, ◌&&◌, ◌||◌, length, Float, Result}
 use Rattle.std.specs.Bool.{beq}
 use Rattle.mesh.specs.Mesh.{paired_halfedge, next_halfedge, prev_halfedge, Halfedges}
@@ -44,7 +44,7 @@ Validity = Result Bool Refusal
 abbrev pub valid_answer : Halfedges → List Float → List Float → ℕ → ℕ → Validity
 valid_answer H P T n p = answer_of (check_mesh H n p (lengths_fit H P n p)) (valid_tangents H T n)
 
--- document 01's value of an answer: 1 for yes, 0 for no, and 0 for a refused call, which has none
+-- the value of an answer: 1 for yes, 0 for no, and 0 for a refused call, which has none
 abbrev pub value_of : Validity → ℕ
 value_of = value_or 0 (λ valid. cond valid 1 0)
 
