@@ -1,6 +1,6 @@
 -- What an accepted call establishes of its lists, and what it makes. Assumes nothing.
 use Prim.Native.Nat.{ℕ, ◌*◌, ◌≤◌}
-use mathlib.Core.Path.{◌≡◌, sym, subst, ◌∙◌}
+use mathlib.Core.Path.{◌≡◌, refl, sym, subst, ◌∙◌}
 use mathlib.Core.Bool.{Bool, true, ◌&&◌}
 use mathlib.Core.List.{List}
 use lib.ListN.{length}
@@ -13,7 +13,7 @@ use Rattle.std.specs.Prelude.{Ok}
 use Rattle.questions.specs.Check.{Checked, check_mesh, check_refs, check_entries, answer_of}
 use Rattle.std.proofs.lemmas.Bool.{and_parts}
 use Rattle.questions.proofs.Lengths.{has_length_lem, has_one}
-use Rattle.questions.proofs.Accepted.{accepted, refs_accepted, entries_accepted}
+use Rattle.questions.proofs.Accepted.{accepted, refs_exactly, entries_exactly}
 use Rattle.create.specs.Sharp.Entries.{entries_of}
 use Rattle.create.specs.Sharp.EntrySmoothness.{EntriesIn, entry_smoothness}
 use Rattle.create.proofs.SharpLaws.Flat.{flat_entries_in}
@@ -92,8 +92,8 @@ module _ {H : Halfedges} {P N A : List Float} {R : List ℤ} {I : List ℕ} {Q T
     unfolding check_create
     accepted_lists e =
         let lengths = lists_fit H.numbers (length P) (length N) (length A) (length R) (length I) (length Q) (length T) n p && scratch_fits (length X) (length F) (length S) (length D) (length C) (length L) n p in
-        let a = entries_accepted (check_refs (check_mesh H n p lengths) R n) n I Q (sym w.is ∙ e) in
-        let b = accepted H n p lengths (refs_accepted (check_mesh H n p lengths) n R a.0).0 in
+        let a = (entries_exactly (check_refs (check_mesh H n p lengths) R n) n I Q refl).0 (sym w.is ∙ e) in
+        let b = accepted H n p lengths ((refs_exactly (check_mesh H n p lengths) n R refl).0 a.0).0 in
         let q = and_parts _ _ b.0 in
         let l = lists_fit_lem _ _ _ _ _ _ _ _ n p q.0 in
         record {
@@ -102,7 +102,7 @@ module _ {H : Halfedges} {P N A : List Float} {R : List ℤ} {I : List ℕ} {Q T
           tangents = l.tangents;
           scratch = scratch_fits_lem _ _ _ _ _ _ n p q.1;
           smoothness = l.smoothness;
-          entries = subst (λ (G : List Smoothness). EntriesIn G n) (w.entries l.smoothness) (flat_entries_in I Q n l.smoothness a.1 a.2);
+          entries = subst (λ (G : List Smoothness). EntriesIn G n) (w.entries l.smoothness) (flat_entries_in I Q n l.smoothness (λ k h. (a.1 k h).0) (λ k h. (a.1 k h).1));
         }
 
     -- the lists that are written, once the scratch list S' holds the smoothness

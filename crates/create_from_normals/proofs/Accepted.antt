@@ -1,7 +1,7 @@
 -- What an accepted call establishes of its lists. Assumes nothing.
 use Prim.Native.Nat.{ℕ, ◌*◌, ◌/◌, ◌%◌, ◌<◌}
 use native.Mathlib.Omega.{arith}
-use mathlib.Core.Path.{◌≡◌, ◌∙◌}
+use mathlib.Core.Path.{◌≡◌, refl, ◌∙◌}
 use mathlib.Core.Bool.{true, ◌&&◌}
 use mathlib.Core.List.{List}
 use borrow.Author.Tests.{eqb-true}
@@ -16,7 +16,7 @@ use Rattle.mesh.specs.Sound.{Sound}
 use Rattle.std.specs.Prelude.{Ok}
 use Rattle.std.proofs.lemmas.Bool.{and_parts}
 use Rattle.questions.proofs.Lengths.{has_length_lem, has_one}
-use Rattle.questions.proofs.Accepted.{accepted, rows_accepted, refs_accepted}
+use Rattle.questions.proofs.Accepted.{accepted, rows_exactly, refs_exactly}
 use Rattle.mesh.proofs.Inside.{list_numbers}
 use Rattle.create_from_normals.specs.State.State.{RowIn}
 use Rattle.create_from_normals.specs.Whole.Core.{ScratchIn}
@@ -89,7 +89,7 @@ lists_of list P N A R G T X Q C D F n p e =
     let rows = length G / 3 in
     let lengths = lists_fit (length list) (length P) (length N) (length A) (length R) (length G) (length T) n p && scratch_fits (length X) (length Q) (length C) (length D) (length F) n p in
     let mesh = check_mesh H n p lengths in
-    let r = rows_accepted mesh n list rows (refs_accepted (check_rows mesh list rows n) n R e).0 in
+    let r = (rows_exactly mesh n list rows refl).0 ((refs_exactly (check_rows mesh list rows n) n R refl).0 e).0 in
     let b = accepted H n p lengths r.0 in
     let q = and_parts _ _ b.0 in
     let l = lists_fit_lem _ _ _ _ _ _ _ n p q.0 in

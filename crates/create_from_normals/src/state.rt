@@ -5,7 +5,7 @@
 
 ghost use Rattle.std.specs.Prelude.{◌≡◌, ◌+◌, ◌*◌, ◌/◌, ◌≤◌, length};
 ghost use Rattle.smoothing.specs.Directions.{safe_normalize};
-ghost use Rattle.create_from_normals.specs.State.State.{RowIn, get_normal, is_zero, normal_or, add_face_edge, next_face_edges, set_start, missing_start, next_start, some_missing, next_last, start_state, spoil_face_edges};
+ghost use Rattle.create_from_normals.specs.State.State.{RowIn, get_normal, normal_or, add_face_edge, next_face_edges, set_start, missing_start, next_start, some_missing, next_last, start_state, spoil_face_edges};
 ghost use Rattle.create_from_normals.specs.State.Carried.{halfedge_normal, same_bits, same_normal, next_state_of};
 ghost use Rattle.create_from_normals.specs.State.Units.{put_unit, put_units};
 
@@ -67,20 +67,12 @@ pub fn get_normal(h: &[i32], rows: &[f64], e: usize) -> Vec3
     smoothing::point_at(rows, mesh::prop_vert(h, e))
 }
 
-// Is each number 0? That of a missing normal is.
-#[tactic(auto, unfolding(crate::specs::State::State::is_zero))]
-pub fn is_zero(v: Vec3) -> bool
-    ensures { result ≡ is_zero v }
-{
-    v == Vec3::ZERO
-}
-
-// A normal, or another where it is missing.
+// A normal, or another where it is missing: a missing one is zero.
 #[tactic(auto, unfolding(crate::specs::State::State::normal_or))]
 pub fn normal_or(v: Vec3, other: Vec3) -> Vec3
     ensures { result ≡ normal_or v other }
 {
-    if is_zero(v) {
+    if linalg::is_zero(v) {
         return other;
     }
     v
@@ -157,7 +149,7 @@ pub fn normal_after(
     HalfedgeNormal {
         normal,
         unit,
-        zero: is_zero(normal),
+        zero: linalg::is_zero(normal),
         flat: smoothing::equal_units(unit, face_unit),
     }
 }

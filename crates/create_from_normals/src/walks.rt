@@ -143,7 +143,7 @@ fn finish_vert(
     let mesh = &lists.mesh;
     let start = state.start_halfedge;
     let last = state.last_normal;
-    if state::some_missing(start) & state::is_zero(last) {
+    if state::some_missing(start) & linalg::is_zero(last) {
         let normal = smoothing::point_at(mesh.normals, v);
         return vert_normal_walk(lists, normal, t, e);
     }

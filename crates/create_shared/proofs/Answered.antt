@@ -2,14 +2,13 @@
 use Rattle.std.proofs.Common.{ℕ, ◌≤◌, ◌≡◌, refl, sym, ap, ◌∙◌, arith, Ok, Err}
 use Rattle.questions.specs.Check.{Checked, answer_of}
 use Rattle.questions.specs.declared.Refusal.{Refusal}
+use Rattle.questions.proofs.Answered.{checks_of, value_of_answer}
 use Rattle.create_shared.specs.Answer.{Making, directionless_of, checked_of, Values}
 
-values_are : (c : Checked) (k : ℕ) → Values c k (answer_of c k)
-values_are (Ok tt) k = record { number = refl; place = refl; directionless = refl }
-values_are (Err refusal) k = record { number = refl; place = refl; directionless = refl }
-
 pub values_of : (c : Checked) (k : ℕ) {r : Making} → r ≡ answer_of c k → Values c k r
-values_of c k e = rw e (values_are c k)
+values_of c k e =
+    let checks = checks_of c k e in
+    record { number = checks.number; place = checks.place; directionless = value_of_answer c k e 0 (λ directionless. directionless) }
 
 within : (c : Checked) (k m : ℕ) → (c ≡ Ok tt → k ≤ m) → directionless_of (answer_of c k) ≤ m
 within (Ok tt) k m h = h refl

@@ -1,5 +1,5 @@
 -- What an accepted call establishes of its lists.
-use mathlib.Core.Path.{◌≡◌}
+use mathlib.Core.Path.{◌≡◌, refl}
 use mathlib.Core.List.{List}
 use mathlib.Core.Bool.{Bool, true, ◌&&◌}
 use Prim.Native.Nat.{ℕ, ◌*◌}
@@ -11,7 +11,7 @@ use Rattle.mesh.specs.Mesh.{halfedge_stride, Halfedges}
 use Rattle.mesh.specs.Sound.{Sound}
 use Rattle.std.specs.Prelude.{Ok}
 use Rattle.std.proofs.lemmas.Bool.{and_parts}
-use Rattle.questions.proofs.Accepted.{accepted, flags_accepted}
+use Rattle.questions.proofs.Accepted.{accepted, flags_exactly}
 use Rattle.questions.specs.Questions.{has_length}
 use Rattle.distribute.specs.Distribute.{lists_fit, check_with, check_lists}
 use Rattle.distribute.specs.Preview.Preview as Preview
@@ -27,7 +27,7 @@ pub record Read (H : Halfedges) (P N : List Float) (X : List ℕ) (T : List Floa
 read_of : (H : Halfedges) (P N : List Float) (X : List ℕ) (T : List Float) (others : Bool) (n p : ℕ) → check_with H P N X T others n p ≡ Ok tt
     → Sound H n p × Read H P N X T n p × (others ≡ true)
 read_of H P N X T others n p e =
-    let m = accepted H n p (lists_fit H P N X T n p && others) (flags_accepted _ n X e).0 in
+    let m = accepted H n p (lists_fit H P N X T n p && others) ((flags_exactly _ n X refl).0 e).0 in
     let a = and_parts (lists_fit H P N X T n p) others m.0 in (
       m.1,
       record {

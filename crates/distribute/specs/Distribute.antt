@@ -1,9 +1,9 @@
 -- Spreading as a public call: `distribute_tangents` of src/smoothing_tangents.rs, with its two counts and its questions. H are the halfedges, P the positions, N the point normals, X the flags, T the tangents, C and D the scratch lists, n and p the counts of halfedges and points.
-use Rattle.std.specs.Prelude.{ℕ, ◌≡◌, List, Bool, ◌&&◌, length, replicate, Float, Result, Ok, Err}
+use Rattle.std.specs.Prelude.{ℕ, ◌≡◌, List, Bool, ◌&&◌, length, replicate, Float, Result, Ok}
 use Rattle.float.specs.Ops.{zero}
 use Rattle.mesh.specs.Mesh.{Halfedges}
 use Rattle.questions.specs.Questions.{has_length, points_fit}
-use Rattle.questions.specs.Check.{Checked, number_of, place_of, check_mesh, check_flags, answer_of, when_accepted}
+use Rattle.questions.specs.Check.{Checked, number_of, place_of, value_or, check_mesh, check_flags, answer_of, when_accepted}
 use Rattle.questions.specs.declared.Refusal.{Refusal}
 use Rattle.distribute.specs.Spread.Steps.{Steps}
 use Rattle.distribute.specs.Spread.Spread.{State, pass}
@@ -19,12 +19,10 @@ Spreading = Result Counts Refusal
 
 -- looked and turned; 0 for a refusal, which looks at nothing
 abbrev pub looked_of : Spreading → ℕ
-looked_of (Ok counts) = counts.looked
-looked_of (Err refusal) = 0
+looked_of = value_or 0 (λ (counts : Counts). counts.looked)
 
 abbrev pub turned_of : Spreading → ℕ
-turned_of (Ok counts) = counts.turned
-turned_of (Err refusal) = 0
+turned_of = value_or 0 (λ (counts : Counts). counts.turned)
 
 -- ---- the questions
 

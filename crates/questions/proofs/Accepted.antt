@@ -119,59 +119,37 @@ sound_accepted H n p s =
 pub mesh_exactly : (H : Halfedges) (n p : ℕ) (lengths : Bool) {r : Checked} → r ≡ check_mesh H n p lengths → (r ≡ Ok tt) ↔ ((lengths ≡ true) × Sound H n p)
 mesh_exactly H n p lengths e = (λ q. accepted H n p lengths (sym e ∙ q), λ f. e ∙ (rw f.0 (sound_accepted H n p f.1)))
 
+-- ---- one question of each of m places after the answer a, by a test t, of which M is what it finds
+
+module _ (a : Checked) (question : Question) (t : ℕ → Bool) (m : ℕ) (M : ℕ → Type 0) (found : (k : ℕ) → t k ≡ true → M k) (tested : (k : ℕ) → M k → t k ≡ true) where
+  further_exactly : {r : Checked} → r ≡ (a then each question t m) → (r ≡ Ok tt) ↔ ((a ≡ Ok tt) × ((k : ℕ) → k < m → M k))
+  further_exactly e = (
+    λ q. let b = then_accepted a (each question t m) (sym e ∙ q) in (b.0, λ k h. found k (each_accepted question t m b.1 k h)),
+    λ f. e ∙ accepted_then f.0 (accepted_each question t m (λ k h. tested k (f.1 k h))),
+  )
+
 -- ---- the questions 8 to 12, after the answer a
 module _ (a : Checked) (n : ℕ) where
-  pub refs_accepted : (R : List ℤ) → check_refs a R n ≡ Ok tt → (a ≡ Ok tt) × ((t : ℕ) → t < n / 3 → le_z (pos 1) (ref_at R t 0) ≡ true)
-  unfolding check_refs
-  refs_accepted R e = let b = then_accepted a (each Mesh (has_mesh R) (n / 3)) e in (b.0, each_accepted Mesh (has_mesh R) (n / 3) b.1)
-
-  pub accepted_refs : (R : List ℤ) → a ≡ Ok tt → ((t : ℕ) → t < n / 3 → le_z (pos 1) (ref_at R t 0) ≡ true) → check_refs a R n ≡ Ok tt
-  unfolding check_refs
-  accepted_refs R e f = accepted_then e (accepted_each Mesh (has_mesh R) (n / 3) f)
-
   pub refs_exactly : (R : List ℤ) {r : Checked} → r ≡ check_refs a R n → (r ≡ Ok tt) ↔ ((a ≡ Ok tt) × ((t : ℕ) → t < n / 3 → le_z (pos 1) (ref_at R t 0) ≡ true))
-  refs_exactly R e = (λ q. refs_accepted R (sym e ∙ q), λ f. e ∙ accepted_refs R f.0 f.1)
-
-  pub entries_accepted : (E : List ℕ) (S : List Float) → check_entries a E S n ≡ Ok tt → (a ≡ Ok tt) × ((k : ℕ) → k < length E → get_or E k 0 < n) × ((k : ℕ) → k < length E → sign_clear (get_or S k nan) ≡ true)
-  unfolding check_entries
-  entries_accepted E S e =
-      let b = then_accepted (a then each Entry (names_halfedge E n) (length E)) (each Sign (has_clear_sign S) (length E)) e in
-      let d = then_accepted a (each Entry (names_halfedge E n) (length E)) b.0 in
-      (d.0, λ k h. ltb-true _ _ (each_accepted Entry (names_halfedge E n) (length E) d.1 k h), each_accepted Sign (has_clear_sign S) (length E) b.1)
-
-  pub accepted_entries : (E : List ℕ) (S : List Float) → a ≡ Ok tt → ((k : ℕ) → k < length E → get_or E k 0 < n) → ((k : ℕ) → k < length E → sign_clear (get_or S k nan) ≡ true) → check_entries a E S n ≡ Ok tt
-  unfolding check_entries
-  accepted_entries E S e f g =
-      accepted_then
-      (accepted_then e (accepted_each Entry (names_halfedge E n) (length E) (λ k h. lt-ltb _ _ (f k h))))
-      (accepted_each Sign (has_clear_sign S) (length E) g)
+  unfolding check_refs
+  refs_exactly R = further_exactly a Mesh (has_mesh R) (n / 3) (λ t. le_z (pos 1) (ref_at R t 0) ≡ true) (λ t q. q) (λ t q. q)
 
   pub entries_exactly : (E : List ℕ) (S : List Float) {r : Checked} → r ≡ check_entries a E S n → (r ≡ Ok tt) ↔ ((a ≡ Ok tt) × ((k : ℕ) → k < length E → (get_or E k 0 < n) × (sign_clear (get_or S k nan) ≡ true)))
+  unfolding check_entries
   entries_exactly E S e =
-      (λ q. let f = entries_accepted E S (sym e ∙ q) in (f.0, λ k h. (f.1 k h, f.2 k h)), λ f. e ∙ accepted_entries E S f.0 (λ k h. (f.1 k h).0) (λ k h. (f.1 k h).1))
-
-  pub flags_accepted : (F : List ℕ) → check_flags a F n ≡ Ok tt → (a ≡ Ok tt) × ((e : ℕ) → e < n → get_or F e 0 ≤ 1)
-  unfolding check_flags
-  flags_accepted F e =
-      let b = then_accepted a (each Flag (is_flag F) n) e in
-      (b.0, λ k h. leb-true _ _ (each_accepted Flag (is_flag F) n b.1 k h))
-
-  pub accepted_flags : (F : List ℕ) → a ≡ Ok tt → ((e : ℕ) → e < n → get_or F e 0 ≤ 1) → check_flags a F n ≡ Ok tt
-  unfolding check_flags
-  accepted_flags F e f = accepted_then e (accepted_each Flag (is_flag F) n (λ k h. le-leb _ _ (f k h)))
+      let named = further_exactly a Entry (names_halfedge E n) (length E) (λ k. get_or E k 0 < n) (λ k. ltb-true _ _) (λ k. lt-ltb _ _) refl in
+      let signed = further_exactly (a then each Entry (names_halfedge E n) (length E)) Sign (has_clear_sign S) (length E) (λ k. sign_clear (get_or S k nan) ≡ true) (λ k q. q) (λ k q. q) e in (
+        λ q. let s = signed.0 q in let g = named.0 s.0 in (g.0, λ k h. (g.1 k h, s.1 k h)),
+        λ f. signed.1 (named.1 (f.0, λ k h. (f.1 k h).0), λ k h. (f.1 k h).1),
+      )
 
   pub flags_exactly : (F : List ℕ) {r : Checked} → r ≡ check_flags a F n → (r ≡ Ok tt) ↔ ((a ≡ Ok tt) × ((e : ℕ) → e < n → get_or F e 0 ≤ 1))
-  flags_exactly F e = (λ q. flags_accepted F (sym e ∙ q), λ f. e ∙ accepted_flags F f.0 f.1)
-
-  pub rows_accepted : (list : List ℤ) (rows : ℕ) → check_rows a list rows n ≡ Ok tt → (a ≡ Ok tt) × ((e : ℕ) → e < n → (prop_vert list e < no_index) × (prop_vert list e < rows))
-  unfolding check_rows
-  rows_accepted list rows e =
-      let b = then_accepted a (each Row (has_row list rows) n) e in
-      (b.0, λ k h. let q = and_parts _ _ (each_accepted Row (has_row list rows) n b.1 k h) in (ltb-true _ _ q.0, ltb-true _ _ q.1))
-
-  pub accepted_rows : (list : List ℤ) (rows : ℕ) → a ≡ Ok tt → ((e : ℕ) → e < n → (prop_vert list e < no_index) × (prop_vert list e < rows)) → check_rows a list rows n ≡ Ok tt
-  unfolding check_rows
-  accepted_rows list rows e f = accepted_then e (accepted_each Row (has_row list rows) n (λ k h. and_from _ _ (lt-ltb _ _ (f k h).0) (lt-ltb _ _ (f k h).1)))
+  unfolding check_flags
+  flags_exactly F = further_exactly a Flag (is_flag F) n (λ e. get_or F e 0 ≤ 1) (λ e. leb-true _ _) (λ e. le-leb _ _)
 
   pub rows_exactly : (list : List ℤ) (rows : ℕ) {r : Checked} → r ≡ check_rows a list rows n → (r ≡ Ok tt) ↔ ((a ≡ Ok tt) × ((e : ℕ) → e < n → (prop_vert list e < no_index) × (prop_vert list e < rows)))
-  rows_exactly list rows e = (λ q. rows_accepted list rows (sym e ∙ q), λ f. e ∙ accepted_rows list rows f.0 f.1)
+  unfolding check_rows
+  rows_exactly list rows =
+      further_exactly a Row (has_row list rows) n (λ e. (prop_vert list e < no_index) × (prop_vert list e < rows))
+      (λ e q. let both = and_parts _ _ q in (ltb-true _ _ both.0, ltb-true _ _ both.1))
+      (λ e f. and_from _ _ (lt-ltb _ _ f.0) (lt-ltb _ _ f.1))

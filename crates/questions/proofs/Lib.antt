@@ -3,4 +3,5 @@ pub mod Lengths
 mod Sign
 mod Search
 pub mod Accepted
+pub mod Answered
 mod TriangleLaws

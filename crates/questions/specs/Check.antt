@@ -56,6 +56,11 @@ abbrev pub when_accepted : {A : Type 0} → Checked → A → A → A
 when_accepted (Ok a) after lent = after
 when_accepted (Err refusal) after lent = lent
 
+-- a value of an answer: `value` of what is accepted, and `none` for a refusal, which has no value
+abbrev pub value_or : {A B : Type 0} → B → (A → B) → Result A Refusal → B
+value_or none value (Ok a) = value a
+value_or none value (Err refusal) = none
+
 -- what the definitions give of an answer `r` of a call whose questions are answered by `checked`: number and place
 pub record Values {A : Type 0} (checked : Checked) (r : Result A Refusal) : Type 0 where
   pub number : number_of r ≡ number_of checked

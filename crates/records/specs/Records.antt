@@ -1,7 +1,7 @@
 -- The records of an input: a u32 body length, a u16 kind and the body, kinds 1, 2, 3, .. in order. An input is refused by the first question that is answered no: 20 to 24, with its place.
-use Rattle.std.specs.Prelude.{ℕ, ◌+◌, ◌*◌, ◌-◌, ◌≡◌, List, [], ◌∷◌, Bool, cond, ◌&&◌, length, get_or, take, drop, leb, eqb, Result, Ok, Err}
+use Rattle.std.specs.Prelude.{ℕ, ◌+◌, ◌*◌, ◌-◌, ◌≡◌, List, [], ◌∷◌, Bool, cond, ◌&&◌, length, get_or, take, drop, leb, eqb, Result}
 use Rattle.little_endian.specs.Numbers.{u16_at, u32_at}
-use Rattle.questions.specs.Check.{Checked, number_of, place_of, asked, ◌then◌, answer_of, when_accepted}
+use Rattle.questions.specs.Check.{Checked, number_of, place_of, value_or, asked, ◌then◌, answer_of, when_accepted}
 use Rattle.questions.specs.declared.Question.TheVariants.{Fits, Kind as OtherKind, Body, Operation as Unknown, End}
 use Rattle.questions.specs.declared.Refusal.{Refusal}
 use Rattle.records.specs.declared.TheConstants.{MAX_INPUT, HEADER_BYTES, POINT_BYTES, HALFEDGE_BYTES, TANGENT_BYTES, COUNTS_AT, POSITIONS_AT, MAX_POINTS, MAX_HALFEDGES}
@@ -35,16 +35,13 @@ operation_answer number = answer_of (check_operation number) (operation_of_numbe
 -- ---- the values of an answer: its number and place (`questions`), and the operation and the counts of points and halfedges; 0 for a refusal, which has none
 
 abbrev pub operation_of : Result Input Refusal → ℕ
-operation_of (Ok input) = operation_number input.operation
-operation_of (Err refusal) = 0
+operation_of = value_or 0 (λ (input : Input). operation_number input.operation)
 
 abbrev pub points_of : Result Input Refusal → ℕ
-points_of (Ok input) = input.counts.points
-points_of (Err refusal) = 0
+points_of = value_or 0 (λ (input : Input). input.counts.points)
 
 abbrev pub halfedges_of : Result Input Refusal → ℕ
-halfedges_of (Ok input) = input.counts.halfedges
-halfedges_of (Err refusal) = 0
+halfedges_of = value_or 0 (λ (input : Input). input.counts.halfedges)
 
 -- ---- the records
 

@@ -16,11 +16,11 @@ use Rattle.std.proofs.lemmas.Grind.{flat_map-append}
 use Rattle.common.specs.Fold.{fold_to}
 use Rattle.common.specs.Count.{sum, count_below}
 use Rattle.common.proofs.Front.{front_two, range_next}
-use Rattle.linalg.specs.Vec.{dot_of}
+use Rattle.linalg.specs.Vec.{is_zero, dot_of}
 use Rattle.mesh.specs.Mesh.{paired_halfedge, is_forward, Halfedges}
 use Rattle.mesh.specs.Sound.{Sound}
 use Rattle.questions.specs.Check.{Checked}
-use Rattle.sharpen.specs.Crease.{min_radians, dihedral_of, is_zero, own_normal, other_normal, touches_zero, edge_kind, is_listed}
+use Rattle.sharpen.specs.Crease.{min_radians, dihedral_of, own_normal, other_normal, touches_zero, edge_kind, is_listed}
 use Rattle.sharpen.specs.Entries.{Entries, entries_in, push_entry, push_edge, list_edge, list_edges}
 use Rattle.sharpen.specs.Sharpen.{check_lists, creases, crease_tally, tally_of, sharpen_edges, entries_after}
 use Rattle.sharpen.specs.Edges.{edge_entries, edges_of, edges_after, HoldEdges, EntriesFiltered}

@@ -1,4 +1,4 @@
--- The listings as lists of edges, by document 02's request 6: the clean one omits the edges that touch an all-zero face normal "and no others, in the same order". Letters as in Sharpen.antt.
+-- The listings as lists of edges (docs/changes/06-clean-listing.md): the clean one omits the edges that touch an all-zero face normal "and no others, in the same order". Letters as in Sharpen.antt.
 use Rattle.std.specs.Prelude.{ℕ, ◌*◌, ◌≡◌, List, [], ◌∷◌, ◌++◌, not, filter, flat_map, length, take, drop, replicate, Float}
 use Rattle.std.specs.List.{range_with_len}
 use Rattle.mesh.specs.Mesh.{paired_halfedge, Halfedges}

@@ -1,4 +1,4 @@
-// The crease listings: `sharpen_edges` of src/smoothing_tangents.rs over lent lists, and the clean one of document 02's request 6.
+// The crease listings: `sharpen_edges` of src/smoothing_tangents.rs over lent lists, and the clean one (docs/changes/06-clean-listing.md).
 // `edge` has the rule for one edge; what lists an edge stands apart from it.
 // Each function asks for its own place (`e < n`, room for two entries more): the place differs from call to call, so no struct of
 // the lists can hold it. The two lists that are written stay parameters, with the number of their entries: the C interface lends
@@ -30,8 +30,8 @@ pub struct Listed {
     pub tally: usize,
 }
 
-// How many entries the lists have; 0 where the call is refused. Here and below there is one function for each value of an answer, as
-// document 01 names each.
+// How many entries the lists have; 0 where the call is refused. Here and below there is one function for each value of an
+// answer.
 pub fn entries_of(listing: Result<Listed, Refusal>) -> usize
     ensures { result ≡ entries_of listing }
 {
@@ -141,7 +141,7 @@ fn sharpen_by(
     ensures outcome { Outcome rule (as_halfedges h.now) face_normals.now angle smooth entries.old smoothness.old n p entries.new smoothness.new result }
 {
     let checked = questions::check_mesh(h, n, p, lengths_fit(n, h, face_normals, entries, smoothness));
-    // Document 01's form by place: the check's answer is opened by `let .. else`.
+    // The check's answer is opened by `let .. else`.
     let Ok(()) = checked else {
         return questions::refused(checked);
     };

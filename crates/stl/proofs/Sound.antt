@@ -16,7 +16,7 @@ use Rattle.mesh.specs.Mesh.{max_halfedges, max_points, halfedge_stride, number_a
 use Rattle.questions.specs.Check.{asked, check_mesh, check_rows}
 use Rattle.mesh.specs.Sound.{Sound}
 use Rattle.questions.specs.declared.Question.TheVariants.{Lengths, Size, Corners, Pairing}
-use Rattle.questions.proofs.Accepted.{then_accepted, asked_accepted, each_accepted, sound_accepted, accepted_rows}
+use Rattle.questions.proofs.Accepted.{then_accepted, asked_accepted, each_accepted, sound_accepted, rows_exactly}
 use Rattle.mesh.proofs.Halfedges.{next_below, next_cases}
 use Rattle.little_endian.specs.Filled.{items, filled}
 use Rattle.little_endian.proofs.Filled.{items_length, items_at, filled_items}
@@ -154,7 +154,7 @@ module _ (s : List ℕ) where
     }
 
     rows : check_rows (Ok tt) halfedge_list (halfedge_count s) (halfedge_count s) ≡ Ok tt
-    rows = accepted_rows (Ok tt) (halfedge_count s) halfedge_list (halfedge_count s) refl (λ e h. (omega (arith, row_is e h), omega (arith, row_is e h)))
+    rows = (rows_exactly (Ok tt) (halfedge_count s) halfedge_list (halfedge_count s) refl).1 (refl, λ e h. (omega (arith, row_is e h), omega (arith, row_is e h)))
 
     list_is_mesh : (list : List ℤ) (lengths : Bool) → list ≡ halfedge_list → lengths ≡ true → (check_mesh (as_halfedges list) (halfedge_count s) (point_count s) lengths ≡ Ok tt) × (check_rows (Ok tt) list (halfedge_count s) (halfedge_count s) ≡ Ok tt)
     unfolding halfedges

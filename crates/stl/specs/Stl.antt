@@ -2,7 +2,7 @@
 use Rattle.std.specs.Prelude.{ℕ, ◌*◌, ◌/◌, ◌≡◌, List, ◌&&◌, length, take, ℤ, Float, Result, Ok, Err, ⊤}
 use Rattle.mesh.specs.Mesh.{halfedge_stride, as_halfedges}
 use Rattle.questions.specs.Questions.{has_length}
-use Rattle.questions.specs.Check.{Checked, number_of, place_of, answer_of, when_accepted, check_mesh, check_rows}
+use Rattle.questions.specs.Check.{Checked, number_of, place_of, value_or, answer_of, when_accepted, check_mesh, check_rows}
 use Rattle.questions.specs.declared.Refusal.{Refusal}
 use Rattle.little_endian.specs.Filled.{filled}
 use Rattle.stl.specs.File.File.{triangle_count, halfedge_count, normal_item}
@@ -19,12 +19,10 @@ Reading = Result MeshCounts Refusal
 
 -- each count; 0 for a refusal, which reads nothing
 abbrev pub halfedges_of : Reading → ℕ
-halfedges_of (Ok counts) = counts.halfedges
-halfedges_of (Err refusal) = 0
+halfedges_of = value_or 0 (λ (counts : MeshCounts). counts.halfedges)
 
 abbrev pub points_of : Reading → ℕ
-points_of (Ok counts) = counts.points
-points_of (Err refusal) = 0
+points_of = value_or 0 (λ (counts : MeshCounts). counts.points)
 
 -- the counts of a file
 abbrev pub counts_of : List ℕ → MeshCounts

@@ -1,4 +1,4 @@
-// `valid_tangents` of src/smoothing_tangents.rs (document 01's mark check): do the marks of paired halfedges agree, and
+// `valid_tangents` of src/smoothing_tangents.rs (the mark check): do the marks of paired halfedges agree, and
 // has no marked halfedge a marked neighbour?
 #![tactic(auto)]
 
@@ -102,7 +102,7 @@ pub fn valid_tangents(
     ensures values { Values (check_mesh (as_halfedges h.now) n p (lengths_fit (as_halfedges h.now) pos.now n p)) (valid_tangents (as_halfedges h.now) t.now n) result }
 {
     let checked = questions::check_mesh(h, n, p, lengths_fit(n, p, h, pos));
-    // Document 01's form by place: the check's answer is opened by `let .. else`.
+    // The check's answer is opened by `let .. else`.
     let Ok(()) = checked else {
         return questions::refused(checked);
     };

@@ -13,6 +13,7 @@ use Rattle.linalg.specs.declared.Vec3.{Vec3}
 use Rattle.common.specs.Count.{count_below}
 use Rattle.common.specs.Counted.{counted}
 use Rattle.common.proofs.Counted.{counted_length, counted_sum}
+use Rattle.linalg.specs.Vec.{is_zero}
 use Rattle.mesh.specs.Mesh.{start_vert, Halfedges}
 use Rattle.mesh.specs.Sound.{Sound}
 use Rattle.smoothing.specs.Lists.{point_at}
@@ -25,7 +26,7 @@ use Rattle.create_shared.specs.Makings.{Tangents}
 use Rattle.create_shared.proofs.Verts.{vert_halfedge_starts}
 use Rattle.create_from_normals.specs.declared.state.StartHalfedge.{StartHalfedge}
 use Rattle.create_from_normals.specs.declared.state.StartHalfedge.TheVariants.{NoneMissing, SomeMissing, StartAt}
-use Rattle.create_from_normals.specs.State.State.{is_zero, some_missing, start_state}
+use Rattle.create_from_normals.specs.State.State.{some_missing, start_state}
 use Rattle.create_from_normals.specs.Steps.Steps.{StartNames, StartIn, StateNames, Walk, walk_of, normal_step, normal_step_directionless, vert_normal_step, vert_normal_directionless, Fill, fill_of, fill_step, fill_directionless}
 use Rattle.create_from_normals.proofs.StepsLaws.Counts.{way_at_most, normal_step_one, vert_normal_one, fill_one, face_edges_two}
 use Rattle.create_from_normals.specs.Walks.Walks.{normal_walk, normal_walk_directionless, vert_normal_walk_directionless, fill_walk_directionless, fill_missing_directionless, finish_vert_directionless, normals_vert, normals_vert_directionless, normals_verts_directionless}

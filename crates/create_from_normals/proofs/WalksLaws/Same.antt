@@ -10,6 +10,7 @@ use Rattle.linalg.specs.declared.Vec3.{Vec3}
 use Rattle.common.specs.Fold.{fold_to}
 use Rattle.common.specs.Counted.{Counted, counted, count_step}
 use Rattle.common.proofs.Counted.{counted_foldl, counted_fold_to}
+use Rattle.linalg.specs.Vec.{is_zero}
 use Rattle.mesh.specs.Mesh.{Halfedges}
 use Rattle.mesh.specs.Sound.{Sound}
 use Rattle.smoothing.specs.Lists.{point_at}
@@ -19,7 +20,7 @@ use Rattle.create_shared.specs.Verts.{vert_halfedge}
 use Rattle.create_shared.specs.Makings.{Tangents, tangents_of}
 use Rattle.create_from_normals.specs.declared.state.StartHalfedge.{StartHalfedge}
 use Rattle.create_from_normals.specs.declared.state.StartHalfedge.TheVariants.{NoneMissing, SomeMissing, StartAt}
-use Rattle.create_from_normals.specs.State.State.{has_face_normal, is_missing, is_zero, some_missing, start_state, next_state}
+use Rattle.create_from_normals.specs.State.State.{has_face_normal, is_missing, some_missing, start_state, next_state}
 use Rattle.create_from_normals.specs.Steps.Steps.{StartIn, StateIn, Walk, walk_of, Fill, fill_of, tangent_step, normal_step, normal_step_directionless, fill_step, fill_directionless, align_face_edges, face_edges_directionless}
 use Rattle.create_from_normals.specs.Walks.Walks.{normal_walk, normal_walk_directionless, vert_normal_walk, vert_normal_walk_directionless, fill_walk, fill_walk_directionless, fill_missing, fill_missing_directionless, finish_vert, finish_vert_directionless, normals_vert, normals_vert_directionless, normals_verts, normals_verts_directionless}
 use Rattle.create_from_normals.proofs.WalksLaws.Rounds.{cycle_same, walk_in}

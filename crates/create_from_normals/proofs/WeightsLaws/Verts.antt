@@ -11,6 +11,7 @@ use lib.Dec.{ltb}
 use lib.ListN.{length}
 use lib.Ieee.{Float, eq, of_bits}
 use Rattle.linalg.specs.declared.Vec3.{Vec3}
+use Rattle.linalg.specs.Vec.{is_zero}
 use Rattle.mesh.specs.Mesh.{Halfedges}
 use Rattle.mesh.specs.Sound.{Sound}
 use Rattle.smoothing.specs.Lists.{point_at, weight_at}
@@ -24,7 +25,7 @@ use Rattle.create_shared.specs.Verts.{vert_halfedge}
 use Rattle.create_shared.specs.Makings.{Tangents, tangents_of}
 use Rattle.create_from_normals.specs.declared.state.StartHalfedge.{StartHalfedge}
 use Rattle.create_from_normals.specs.declared.state.StartHalfedge.TheVariants.{NoneMissing, SomeMissing, StartAt}
-use Rattle.create_from_normals.specs.State.State.{is_zero, is_missing, some_missing, set_start, missing_start, next_start, next_last, zero_normal, start_state}
+use Rattle.create_from_normals.specs.State.State.{is_missing, some_missing, set_start, missing_start, next_start, next_last, zero_normal, start_state}
 use Rattle.create_from_normals.specs.Steps.Steps.{missing_normal_weight, Walk, walk_of, normal_step, vert_normal_step, fill_of, fill_step}
 use Rattle.create_from_normals.specs.Walks.Walks.{normal_walk, vert_normal_walk, fill_walk, fill_missing, finish_vert, normals_vert}
 use Rattle.std.proofs.lemmas.Bool.{cond_both}

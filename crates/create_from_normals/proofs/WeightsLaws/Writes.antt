@@ -10,6 +10,7 @@ use lib.Ieee.{Float, lt, eq, neg, of_bits}
 use Rattle.float.specs.Ops.{zero}
 use Rattle.linalg.specs.declared.Vec3.{Vec3}
 use Rattle.linalg.specs.declared.Vec4.{Vec4}
+use Rattle.linalg.specs.Vec.{is_zero}
 use Rattle.mesh.specs.Mesh.{Halfedges}
 use Rattle.smoothing.specs.Directions.{circular_tangent, equal_normals}
 use Rattle.smoothing.specs.Lists.{tangent_at, put_tangent, weight_at, is_marked_inside_quad}
@@ -19,7 +20,7 @@ use Rattle.cycles.specs.Cycles.{next_around}
 use Rattle.create_shared.specs.Makings.{Tangents, put_circular_tangent, align_tangents}
 use Rattle.create_from_normals.specs.declared.state.FaceEdges.{FaceEdges}
 use Rattle.create_from_normals.specs.declared.state.FaceEdges.TheVariants.{NoEdge, OneEdge, TwoEdges, Spoiled}
-use Rattle.create_from_normals.specs.State.State.{is_zero, is_missing, next_start, next_last, next_state, spoil_face_edges}
+use Rattle.create_from_normals.specs.State.State.{is_missing, next_start, next_last, next_state, spoil_face_edges}
 use Rattle.create_from_normals.specs.Steps.Steps.{tangent_between, inside_quad_weight, missing_normal_weight, flag_tangent, Walk, walk_of, tangent_step, normal_step, vert_normal_step, Fill, fill_tangent, put_fill_tangent, fill_step, fix_face_edges, align_face_edges}
 use Rattle.create_from_normals.specs.declared.state.CycleState.{CycleState}
 use Rattle.create_from_normals.proofs.StepsLaws.Carried.{one_above}

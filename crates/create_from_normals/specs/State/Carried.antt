@@ -2,11 +2,12 @@
 use Rattle.std.specs.Prelude.{ℕ, ◌/◌, List, Bool, ◌&&◌, eqb, Float}
 use Rattle.float.specs.F64.{bits_of}
 use Rattle.linalg.specs.declared.Vec3.{Vec3}
+use Rattle.linalg.specs.Vec.{is_zero}
 use Rattle.smoothing.specs.Directions.{safe_normalize, equal_units}
 use Rattle.smoothing.specs.Lists.{point_at}
 use Rattle.create_from_normals.specs.declared.state.HalfedgeNormal.{HalfedgeNormal}
 use Rattle.create_from_normals.specs.declared.state.CycleState.{CycleState}
-use Rattle.create_from_normals.specs.State.State.{is_zero, next_face_edges, next_start, next_last}
+use Rattle.create_from_normals.specs.State.State.{next_face_edges, next_start, next_last}
 
 -- the normal of halfedge e with what the loop asks of it: its unit vector, `here_zero`, `here_is_flat`; U are the unit vectors of the triangles' normals
 unfoldable pub halfedge_normal : List Float → (ℕ → Vec3) → ℕ → HalfedgeNormal

@@ -1,9 +1,9 @@
 -- What `create_tangents_from_normals` reads of a normal, and what it carries on its way round a vertex cycle. H are the halfedges, A the face normals, `normal` gives the normal of a halfedge (`get_normal`).
 use Rattle.std.specs.Prelude.{ℕ, ◌+◌, ◌*◌, ◌/◌, ◌≤◌, ◌<◌, List, Bool, true, false, cond, not, ◌&&◌, ◌||◌, length, ℤ, Float}
 use Rattle.std.specs.Bool.{xor}
-use Rattle.std.specs.Float.Ieee.{eq}
 use Rattle.float.specs.Ops.{zero}
 use Rattle.linalg.specs.declared.Vec3.{Vec3}
+use Rattle.linalg.specs.Vec.{is_zero}
 use Rattle.mesh.specs.Mesh.{halfedge_stride, no_index, Halfedges, prop_vert}
 use Rattle.smoothing.specs.Directions.{equal_normals}
 use Rattle.smoothing.specs.Lists.{point_at}
@@ -28,11 +28,7 @@ pub record RowIn (list : List ℤ) (G : List Float) (e : ℕ) : Type 0 where
 unfoldable pub get_normal : List ℤ → List Float → ℕ → Vec3
 get_normal list G e = point_at G (prop_vert list e)
 
--- `== Vec3::new(0.0, 0.0, 0.0)`: each number is a zero of either sign, and none is not-a-number. A missing normal is zero.
-unfoldable pub is_zero : Vec3 → Bool
-is_zero v = eq v.x zero && eq v.y zero && eq v.z zero
-
--- a normal, or another where it is missing
+-- a normal, or another where it is missing: a missing one is zero (`is_zero`)
 unfoldable pub normal_or : Vec3 → Vec3 → Vec3
 normal_or v other = cond (is_zero v) other v
 

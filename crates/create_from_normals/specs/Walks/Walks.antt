@@ -4,6 +4,7 @@ use mathlib.Core.List.{List, foldl}
 use Rattle.linalg.specs.declared.Vec3.{Vec3}
 use Rattle.common.specs.Fold.{fold_to}
 use Rattle.common.specs.Counted.{counted, count_step}
+use Rattle.linalg.specs.Vec.{is_zero}
 use Rattle.mesh.specs.Mesh.{Halfedges}
 use Rattle.smoothing.specs.Lists.{point_at}
 use Rattle.create_shared.specs.Makings.{Tangents, tangents_of}
@@ -11,7 +12,7 @@ use Rattle.cycles.specs.Cycles.{next_around, vertex_cycle, vertex_cycle_back}
 use Rattle.create_shared.specs.Verts.{vert_halfedge}
 use Rattle.create_from_normals.specs.declared.state.StartHalfedge.{StartHalfedge}
 use Rattle.create_from_normals.specs.declared.state.StartHalfedge.TheVariants.{NoneMissing, SomeMissing, StartAt}
-use Rattle.create_from_normals.specs.State.State.{is_zero, some_missing, start_state}
+use Rattle.create_from_normals.specs.State.State.{some_missing, start_state}
 use Rattle.create_from_normals.specs.Steps.Steps.{Walk, walk_of, normal_step, normal_step_directionless, vert_normal_step, vert_normal_directionless, Fill, fill_of, fill_step, fill_directionless, align_face_edges, face_edges_directionless}
 
 -- ---- the loops round a vertex cycle
