@@ -140,7 +140,12 @@ fn sharpen_by(
 ) -> Result<Listed, Refusal>
     ensures outcome { Outcome rule (as_halfedges h.now) face_normals.now angle smooth entries.old smoothness.old n p entries.new smoothness.new result }
 {
-    let checked = questions::check_mesh(h, n, p, lengths_fit(n, h, face_normals, entries, smoothness));
+    let checked = questions::check_mesh(
+        h,
+        n,
+        p,
+        lengths_fit(n, h, face_normals, entries, smoothness),
+    );
     // The check's answer is opened by `let .. else`.
     let Ok(()) = checked else {
         return questions::refused(checked);
