@@ -1,4 +1,4 @@
--- The answer of a making: request 3's count, or the refusal.
+-- The answer of a making: the count of circular tangents on an edge without direction, or the refusal.
 use Rattle.std.specs.Prelude.{ℕ, ◌≡◌, Result, Ok, Err}
 use Rattle.questions.specs.Check.{Checked, number_of, place_of, value_or, when_accepted}
 use Rattle.questions.specs.declared.Refusal.{Refusal}

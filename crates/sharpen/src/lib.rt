@@ -13,7 +13,7 @@ ghost use Rattle.sharpen.specs.declared.edge.Rule.{Rule};
 ghost use Rattle.sharpen.specs.declared.edge.Rule.TheVariants.{Ported, Clean};
 ghost use Rattle.sharpen.specs.Entries.{entries_in, push_edge, list_edge, list_edges};
 ghost use Rattle.sharpen.specs.Turn.{listed_by, EdgeFits};
-ghost use Rattle.sharpen.specs.Sharpen.{entries_of, tally_of, lengths_fit};
+ghost use Rattle.sharpen.specs.Sharpen.{entries_of, tally_of, lengths_fit, sharpen_edges, entries_after};
 ghost use Rattle.sharpen.specs.Edges.{EntriesFiltered, Outcome};
 
 mod crease_lists;

@@ -1,4 +1,4 @@
--- `mesh::all_hold` meets its contract: a test of all triangles is what the search for the lowest one finds.
+-- `questions::all_hold` meets its contract: a test of all triangles is what the search for the lowest one finds.
 use Rattle.std.proofs.Common.{ℕ, ◌≡◌, ◌*◌, ◌/◌, refl, sym, ◌∙◌, length, arith, true, rules, tests}
 use Rattle.std.proofs.lemmas.Iterator.{YieldsList-from_range}
 use Rattle.std.proofs.lemmas.Iterator.Search.{all_from_yields_List}

@@ -1,4 +1,4 @@
--- `mesh::ask_each` meets its contract.
+-- `questions::ask_each` meets its contract.
 use Rattle.std.proofs.Common.{rules, sym}
 use Rattle.mesh.specs.Mesh.{as_halfedges}
 use Rattle.questions.specs.All.{ask_each}

@@ -1,4 +1,4 @@
--- `mesh::triangles::is_below` meets its contract.
+-- `questions::triangles::is_below` meets its contract.
 use Prim.Native.Nat.{◌%◌}
 use native.Mathlib.Omega.{arith}
 use mathlib.Core.Path.{◌≡◌}
