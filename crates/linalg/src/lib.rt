@@ -114,7 +114,7 @@ impl Div<f64> for Vec3 {
 pub fn is_zero(a: Vec3) -> bool
     ensures { result ≡ is_zero a }
 {
-    a == Vec3::ZERO
+    (a.x == 0.0) & (a.y == 0.0) & (a.z == 0.0)
 }
 
 #[tactic(auto, unfolding(crate::specs::Vec::dot_of))]
