@@ -40,7 +40,7 @@ struct Lent<'a> {
     refs: &'a [i32],
     entries: &'a [usize],
     values: &'a [f64],
-    flags: &'a [u8],
+    fixed: &'a [u8],
 }
 
 impl Lent<'_> {
@@ -67,8 +67,8 @@ impl Lent<'_> {
     }
 
     fn check_spread(&self) -> Result<(), Refusal> {
-        let checked = self.check_mesh(has_length(self.flags.len(), self.n, 1));
-        questions::check_flags(checked, self.flags, self.n)
+        let checked = self.check_mesh(has_length(self.fixed.len(), self.n, 1));
+        questions::check_flags(checked, self.fixed, self.n)
     }
 
     fn check_create(&self) -> Result<(), Refusal> {
@@ -91,7 +91,7 @@ pub fn agrees(mut case: Case<'_>) -> bool {
     let mut refs = [0i32; 256];
     let mut entries = [0usize; 256];
     let mut values = [0.0f64; 256];
-    let mut flags = [0u8; 256];
+    let mut fixed = [0u8; 256];
     let lent = Lent {
         n: case.n,
         p: case.p,
@@ -100,7 +100,7 @@ pub fn agrees(mut case: Case<'_>) -> bool {
         refs: case.body.list(&mut refs),
         entries: case.body.list(&mut entries),
         values: case.body.list(&mut values),
-        flags: case.body.list(&mut flags),
+        fixed: case.body.list(&mut fixed),
     };
     let checked = match case.operation {
         Ok(Operation::Spread) => lent.check_spread(),
