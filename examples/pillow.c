@@ -1,4 +1,5 @@
-/* Straightens the pillow of document 01 and prints its tangents. `sh examples/run.sh` builds and runs it. */
+/* Straightens the pillow, two triangles over the same three points, and prints its tangents. `sh examples/run.sh` builds and runs
+ * it. */
 #include "tangents.h"
 #include <stdio.h>
 #include <string.h>

@@ -37,45 +37,45 @@ void tangents_linearize_flat_tangents(size_t n, size_t p, const int32_t *h, size
 void tangents_valid_tangents(size_t n, size_t p, const int32_t *h, size_t h_len, const double *pos, size_t pos_len,
                              const double *t, size_t t_len, size_t *answer, size_t answer_len);
 
-/* The crease listing: normals has three numbers for each triangle, angle is in degrees. Writes the entries into halfedges and
- * smoothness, n places each; answer[2] is the number of entries. answer[3] is the crease tally: the number of edges that the
- * clean listing below names, half of its entries. */
-void tangents_sharpen_edges(size_t n, size_t p, const int32_t *h, size_t h_len, const double *normals, size_t normals_len,
-                            double angle, double smooth, size_t *halfedges, size_t halfedges_len, double *smoothness,
-                            size_t smoothness_len, size_t *answer, size_t answer_len);
+/* The crease listing: face_normals has three numbers for each triangle, angle is in degrees. Writes the halfedge and the
+ * smoothness of each entry into entries and smoothness, n places each; answer[2] is the number of entries. answer[3] is the crease
+ * tally: the number of edges that the clean listing below names, half of its entries. */
+void tangents_sharpen_edges(size_t n, size_t p, const int32_t *h, size_t h_len, const double *face_normals,
+                            size_t face_normals_len, double angle, double smooth, size_t *entries, size_t entries_len,
+                            double *smoothness, size_t smoothness_len, size_t *answer, size_t answer_len);
 
 /* The clean crease listing: the same, without the edges that touch a triangle whose three normal numbers are all zero, of either
  * sign. answer[2] is its own number of entries, answer[3] the same tally. */
-void tangents_sharpen_edges_clean(size_t n, size_t p, const int32_t *h, size_t h_len, const double *normals, size_t normals_len,
-                                  double angle, double smooth, size_t *halfedges, size_t halfedges_len, double *smoothness,
-                                  size_t smoothness_len, size_t *answer, size_t answer_len);
+void tangents_sharpen_edges_clean(size_t n, size_t p, const int32_t *h, size_t h_len, const double *face_normals,
+                                  size_t face_normals_len, double angle, double smooth, size_t *entries, size_t entries_len,
+                                  double *smoothness, size_t smoothness_len, size_t *answer, size_t answer_len);
 
-/* Spreading: normals has three numbers for each point, flags one of 0 and 1 for each halfedge, and the scratch lists current
+/* Spreading: normals has three numbers for each point, fixed one of 0 and 1 for each halfedge, and the scratch lists current
  * and desired a place for each halfedge; they hold zeros afterwards. Writes t; answer[2] is looked and answer[3] turned. */
 void tangents_distribute_tangents(size_t n, size_t p, const int32_t *h, size_t h_len, const double *pos, size_t pos_len,
-                                  const double *normals, size_t normals_len, const uint8_t *flags, size_t flags_len, double *t,
+                                  const double *normals, size_t normals_len, const uint8_t *fixed, size_t fixed_len, double *t,
                                   size_t t_len, double *current, size_t current_len, double *desired, size_t desired_len,
                                   size_t *answer, size_t answer_len);
 
-/* The preview of spreading: normals and flags as there, and bytes a place for each halfedge. Writes bytes: 1 if spreading would
+/* The preview of spreading: normals and fixed as there, and bytes a place for each halfedge. Writes bytes: 1 if spreading would
  * write the halfedge's tangent, else 0; answer[2] is looked and answer[3] turned, as spreading would answer. */
 void tangents_preview_tangents(size_t n, size_t p, const int32_t *h, size_t h_len, const double *pos, size_t pos_len,
-                               const double *normals, size_t normals_len, const uint8_t *flags, size_t flags_len,
+                               const double *normals, size_t normals_len, const uint8_t *fixed, size_t fixed_len,
                                const double *t, size_t t_len, uint8_t *bytes, size_t bytes_len, size_t *answer,
                                size_t answer_len);
 
 /* Making from sharp edges: normals has three numbers for each point, face_normals and refs three for each triangle, entries and
- * values the halfedge and the smoothness of each sharp entry. old is 0 where t holds no old tangents; t has 4 n numbers all the
- * same. Of the scratch lists at has a place for each point, each other one for each halfedge; they hold zeros afterwards.
+ * smoothness the halfedge and the smoothness of each sharp entry. old is 0 where t holds no old tangents; t has 4 n numbers all
+ * the same. Of the scratch lists at has a place for each point, each other one for each halfedge; they hold zeros afterwards.
  * Writes t; answer[2] is how many circular tangents were computed on an edge without direction, those that were overwritten
  * included. */
 void tangents_create_tangents(size_t n, size_t p, const int32_t *h, size_t h_len, const double *pos, size_t pos_len,
                               const double *normals, size_t normals_len, const double *face_normals, size_t face_normals_len,
                               const int32_t *refs, size_t refs_len, const size_t *entries, size_t entries_len,
-                              const double *values, size_t values_len, size_t old, double *t, size_t t_len, uint8_t *fixed,
-                              size_t fixed_len, uint8_t *flat, size_t flat_len, double *smooth, size_t smooth_len,
-                              double *desired, size_t desired_len, size_t *at, size_t at_len, size_t *link, size_t link_len,
-                              size_t *answer, size_t answer_len);
+                              const double *smoothness, size_t smoothness_len, size_t old, double *t, size_t t_len,
+                              uint8_t *fixed, size_t fixed_len, uint8_t *flat, size_t flat_len, double *smooth,
+                              size_t smooth_len, double *desired, size_t desired_len, size_t *at, size_t at_len,
+                              size_t *link, size_t link_len, size_t *answer, size_t answer_len);
 
 /* Making from normals: as above, with rows, three numbers for each row and any number of rows, for the entries: the normal of a
  * halfedge is that of its row. A length of rows that is no multiple of 3 is refused with 2; a row that is not in the list (no
@@ -89,14 +89,14 @@ void tangents_create_tangents_from_normals(size_t n, size_t p, const int32_t *h,
                                            double *current, size_t current_len, double *desired, size_t desired_len,
                                            size_t *first, size_t first_len, size_t *answer, size_t answer_len);
 
-/* Taking a binary STL file: file has its bytes, points takes three numbers for each point, halfedges four for each halfedge as
- * in h, and normals three for each triangle, the stored ones. The lists must have room for three points, three halfedges and one
+/* Taking a binary STL file: file has its bytes, pos takes three numbers for each point, h four for each halfedge, and
+ * face_normals three for each triangle, the stored ones. The lists must have room for three points, three halfedges and one
  * normal for each triangle; spare places stay as lent. answer[2] is the number of halfedges and answer[3] the number of points.
  * Refused with 30 for the length or a count, 2 for the room, 31 with the lowest triangle that has a corner not finite or equal to
  * another, and 32 with the lowest halfedge whose directed edge occurs twice or has no reverse. Takes some 853,000 bytes of the
  * stack. */
-void tangents_read_stl(const uint8_t *file, size_t file_len, double *points, size_t points_len, int32_t *halfedges,
-                       size_t halfedges_len, double *normals, size_t normals_len, size_t *answer, size_t answer_len);
+void tangents_read_stl(const uint8_t *file, size_t file_len, double *pos, size_t pos_len, int32_t *h, size_t h_len,
+                       double *face_normals, size_t face_normals_len, size_t *answer, size_t answer_len);
 
 /* A point of the curve of an edge. controls has four control points, four numbers each (16): x, y and z already times the weight,
  * and the weight; x is the parameter, 0 to 1. Writes point, six numbers: the position, and the direction there, the difference of

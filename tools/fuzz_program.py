@@ -5,14 +5,14 @@
 
 Each input is a valid one, or one with bits flipped, bytes inserted, dropped or exchanged, an end cut off or added, other counts, a
 record left out or doubled, or other numbers in its mesh, or random bytes. The program must end by itself within ten seconds with status 0
-and write one answer of document 01's form, and nothing else. The refusals are compared with a plain reading of document 01 (the records in
-make_replay_inputs.py, the questions here), and so is the mark check. Of tangents only the form is checked: the halfedge count, the numbers
+and write one answer of its form, and nothing else. The refusals are compared with a plain reading of the rule (the records in
+replay/inputs.py, the questions here), and so is the mark check. Of tangents only the form is checked: the halfedge count, the numbers
 in order, 16 digits, one not-a-number, and for spreading the last line. An input whose records are accepted is put again with other rows,
 and must get the same answer. With --valgrind the program runs under valgrind, and any error that it reports is a failure. Prints how many
 answers of each kind there were. An input whose answer is wrong is written to fuzz-SEED-NUMBER.bin, and the script ends with status 1.
 """
 import collections, os, random, re, select, signal, struct, sys
-from make_replay_inputs import record, records_refusal
+from replay.inputs import record, records_refusal
 
 FLOATS = [0, 1 << 63, 0x3FF0 << 48, 0xBFF0 << 48, 0xC000 << 48, 0x7FF0 << 48, 0xFFF0 << 48, 0x7FF8 << 48, 0xFFF8 << 48 | 5, 1, 0x7FEF << 48, 0x3FE5555555555556]
 MARK = 0xBFF0 << 48
@@ -86,16 +86,16 @@ def exchanged(body, rng):
 
 
 def damaged_mesh(rng):
-    """A valid input with other numbers in its halfedges or flags."""
+    """A valid input with other numbers in its halfedges or its flags of fixed halfedges."""
     parts = bodies(rng)
     if len(parts[3]) > 16 and rng.random() < 0.3:
         parts[3] = exchanged(parts[3], rng)
         return joined(parts)
     for _ in range(rng.randint(1, 2)):
         if len(parts) == 7 and parts[6] and rng.random() < 0.4:
-            flags = bytearray(parts[6])
-            flags[rng.randrange(len(flags))] = rng.choice((2, 3, 128, 255))
-            parts[6] = bytes(flags)
+            fixed = bytearray(parts[6])
+            fixed[rng.randrange(len(fixed))] = rng.choice((2, 3, 128, 255))
+            parts[6] = bytes(fixed)
         elif parts[3]:
             he = list(struct.unpack("<%di" % (len(parts[3]) // 4), parts[3]))
             he[rng.randrange(len(he))] = rng.choice((-1, -2, -2**31, 2**31 - 1, 65536, 65535, 8, 3, 2, 1, 0, len(he) // 4, len(he) // 4 - 1))
@@ -187,13 +187,13 @@ def one_input(rng):
     return "long", long_input(rng)
 
 
-# ---- what document 01 says of an input
+# ---- what the rule says of an input
 
 def lowest(test, n):
     return next((e for e in range(n) if not test(e)), None)
 
 
-def questions(operation, points, n, he, flags):
+def questions(operation, points, n, he, fixed):
     """The number and place of the first question of a call that is answered no, or None. Every list has its length."""
     if n % 3 or n > 65535 or points > 65535:
         return 1, 0
@@ -201,7 +201,7 @@ def questions(operation, points, n, he, flags):
     asked = [(3, lambda e: 0 <= start[e] < points and 0 <= end[e] < points), (4, lambda e: 0 <= pair[e] < n), (5, lambda e: pair[pair[e]] == e),
              (6, lambda e: start[e] != end[e] and start[pair[e]] == end[e] and end[pair[e]] == start[e]), (7, lambda e: start[e + 1 if e % 3 < 2 else e - 2] == end[e])]
     if operation == 2:
-        asked.append((11, lambda e: flags[e] < 2))
+        asked.append((11, lambda e: fixed[e] < 2))
     for number, test in asked:
         e = lowest(test, n)
         if e is not None:

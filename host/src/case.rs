@@ -219,14 +219,14 @@ fn signaling(t: &[f64]) -> Vec<f64> {
 fn creases(c: &Block, h: &[i32]) -> Result<Vec<String>, Refused> {
     let (n, p) = c.counts();
     let (limits, room) = (c.floats("ang"), c.room(n));
-    let (mut halfedges, mut smoothness) = (vec![usize::MAX; room], vec![f64::from_bits(SIGNALING); room]);
+    let (mut entries, mut smoothness) = (vec![usize::MAX; room], vec![f64::from_bits(SIGNALING); room]);
     let list = if c.op() == "clean" { sharpen_edges_clean } else { sharpen_edges };
-    let answer = list(n, p, h, &c.floats("fn"), limits[0], limits[1], &mut halfedges, &mut smoothness);
-    let entries = answer.map_or(0, |listed| listed.entries);
-    assert!(halfedges[entries..].iter().all(|&e| e == usize::MAX), "a place past the entries, or of a refused call, was written");
-    assert!(smoothness[entries..].iter().all(|x| x.to_bits() == SIGNALING), "a smoothness past the entries, or of a refused call, was written");
+    let answer = list(n, p, h, &c.floats("fn"), limits[0], limits[1], &mut entries, &mut smoothness);
+    let count = answer.map_or(0, |listed| listed.entries);
+    assert!(entries[count..].iter().all(|&e| e == usize::MAX), "a place past the entries, or of a refused call, was written");
+    assert!(smoothness[count..].iter().all(|x| x.to_bits() == SIGNALING), "a smoothness past the entries, or of a refused call, was written");
     answer.map(|listed| {
-        let mut lines = vec![decimal("list", &halfedges[..entries]), hex("smooth", &smoothness[..entries])];
+        let mut lines = vec![decimal("list", &entries[..count]), hex("smooth", &smoothness[..count])];
         // the tally of the oracle's `crease` counts the edges of the Rust's listing
         if c.op() != "crease" {
             lines.push(format!("tally {}", listed.tally));
@@ -256,16 +256,16 @@ fn agrees(bytes: &[u8], answer: Result<Counts, Refused>, lent: &[f64], after: &[
 /// The preview, held against the unit's own spreading of two copies: of the tangents, and of these with signaling not-a-numbers.
 fn preview(c: &Block, h: &[i32], pos: &[f64], t: &[f64]) -> Result<Vec<String>, Refused> {
     let (n, p) = c.counts();
-    let (normals, flags, room) = (c.floats("vn"), c.bytes("fl"), c.room(n));
+    let (normals, fixed, room) = (c.floats("vn"), c.bytes("fl"), c.room(n));
     let mut bytes = vec![7; room];
-    let answer = preview_tangents(n, p, h, pos, &normals, &flags, t, &mut bytes);
+    let answer = preview_tangents(n, p, h, pos, &normals, &fixed, t, &mut bytes);
     // read anew, for the compiler takes it that nothing is written behind a shared slice
     assert!(same_bits(black_box(t), &c.floats("tan")), "a preview wrote tangents");
     assert!(answer.is_ok() || bytes.iter().all(|&b| b == 7), "a refused preview wrote bytes");
     for lent in [t.to_vec(), signaling(t)] {
         // of the bytes' length, so that question 2 is answered alike
         let (mut after, mut current, mut desired) = (lent.clone(), vec![f64::NAN; room], vec![1.5; room]);
-        let spreading = distribute_tangents(n, p, h, pos, &normals, &flags, &mut after, &mut current, &mut desired);
+        let spreading = distribute_tangents(n, p, h, pos, &normals, &fixed, &mut after, &mut current, &mut desired);
         if !agrees(&bytes, answer, &lent, &after, spreading) {
             return Ok(vec![format!("spreading disagrees: {spreading:?}")]);
         }
@@ -276,24 +276,24 @@ fn preview(c: &Block, h: &[i32], pos: &[f64], t: &[f64]) -> Result<Vec<String>, 
 /// Lists lent for an STL file. Each place has a number of its own, and one that is never read from a file.
 #[derive(Clone)]
 struct FileLists {
-    points: Vec<f64>,
-    halfedges: Vec<i32>,
-    normals: Vec<f64>,
+    pos: Vec<f64>,
+    h: Vec<i32>,
+    face_normals: Vec<f64>,
 }
 
 impl FileLists {
-    /// For so many points, halfedges and normals, with part of a further one, whose size goes by `more`.
-    fn new([points, halfedges, normals]: [usize; 3], more: usize) -> Self {
+    /// For so many points, halfedges and triangles, with part of a further one, whose size goes by `more`.
+    fn new([points, halfedges, triangles]: [usize; 3], more: usize) -> Self {
         let floats = |n: usize| (0..n as u64).map(|i| f64::from_bits(f64::MAX.to_bits() - i)).collect();
         let numbers = |n: usize| (0..n as i32).map(|i| !i).collect();
-        FileLists { points: floats(3 * points + more % 3), halfedges: numbers(4 * halfedges + more % 4), normals: floats(3 * normals + more % 3) }
+        FileLists { pos: floats(3 * points + more % 3), h: numbers(4 * halfedges + more % 4), face_normals: floats(3 * triangles + more % 3) }
     }
 
     /// Are the places from these on the same in both?
-    fn same_from(&self, other: &Self, [points, halfedges, normals]: [usize; 3]) -> bool {
-        same_bits(&self.points[points..], &other.points[points..])
-            && self.halfedges[halfedges..] == other.halfedges[halfedges..]
-            && same_bits(&self.normals[normals..], &other.normals[normals..])
+    fn same_from(&self, other: &Self, [pos, h, face_normals]: [usize; 3]) -> bool {
+        same_bits(&self.pos[pos..], &other.pos[pos..])
+            && self.h[h..] == other.h[h..]
+            && same_bits(&self.face_normals[face_normals..], &other.face_normals[face_normals..])
     }
 }
 
@@ -302,16 +302,16 @@ fn stl(c: &Block) -> Result<Vec<String>, Refused> {
     let file = c.file();
     let lent = FileLists::new(c.file_room(file.len()), file.len() / 50);
     let mut lists = lent.clone();
-    let answer = read_stl(&file, &mut lists.points, &mut lists.halfedges, &mut lists.normals);
+    let answer = read_stl(&file, &mut lists.pos, &mut lists.h, &mut lists.face_normals);
     let written = answer.map_or([0; 3], |counts| [3 * counts.points, 4 * counts.halfedges, counts.halfedges]);
     assert!(lists.same_from(&lent, written), "a place past the mesh, or of a refused file, was written");
-    let [points, halfedges, normals] = written;
+    let [pos, h, face_normals] = written;
     answer.map(|counts| {
         vec![
             format!("counts {} {}", counts.points, counts.halfedges),
-            hex("pos", &lists.points[..points]),
-            decimal("he4", &lists.halfedges[..halfedges]),
-            hex("fn", &lists.normals[..normals]),
+            hex("pos", &lists.pos[..pos]),
+            decimal("he4", &lists.h[..h]),
+            hex("fn", &lists.face_normals[..face_normals]),
         ]
     })
 }

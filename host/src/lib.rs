@@ -26,29 +26,29 @@ mod raw {
             answer: *mut usize, answer_len: usize,
         );
         pub fn tangents_sharpen_edges(
-            n: usize, p: usize, h: *const i32, h_len: usize, normals: *const f64, normals_len: usize, angle: f64, smooth: f64,
-            halfedges: *mut usize, halfedges_len: usize, smoothness: *mut f64, smoothness_len: usize,
+            n: usize, p: usize, h: *const i32, h_len: usize, face_normals: *const f64, face_normals_len: usize, angle: f64, smooth: f64,
+            entries: *mut usize, entries_len: usize, smoothness: *mut f64, smoothness_len: usize,
             answer: *mut usize, answer_len: usize,
         );
         pub fn tangents_sharpen_edges_clean(
-            n: usize, p: usize, h: *const i32, h_len: usize, normals: *const f64, normals_len: usize, angle: f64, smooth: f64,
-            halfedges: *mut usize, halfedges_len: usize, smoothness: *mut f64, smoothness_len: usize,
+            n: usize, p: usize, h: *const i32, h_len: usize, face_normals: *const f64, face_normals_len: usize, angle: f64, smooth: f64,
+            entries: *mut usize, entries_len: usize, smoothness: *mut f64, smoothness_len: usize,
             answer: *mut usize, answer_len: usize,
         );
         pub fn tangents_distribute_tangents(
             n: usize, p: usize, h: *const i32, h_len: usize, pos: *const f64, pos_len: usize, normals: *const f64, normals_len: usize,
-            flags: *const u8, flags_len: usize, t: *mut f64, t_len: usize, current: *mut f64, current_len: usize,
+            fixed: *const u8, fixed_len: usize, t: *mut f64, t_len: usize, current: *mut f64, current_len: usize,
             desired: *mut f64, desired_len: usize, answer: *mut usize, answer_len: usize,
         );
         pub fn tangents_preview_tangents(
             n: usize, p: usize, h: *const i32, h_len: usize, pos: *const f64, pos_len: usize, normals: *const f64, normals_len: usize,
-            flags: *const u8, flags_len: usize, t: *const f64, t_len: usize, bytes: *mut u8, bytes_len: usize,
+            fixed: *const u8, fixed_len: usize, t: *const f64, t_len: usize, bytes: *mut u8, bytes_len: usize,
             answer: *mut usize, answer_len: usize,
         );
         pub fn tangents_create_tangents(
             n: usize, p: usize, h: *const i32, h_len: usize, pos: *const f64, pos_len: usize, normals: *const f64, normals_len: usize,
             face_normals: *const f64, face_normals_len: usize, refs: *const i32, refs_len: usize,
-            entries: *const usize, entries_len: usize, values: *const f64, values_len: usize, old: usize, t: *mut f64, t_len: usize,
+            entries: *const usize, entries_len: usize, smoothness: *const f64, smoothness_len: usize, old: usize, t: *mut f64, t_len: usize,
             fixed: *mut u8, fixed_len: usize, flat: *mut u8, flat_len: usize, smooth: *mut f64, smooth_len: usize,
             desired: *mut f64, desired_len: usize, at: *mut usize, at_len: usize, link: *mut usize, link_len: usize,
             answer: *mut usize, answer_len: usize,
@@ -61,8 +61,8 @@ mod raw {
             desired: *mut f64, desired_len: usize, first: *mut usize, first_len: usize, answer: *mut usize, answer_len: usize,
         );
         pub fn tangents_read_stl(
-            file: *const u8, file_len: usize, points: *mut f64, points_len: usize, halfedges: *mut i32, halfedges_len: usize,
-            normals: *mut f64, normals_len: usize, answer: *mut usize, answer_len: usize,
+            file: *const u8, file_len: usize, pos: *mut f64, pos_len: usize, h: *mut i32, h_len: usize,
+            face_normals: *mut f64, face_normals_len: usize, answer: *mut usize, answer_len: usize,
         );
         pub fn tangents_curve_at(
             controls: *const f64, controls_len: usize, x: f64, point: *mut f64, point_len: usize, answer: *mut usize, answer_len: usize,
@@ -116,14 +116,14 @@ type RawListing =
 
 #[allow(clippy::too_many_arguments)]
 fn listed_by(
-    raw: RawListing, n: usize, p: usize, h: &[i32], normals: &[f64], angle: f64, smooth: f64, halfedges: &mut [usize], smoothness: &mut [f64],
+    raw: RawListing, n: usize, p: usize, h: &[i32], face_normals: &[f64], angle: f64, smooth: f64, entries: &mut [usize], smoothness: &mut [f64],
 ) -> Result<Listed, Refused> {
     let mut answer = [0; 4];
-    // SAFETY: each pointer and length are those of one list; those that are written, halfedges, smoothness and answer, overlap no
+    // SAFETY: each pointer and length are those of one list; those that are written, entries, smoothness and answer, overlap no
     // other. Both listings have these parameters.
     unsafe {
         raw(
-            n, p, h.as_ptr(), h.len(), normals.as_ptr(), normals.len(), angle, smooth, halfedges.as_mut_ptr(), halfedges.len(),
+            n, p, h.as_ptr(), h.len(), face_normals.as_ptr(), face_normals.len(), angle, smooth, entries.as_mut_ptr(), entries.len(),
             smoothness.as_mut_ptr(), smoothness.len(), answer.as_mut_ptr(), 4,
         );
     }
@@ -133,17 +133,17 @@ fn listed_by(
 /// The ported crease listing: the Rust's `sharpen_edges`, with the angle in degrees.
 #[allow(clippy::too_many_arguments)]
 pub fn sharpen_edges(
-    n: usize, p: usize, h: &[i32], normals: &[f64], angle: f64, smooth: f64, halfedges: &mut [usize], smoothness: &mut [f64],
+    n: usize, p: usize, h: &[i32], face_normals: &[f64], angle: f64, smooth: f64, entries: &mut [usize], smoothness: &mut [f64],
 ) -> Result<Listed, Refused> {
-    listed_by(raw::tangents_sharpen_edges, n, p, h, normals, angle, smooth, halfedges, smoothness)
+    listed_by(raw::tangents_sharpen_edges, n, p, h, face_normals, angle, smooth, entries, smoothness)
 }
 
 /// The clean crease listing (docs/changes/06-clean-listing.md): the ported one without the edges that touch a face normal whose numbers are all zero.
 #[allow(clippy::too_many_arguments)]
 pub fn sharpen_edges_clean(
-    n: usize, p: usize, h: &[i32], normals: &[f64], angle: f64, smooth: f64, halfedges: &mut [usize], smoothness: &mut [f64],
+    n: usize, p: usize, h: &[i32], face_normals: &[f64], angle: f64, smooth: f64, entries: &mut [usize], smoothness: &mut [f64],
 ) -> Result<Listed, Refused> {
-    listed_by(raw::tangents_sharpen_edges_clean, n, p, h, normals, angle, smooth, halfedges, smoothness)
+    listed_by(raw::tangents_sharpen_edges_clean, n, p, h, face_normals, angle, smooth, entries, smoothness)
 }
 
 /// The two counts of spreading and of its preview.
@@ -156,13 +156,13 @@ pub struct Counts {
 /// Spreading: the Rust's `distribute_tangents`. The two scratch lists have one place per halfedge and hold zeros afterwards.
 #[allow(clippy::too_many_arguments)]
 pub fn distribute_tangents(
-    n: usize, p: usize, h: &[i32], pos: &[f64], normals: &[f64], flags: &[u8], t: &mut [f64], current: &mut [f64], desired: &mut [f64],
+    n: usize, p: usize, h: &[i32], pos: &[f64], normals: &[f64], fixed: &[u8], t: &mut [f64], current: &mut [f64], desired: &mut [f64],
 ) -> Result<Counts, Refused> {
     let mut answer = [0; 4];
     // SAFETY: each pointer and length are those of one list; those that are written, t, current, desired and answer, overlap no other.
     unsafe {
         raw::tangents_distribute_tangents(
-            n, p, h.as_ptr(), h.len(), pos.as_ptr(), pos.len(), normals.as_ptr(), normals.len(), flags.as_ptr(), flags.len(),
+            n, p, h.as_ptr(), h.len(), pos.as_ptr(), pos.len(), normals.as_ptr(), normals.len(), fixed.as_ptr(), fixed.len(),
             t.as_mut_ptr(), t.len(), current.as_mut_ptr(), current.len(), desired.as_mut_ptr(), desired.len(), answer.as_mut_ptr(), 4,
         );
     }
@@ -173,13 +173,13 @@ pub fn distribute_tangents(
 /// tangent would be written, else 0.
 #[allow(clippy::too_many_arguments)]
 pub fn preview_tangents(
-    n: usize, p: usize, h: &[i32], pos: &[f64], normals: &[f64], flags: &[u8], t: &[f64], bytes: &mut [u8],
+    n: usize, p: usize, h: &[i32], pos: &[f64], normals: &[f64], fixed: &[u8], t: &[f64], bytes: &mut [u8],
 ) -> Result<Counts, Refused> {
     let mut answer = [0; 4];
     // SAFETY: each pointer and length are those of one list; those that are written, bytes and answer, overlap no other.
     unsafe {
         raw::tangents_preview_tangents(
-            n, p, h.as_ptr(), h.len(), pos.as_ptr(), pos.len(), normals.as_ptr(), normals.len(), flags.as_ptr(), flags.len(),
+            n, p, h.as_ptr(), h.len(), pos.as_ptr(), pos.len(), normals.as_ptr(), normals.len(), fixed.as_ptr(), fixed.len(),
             t.as_ptr(), t.len(), bytes.as_mut_ptr(), bytes.len(), answer.as_mut_ptr(), 4,
         );
     }
@@ -220,7 +220,7 @@ impl CreateScratch {
 /// Making from sharp edges: the Rust's `create_tangents`. With `old` the tangents t hold the old ones.
 #[allow(clippy::too_many_arguments)]
 pub fn create_tangents(
-    n: usize, p: usize, h: &[i32], pos: &[f64], normals: &[f64], face_normals: &[f64], refs: &[i32], entries: &[usize], values: &[f64],
+    n: usize, p: usize, h: &[i32], pos: &[f64], normals: &[f64], face_normals: &[f64], refs: &[i32], entries: &[usize], smoothness: &[f64],
     old: bool, t: &mut [f64], scratch: &mut CreateScratch,
 ) -> Result<Made, Refused> {
     let mut answer = [0; 4];
@@ -229,7 +229,7 @@ pub fn create_tangents(
     unsafe {
         raw::tangents_create_tangents(
             n, p, h.as_ptr(), h.len(), pos.as_ptr(), pos.len(), normals.as_ptr(), normals.len(), face_normals.as_ptr(), face_normals.len(),
-            refs.as_ptr(), refs.len(), entries.as_ptr(), entries.len(), values.as_ptr(), values.len(), usize::from(old), t.as_mut_ptr(), t.len(),
+            refs.as_ptr(), refs.len(), entries.as_ptr(), entries.len(), smoothness.as_ptr(), smoothness.len(), usize::from(old), t.as_mut_ptr(), t.len(),
             s.fixed.as_mut_ptr(), s.fixed.len(), s.flat.as_mut_ptr(), s.flat.len(), s.smooth.as_mut_ptr(), s.smooth.len(),
             s.desired.as_mut_ptr(), s.desired.len(), s.at.as_mut_ptr(), s.at.len(), s.link.as_mut_ptr(), s.link.len(), answer.as_mut_ptr(), 4,
         );
@@ -293,14 +293,14 @@ pub struct MeshCounts {
 /// Taking binary STL (docs/changes/05-stl.md): three numbers per point, four per halfedge and the stored normal of each triangle. The lists
 /// need room for three points, three halfedges and one normal per triangle; places past the mesh stay as lent, all of them where the file is
 /// refused. The call takes some 853,000 bytes of the stack.
-pub fn read_stl(file: &[u8], points: &mut [f64], halfedges: &mut [i32], normals: &mut [f64]) -> Result<MeshCounts, Refused> {
+pub fn read_stl(file: &[u8], pos: &mut [f64], h: &mut [i32], face_normals: &mut [f64]) -> Result<MeshCounts, Refused> {
     let mut answer = [0; 4];
-    // SAFETY: each pointer and length are those of one list; those that are written, points, halfedges, normals and answer, overlap no other.
+    // SAFETY: each pointer and length are those of one list; those that are written, pos, h, face_normals and answer, overlap no other.
     // Where the stack is too small the system ends the program, before anything past it is written.
     unsafe {
         raw::tangents_read_stl(
-            file.as_ptr(), file.len(), points.as_mut_ptr(), points.len(), halfedges.as_mut_ptr(), halfedges.len(),
-            normals.as_mut_ptr(), normals.len(), answer.as_mut_ptr(), 4,
+            file.as_ptr(), file.len(), pos.as_mut_ptr(), pos.len(), h.as_mut_ptr(), h.len(),
+            face_normals.as_mut_ptr(), face_normals.len(), answer.as_mut_ptr(), 4,
         );
     }
     outcome(answer).map(|[halfedges, points]| MeshCounts { halfedges, points })

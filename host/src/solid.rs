@@ -17,8 +17,8 @@ pub type Vector = [f64; 3];
 pub struct Mesh {
     pub counts: MeshCounts,
     /// Start, end, pair and row of each halfedge.
-    pub halfedges: Vec<i32>,
-    pub positions: Vec<f64>,
+    pub h: Vec<i32>,
+    pub pos: Vec<f64>,
 }
 
 /// A mesh, and its caller's part.
@@ -30,12 +30,12 @@ pub struct Solid {
     /// The face reference of each triangle: mesh 1, and the face's number twice.
     pub refs: Vec<i32>,
     pub faces: usize,
-    pub point_normals: Vec<f64>,
+    pub normals: Vec<f64>,
 }
 
 /// A crease listing of a solid: each entry's halfedge and smoothness, and the counts.
 pub struct Creases {
-    pub halfedges: Vec<usize>,
+    pub entries: Vec<usize>,
     pub smoothness: Vec<f64>,
     pub listed: Listed,
 }
@@ -102,19 +102,19 @@ impl Solid {
         let outward: Vec<Vector> = (0..mesh.triangles()).map(|t| mesh.outward(t)).collect();
         let (face_normals, replaced) = face_normals(stored, &outward);
         let (refs, faces) = mesh.faces(&outward);
-        let point_normals = mesh.point_normals(&face_normals);
-        Ok(Solid { mesh, face_normals, replaced, refs, faces, point_normals })
+        let normals = mesh.point_normals(&face_normals);
+        Ok(Solid { mesh, face_normals, replaced, refs, faces, normals })
     }
 
     /// The edges whose triangles' normals differ by more than the angle, in degrees, with smoothness 0. The normal zero is at ninety degrees to any other.
     pub fn creases(&self, angle: f64, rule: Rule) -> Result<Creases, Refused> {
         let MeshCounts { halfedges: n, points: p } = self.mesh.counts;
-        let (mut halfedges, mut smoothness) = (vec![0; n], vec![0.0; n]);
+        let (mut entries, mut smoothness) = (vec![0; n], vec![0.0; n]);
         let list = if rule == Rule::Clean { sharpen_edges_clean } else { sharpen_edges };
-        let listed = list(n, p, &self.mesh.halfedges, &self.face_normals, angle, 0.0, &mut halfedges, &mut smoothness)?;
-        halfedges.truncate(listed.entries);
+        let listed = list(n, p, &self.mesh.h, &self.face_normals, angle, 0.0, &mut entries, &mut smoothness)?;
+        entries.truncate(listed.entries);
         smoothness.truncate(listed.entries);
-        Ok(Creases { halfedges, smoothness, listed })
+        Ok(Creases { entries, smoothness, listed })
     }
 
     /// The tangents, four numbers per halfedge, by making from sharp edges.
@@ -122,8 +122,8 @@ impl Solid {
         let MeshCounts { halfedges: n, points: p } = self.mesh.counts;
         let mut tangents = vec![0.0; 4 * n];
         let made = create_tangents(
-            n, p, &self.mesh.halfedges, &self.mesh.positions, &self.point_normals, &self.face_normals, &self.refs, &creases.halfedges,
-            &creases.smoothness, false, &mut tangents, &mut CreateScratch::new(n, p, 0),
+            n, p, &self.mesh.h, &self.mesh.pos, &self.normals, &self.face_normals, &self.refs, &creases.entries, &creases.smoothness, false,
+            &mut tangents, &mut CreateScratch::new(n, p, 0),
         )?;
         Ok((tangents, made))
     }
@@ -133,12 +133,12 @@ impl Mesh {
     /// The mesh of a file, and the normals that it stores.
     pub fn of_bytes(bytes: &[u8]) -> Result<(Mesh, Vec<f64>), Refused> {
         let room = bytes.len() / 50;
-        let (mut positions, mut halfedges, mut normals) = (vec![0.0; 9 * room], vec![0; 12 * room], vec![0.0; 3 * room]);
-        let counts = read_stl(bytes, &mut positions, &mut halfedges, &mut normals)?;
-        positions.truncate(3 * counts.points);
-        halfedges.truncate(4 * counts.halfedges);
-        normals.truncate(counts.halfedges);
-        Ok((Mesh { counts, halfedges, positions }, normals))
+        let (mut pos, mut h, mut face_normals) = (vec![0.0; 9 * room], vec![0; 12 * room], vec![0.0; 3 * room]);
+        let counts = read_stl(bytes, &mut pos, &mut h, &mut face_normals)?;
+        pos.truncate(3 * counts.points);
+        h.truncate(4 * counts.halfedges);
+        face_normals.truncate(counts.halfedges);
+        Ok((Mesh { counts, h, pos }, face_normals))
     }
 
     pub fn triangles(&self) -> usize {
@@ -147,11 +147,11 @@ impl Mesh {
 
     /// The point at which a halfedge starts.
     fn start(&self, e: usize) -> usize {
-        self.halfedges[4 * e] as usize
+        self.h[4 * e] as usize
     }
 
     pub fn pair(&self, e: usize) -> usize {
-        self.halfedges[4 * e + 2] as usize
+        self.h[4 * e + 2] as usize
     }
 
     /// The one of an edge's two halfedges that starts at the lower point.
@@ -161,7 +161,7 @@ impl Mesh {
 
     /// Where a halfedge starts.
     pub fn corner(&self, e: usize) -> Vector {
-        vector(&self.positions, self.start(e))
+        vector(&self.pos, self.start(e))
     }
 
     /// From start to end.
@@ -176,7 +176,7 @@ impl Mesh {
 
     /// The face references, and the number of faces. The largest triangles come first, as their planes are known best.
     fn faces(&self, outward: &[Vector]) -> (Vec<i32>, usize) {
-        let greatest = self.positions.iter().fold(0.0, |most: f64, x| most.max(x.abs()));
+        let greatest = self.pos.iter().fold(0.0, |most: f64, x| most.max(x.abs()));
         let mut face_of = vec![-1; outward.len()];
         let mut largest_first: Vec<usize> = (0..outward.len()).collect();
         largest_first.sort_by(|&s, &t| length(outward[t]).total_cmp(&length(outward[s])));

@@ -41,7 +41,7 @@ fn letter_has_tangents() {
     let solid = Solid::read(LETTER).expect("accepted");
     let (tangents, made) = solid.tangents(&solid.creases(30.0, Rule::Ported).expect("accepted")).expect("accepted");
     assert_eq!(made.directionless, 0);
-    assert_eq!(valid_tangents(132, 24, &solid.mesh.halfedges, &solid.mesh.positions, &tangents), Ok(true));
+    assert_eq!(valid_tangents(132, 24, &solid.mesh.h, &solid.mesh.pos, &tangents), Ok(true));
 }
 
 #[test]

@@ -74,7 +74,7 @@ fn slivers_are_creases_by_the_ported_rule() {
 #[test]
 fn clean_listing_leaves_out_the_edges_at_slivers() {
     let solid = solid(&with_sliver(cube(), C, A));
-    let [ported, clean] = [Rule::Ported, Rule::Clean].map(|rule| solid.creases(30.0, rule).expect("accepted").halfedges);
+    let [ported, clean] = [Rule::Ported, Rule::Clean].map(|rule| solid.creases(30.0, rule).expect("accepted").entries);
     let sliver = solid.mesh.triangles() - 1;
     let others = ported.chunks_exact(2).filter(|edge| edge.iter().all(|e| e / 3 != sliver)).flatten();
     assert!(clean.iter().eq(others));
@@ -93,7 +93,7 @@ fn both_listings_give_tangents() {
     let (n, p) = (solid.mesh.counts.halfedges, solid.mesh.counts.points);
     let [ported, clean] = [Rule::Ported, Rule::Clean].map(|rule| {
         let (tangents, _) = solid.tangents(&solid.creases(30.0, rule).expect("accepted")).expect("accepted");
-        assert_eq!(valid_tangents(n, p, &solid.mesh.halfedges, &solid.mesh.positions, &tangents), Ok(true));
+        assert_eq!(valid_tangents(n, p, &solid.mesh.h, &solid.mesh.pos, &tangents), Ok(true));
         tangents
     });
     assert_ne!(ported, clean);

@@ -3,21 +3,22 @@ use mathlib.Core.Path.{refl}
 use Rattle.float.specs.F64.{min_of}
 use Rattle.common.specs.Count.{sum, count_below}
 use Rattle.mesh.specs.Mesh.{eq_z, same_face}
-use Rattle.mesh.specs.Questions.{sign_clear}
-use Rattle.mesh.specs.Check.{check_refs, check_entries}
+use Rattle.questions.specs.Questions.{sign_clear}
+use Rattle.questions.specs.Check.{check_refs, check_entries}
 use Rattle.smoothing.specs.Directions.{directionless}
 use Rattle.smoothing.specs.Edges.{same_face_across, no_other_neighbor, is_inside_quad}
 use Rattle.cycles.specs.Walk.{cycle_from}
 use Rattle.cycles.specs.Cycles.{next_around}
-use Rattle.create_shared.specs.Faces.{is_face_neighbor, face_neighbors, mark_neighbor, mark_flat, flat_faces, vert_halfedge}
+use Rattle.smoothing.specs.Faces.{is_face_neighbor, face_neighbors, mark_neighbor, mark_flat, flat_faces}
+use Rattle.create_shared.specs.Verts.{vert_halfedge}
 use Rattle.create_shared.specs.Makings.{directionless_at, aligned_directionless}
-use Rattle.create_edges.specs.Edges.{push_boundary, push_boundaries, sharpened_edges, and_modify, or_insert, modify, key_of, insert, edges_of}
-use Rattle.create_creases.specs.Creases.{push_at, push_edge, vert_tangents, through_of, add_sides, sums_of, mean_of, crease_of}
-use Rattle.create_initial.specs.First.{first_tangent, put_first_tangent, first_tangents, first_directionless}
-use Rattle.create_sharpen.specs.Sharpen.{sharpened, sharpen_tangent, meeting_smoothness, sharpen_meeting_at, sharpen_meeting}
-use Rattle.create_sharpen.specs.Shapes.{fix_halfedge, shape_crease, shape_vert, shape_verts, crease_directionless}
-use Rattle.create_core.specs.Shape.{shaped_tangents}
-use Rattle.create_core.specs.Core.{directionless_with, create_directionless}
+use Rattle.create.specs.Edges.Edges.{push_boundary, push_boundaries, sharpened_edges, and_modify, or_insert, modify, key_of, insert, edges_of}
+use Rattle.create.specs.Creases.Creases.{push_at, push_edge, vert_tangents, through_of, add_sides, sums_of, mean_of, crease_of}
+use Rattle.create.specs.Initial.First.{first_tangent, put_first_tangent, first_tangents, first_directionless}
+use Rattle.create.specs.Shapes.Sharpen.{sharpened, sharpen_tangent, meeting_smoothness, sharpen_meeting_at, sharpen_meeting}
+use Rattle.create.specs.Shapes.Shapes.{fix_halfedge, shape_crease, shape_vert, shape_verts, crease_directionless}
+use Rattle.create.specs.Whole.Shape.{shaped_tangents}
+use Rattle.create.specs.Whole.Core.{directionless_with, create_directionless}
 use Rattle.create.specs.Create.{check_create}
 use Rattle.cases.specs.CreateQuestions.{CreateQuestionsHold}
 use Rattle.cases.specs.Entries.{EntriesHold}

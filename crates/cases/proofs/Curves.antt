@@ -1,7 +1,7 @@
 -- The cases of specs/Curves.antt hold, by computation. Assumes nothing.
 use mathlib.Core.Path.{refl}
 use lib.Ieee.{is_nan}
-use Rattle.interp_tri.specs.Bezier.{hnormalize, lerp4, cubic_bezier_2_linear, safe_normalize, bezier_tangent}
+use Rattle.curve.specs.InterpTri.Bezier.{hnormalize, lerp4, cubic_bezier_2_linear, safe_normalize, bezier_tangent}
 use Rattle.curve.specs.Questions.{is_parameter}
 use Rattle.cases.specs.Curves.{CurvesHold}
 use Rattle.cases.proofs.Hold.{floats, calls}

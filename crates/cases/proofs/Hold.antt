@@ -8,19 +8,19 @@ use Rattle.math.specs.Trig.{sin_of, cos_of}
 use Rattle.math.specs.Acos.{acos_of, acos_beyond, acos_small}
 use Rattle.linalg.specs.Vec.{add3, sub3, neg3, div3, dot_of, length2_of, length_of}
 use Rattle.mesh.specs.Mesh.{number_at, index_of, field, as_halfedges, next_halfedge, prev_halfedge}
-use Rattle.mesh.specs.Lowest.{lowest_from, lowest}
+use Rattle.common.specs.Lowest.{lowest_from, lowest}
 use Rattle.common.specs.Fold.{fold_to}
-use Rattle.mesh.specs.Check.{check_mesh}
+use Rattle.questions.specs.Check.{check_mesh}
 use Rattle.smoothing.specs.Directions.{vec3_from_vec4, is_degenerate, direction_by, safe_normalize, circular_tangent}
 use Rattle.smoothing.specs.Lists.{point_at, tangent_at, put_tangent, weight_at}
 use Rattle.smoothing.specs.Edges.{edge_vec}
 use Rattle.linearize.specs.Linearize.{with_unit_weight, linearized, linearize_end, linearize_edge, linearize_at, linearize_flat_tangents}
 use Rattle.validate.specs.Validate.{no_marked_neighbor, valid_at, valid_tangents}
-use Rattle.mesh.specs.Check.{check_flags}
+use Rattle.questions.specs.Check.{check_flags}
 use Rattle.linalg.specs.Vec.{cross_of}
 use Rattle.cycles.specs.Cycles.{next_around}
-use Rattle.distribute_spread.specs.Spread.{first_walk, fixed_from, pass, second_walk, spread, spread_from, spread_on, walks_from}
-use Rattle.distribute_steps.specs.FloatSteps.{begin, next_normal, gather_edge, turns_none, tangent_direction}
+use Rattle.distribute.specs.Spread.Spread.{first_walk, fixed_from, pass, second_walk, spread, spread_from, spread_on, walks_from}
+use Rattle.distribute.specs.Steps.FloatSteps.{begin, next_normal, gather_edge, turns_none, tangent_direction}
 use Rattle.distribute.specs.Distribute.{check_lists}
 use Rattle.cases.specs.Lines.{LinesHold}
 

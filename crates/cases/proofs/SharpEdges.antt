@@ -3,7 +3,8 @@ use mathlib.Core.Path.{refl}
 use Rattle.float.specs.F64.{clamp_of}
 use Rattle.common.specs.Count.{sum, count_below}
 use Rattle.mesh.specs.Scalar.{radians_of}
-use Rattle.sharpen.specs.Crease.{min_radians, dihedral_of, is_zero, edge_kind}
+use Rattle.linalg.specs.Vec.{is_zero}
+use Rattle.sharpen.specs.Crease.{min_radians, dihedral_of, edge_kind}
 use Rattle.sharpen.specs.Entries.{push_entry, push_edge, list_edge}
 use Rattle.sharpen.specs.declared.edge.Rule.TheVariants.{Ported, Clean}
 use Rattle.cases.specs.SharpEdges.{RuleHolds, SharpEdgesHold}

@@ -1,7 +1,7 @@
 -- The cases of specs/Spreading.antt hold, by computation. Assumes nothing.
 use mathlib.Core.Path.{refl}
 use Rattle.cycles.specs.Count.{count}
-use Rattle.distribute_spread.specs.Spread.{spread, pass}
+use Rattle.distribute.specs.Spread.Spread.{spread, pass}
 use Rattle.cases.specs.Spreading.{SpreadingHolds}
 
 pub spreading_holds : SpreadingHolds

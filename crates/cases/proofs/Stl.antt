@@ -2,14 +2,14 @@
 use mathlib.Core.Path.{refl}
 use lib.Ieee.{of_bits}
 use Rattle.common.specs.Count.{sum, count_below}
-use Rattle.mesh.specs.Lowest.{lowest, lowest_from}
+use Rattle.common.specs.Lowest.{lowest, lowest_from}
 use Rattle.mesh.specs.Mesh.{next_halfedge}
 use Rattle.little_endian.specs.Numbers.{little_endian}
 use Rattle.little_endian.specs.Filled.{items, filled}
-use Rattle.stl_file.specs.File.{triangle_count, clean, corner_offset, corner_at, normal_item}
-use Rattle.stl_file.specs.Points.{same_corner, same_point, first_of, is_first, point_of, point_count, corner_of}
-use Rattle.stl_file.specs.Edges.{same_edge, is_reverse, pair_of, is_paired}
-use Rattle.stl_file.specs.Lists.{coordinate, point_item, halfedge_number, halfedge_item}
+use Rattle.stl.specs.File.File.{triangle_count, clean, corner_offset, corner_at, normal_item}
+use Rattle.stl.specs.File.Points.{same_corner, same_point, first_of, is_first, point_of, point_count, corner_of}
+use Rattle.stl.specs.File.Edges.{same_edge, is_reverse, pair_of, is_paired}
+use Rattle.stl.specs.File.Lists.{coordinate, point_item, halfedge_number, halfedge_item}
 use Rattle.stl.specs.Questions.{finite, triangle_fits, check_file}
 use Rattle.cases.specs.Stl.{StlHolds}
 

@@ -5,7 +5,7 @@ use Rattle.math.specs.Kernels.{sin_kernel, cos_kernel}
 use Rattle.math.specs.Acos.{acos_r, clear_low_word, acos_positive}
 use Rattle.linalg.specs.Vec.{scale3, qxdir_of, qydir_of, qzdir_of, qrot_of, normalize_of, rotation_quat_axis_angle}
 use Rattle.smoothing.specs.Directions.{wrap_of, angle_between}
-use Rattle.distribute_steps.specs.FloatSteps.{edge_direction, last_or, angle_around, next_current, next_desired, add_offset, scale_of, offset_of, plan, clamp_angle, clamped_angle, turn_angle, turned_tangent, next}
+use Rattle.distribute.specs.Steps.FloatSteps.{edge_direction, last_or, angle_around, next_current, next_desired, add_offset, scale_of, offset_of, plan, clamp_angle, clamped_angle, turn_angle, turned_tangent, next}
 use Rattle.cases.specs.Traps.{TrapsHold}
 use Rattle.cases.proofs.Hold.{floats, meshes, calls, spreads}
 

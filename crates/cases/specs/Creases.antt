@@ -3,10 +3,10 @@ use Rattle.std.specs.Prelude.{ℕ, ◌≡◌, List, [], ◌∷◌, Float}
 use Rattle.float.specs.Ops.{zero, half, one, lit}
 use Rattle.common.specs.Pillow.{pillow}
 use Rattle.mesh.specs.Mesh.{as_halfedges}
-use Rattle.create_smoothness.specs.declared.Smoothness.{Smoothness}
-use Rattle.create_edges.specs.Edges.{Pair, side_of, pair_of, edges_of}
-use Rattle.create_creases.specs.Creases.{vert_tangents, crease_of}
-use Rattle.create_creases.specs.declared.Crease.TheVariants.{NoCrease, OneEnd, Through, Meeting}
+use Rattle.create.specs.declared.sharp.Smoothness.{Smoothness}
+use Rattle.create.specs.Edges.Edges.{Pair, side_of, pair_of, edges_of}
+use Rattle.create.specs.Creases.Creases.{vert_tangents, crease_of}
+use Rattle.create.specs.declared.creases.Crease.TheVariants.{NoCrease, OneEnd, Through, Meeting}
 use Rattle.cases.specs.Entries.{quarter}
 
 -- 5/8 and 3/4

@@ -4,8 +4,8 @@ use Rattle.std.specs.Float.Ieee.{neg}
 use Rattle.float.specs.Ops.{zero, one, half}
 use Rattle.common.specs.Pillow.{pillow, refs}
 use Rattle.mesh.specs.Mesh.{as_halfedges}
-use Rattle.mesh.specs.Check.{Checked, refused}
-use Rattle.mesh.specs.declared.Question.TheVariants.{Lengths, Mesh, Entry, Sign}
+use Rattle.questions.specs.Check.{Checked, refused}
+use Rattle.questions.specs.declared.Question.TheVariants.{Lengths, Mesh, Entry, Sign}
 use Rattle.create.specs.Create.{check_lists}
 
 -- the answer, with so many places in the last scratch list, face references and sharp entries

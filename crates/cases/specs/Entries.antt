@@ -3,8 +3,8 @@ use Rattle.std.specs.Prelude.{ℕ, ◌≡◌, Bool, false, eqb, List, [], ◌∷
 use Rattle.float.specs.Ops.{zero, half, one, two, lit}
 use Rattle.common.specs.Pillow.{pillow, refs}
 use Rattle.mesh.specs.Mesh.{as_halfedges}
-use Rattle.create_smoothness.specs.declared.Smoothness.{Smoothness}
-use Rattle.create_edges.specs.Edges.{Entry, side_of, pair_of, absent, present, sharpened_edges, edges_of}
+use Rattle.create.specs.declared.sharp.Smoothness.{Smoothness}
+use Rattle.create.specs.Edges.Edges.{Entry, side_of, pair_of, absent, present, sharpened_edges, edges_of}
 
 -- 1/4
 abbrev pub quarter : Float

@@ -10,8 +10,8 @@ use Rattle.math.specs.Acos.{acos_of}
 use Rattle.linalg.specs.declared.Vec3.{Vec3}
 use Rattle.linalg.specs.declared.Vec4.{Vec4}
 use Rattle.mesh.specs.Mesh.{as_halfedges, next_halfedge, prev_halfedge}
-use Rattle.mesh.specs.Check.{Checked, number_of, place_of}
-use Rattle.mesh.specs.declared.Question.TheVariants.{Mutual}
+use Rattle.questions.specs.Check.{Checked, number_of, place_of}
+use Rattle.questions.specs.declared.Question.TheVariants.{Mutual}
 use Rattle.smoothing.specs.Directions.{circular_tangent}
 use Rattle.linearize.specs.Linearize.{linearize_answer, tangents_after}
 use Rattle.validate.specs.Validate.{Validity, valid_answer}
@@ -103,9 +103,9 @@ pillow_refused =
     let answer = linearize_answer (as_halfedges (pillow_with 0)) positions no_tangents halfedges points in
     (checked answer is checked (Err (record { question = Mutual; place = 5 }))) ∷ (number (number_of answer) is number 5) ∷ (number (place_of answer) is number 5) ∷ []
 
--- the answer to spreading the straightened pillow, point normals all 0, with these flags
+-- the answer to spreading the straightened pillow, point normals all 0, with these flags of fixed halfedges
 abbrev pub spreading : List ℕ → Spreading
-spreading flags = distribute_tangents (as_halfedges pillow) positions zero_normals flags straightened zero_angles zero_angles halfedges points
+spreading fixed = distribute_tangents (as_halfedges pillow) positions zero_normals fixed straightened zero_angles zero_angles halfedges points
 
 -- Pillow, straightened tangents of the listing below, point normals all 0, flag on 0 only: looked 2, turned 0. All flags: looked 6, turned 0. No flags: looked 0, turned 0.
 abbrev pub pillow_spread : List Line

@@ -2,7 +2,7 @@
 use Rattle.std.specs.Prelude.{ℕ, ◌≡◌, List, [], ◌∷◌, ◌++◌, replicate}
 use Rattle.common.specs.Pillow.{straightened_bits}
 use Rattle.cases.specs.Bytes.{numbers, record_of, pillow_records}
-use Rattle.program_lines.specs.Text.{ascii}
+use Rattle.program.specs.Lines.Text.{ascii}
 use Rattle.program.specs.Program.{output_of}
 
 -- the bytes of the straightened tangents

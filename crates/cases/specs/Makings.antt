@@ -5,14 +5,14 @@ use Rattle.float.specs.Ops.{zero, half, one}
 use Rattle.common.specs.Pillow.{pillow, refs, positions}
 use Rattle.mesh.specs.Mesh.{as_halfedges}
 use Rattle.smoothing.specs.Edges.{is_inside_quad}
-use Rattle.create_shared.specs.Faces.{flat_faces, is_flat}
+use Rattle.smoothing.specs.Faces.{flat_faces, is_flat}
 use Rattle.create_shared.specs.Makings.{Tangents, tangents_of}
-use Rattle.create_smoothness.specs.declared.Smoothness.{Smoothness}
-use Rattle.create_edges.specs.Edges.{side_of, sharpened_edges, edges_of}
-use Rattle.create_creases.specs.Creases.{vert_tangents}
-use Rattle.create_sharpen.specs.Sharpen.{sharpen_meeting}
-use Rattle.create_core.specs.Shape.{shaped_tangents}
-use Rattle.create_core.specs.Core.{create_directionless}
+use Rattle.create.specs.declared.sharp.Smoothness.{Smoothness}
+use Rattle.create.specs.Edges.Edges.{side_of, sharpened_edges, edges_of}
+use Rattle.create.specs.Creases.Creases.{vert_tangents}
+use Rattle.create.specs.Shapes.Sharpen.{sharpen_meeting}
+use Rattle.create.specs.Whole.Shape.{shaped_tangents}
+use Rattle.create.specs.Whole.Core.{create_directionless}
 
 abbrev pub ones : List Float
 ones = one ∷ one ∷ one ∷ one ∷ []

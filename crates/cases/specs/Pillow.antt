@@ -1,4 +1,4 @@
--- Lists of the exact lines on document 01's pillow.
+-- Lists of the exact lines on the pillow (crates/common/specs/Pillow.antt).
 use Rattle.std.specs.Prelude.{List, [], ◌∷◌, replicate, Float}
 use Rattle.float.specs.Ops.{zero}
 

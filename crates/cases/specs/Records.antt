@@ -5,9 +5,9 @@ use Rattle.float.specs.Ops.{lit}
 use Rattle.common.specs.Pillow.{pillow, position_bits, positions}
 use Rattle.little_endian.specs.Numbers.{f64_item, i32_item}
 use Rattle.little_endian.specs.Filled.{items}
-use Rattle.mesh.specs.Check.{refused}
-use Rattle.mesh.specs.declared.Question.TheVariants.{Fits, Kind as OtherKind, Body, Operation as Unknown, End}
-use Rattle.mesh.specs.declared.Refusal.{Refusal}
+use Rattle.questions.specs.Check.{refused}
+use Rattle.questions.specs.declared.Question.TheVariants.{Fits, Kind as OtherKind, Body, Operation as Unknown, End}
+use Rattle.questions.specs.declared.Refusal.{Refusal}
 use Rattle.records.specs.Records.{body_at, parse_input}
 use Rattle.records.specs.declared.Operation.{Operation}
 use Rattle.records.specs.declared.Operation.TheVariants.{Straighten, Spread, Check}

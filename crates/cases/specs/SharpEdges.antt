@@ -5,8 +5,8 @@ use Rattle.std.specs.Float.Ieee.{neg}
 use Rattle.float.specs.Ops.{lit, zero, half, one}
 use Rattle.common.specs.Pillow.{pillow}
 use Rattle.mesh.specs.Mesh.{as_halfedges}
-use Rattle.mesh.specs.Check.{refused}
-use Rattle.mesh.specs.declared.Question.TheVariants.{Lengths}
+use Rattle.questions.specs.Check.{refused}
+use Rattle.questions.specs.declared.Question.TheVariants.{Lengths}
 use Rattle.sharpen.specs.Entries.{Entries, entries_in}
 use Rattle.sharpen.specs.Sharpen.{sharpen_edges, entries_after}
 use Rattle.sharpen.specs.declared.edge.Rule.{Rule}

@@ -1,12 +1,12 @@
 -- Spreading on the pillow, with numbers for tangents: the last digit is the weight, 9 the mark. And the bytes of a preview of it: 1 where a halfedge was turned.
 use Rattle.std.specs.Prelude.{ℕ, suc, ◌+◌, ◌*◌, ◌%◌, ◌≡◌, Bool, true, false, eqb, List, [], ◌∷◌, get_or, set}
-use Rattle.distribute_spread.specs.Steps.{Steps}
-use Rattle.distribute_spread.specs.Spread.{spread, pass}
-use Rattle.preview_walks.specs.Bytes.{turned_bytes}
+use Rattle.distribute.specs.Spread.Steps.{Steps}
+use Rattle.distribute.specs.Spread.Spread.{spread, pass}
+use Rattle.distribute.specs.Preview.Bytes.{turned_bytes}
 
--- with these flags; the rounds are {0, 3}, {1, 5} and {2, 4}
+-- with these halfedges fixed; the rounds are {0, 3}, {1, 5} and {2, 4}
 abbrev pub steps : List Bool → Steps
-steps flags = record {
+steps fixed = record {
   Tangents = List ℕ;
   Tangent = ℕ;
   Weight = ℕ;
@@ -14,7 +14,7 @@ steps flags = record {
   Plan = ℕ;
   n = 6;
   step = λ e. get_or (3 ∷ 5 ∷ 4 ∷ 0 ∷ 2 ∷ 1 ∷ []) e 0;
-  fixed = λ e. get_or flags e false;
+  fixed = λ e. get_or fixed e false;
   read = λ ts e. get_or ts e 0;
   write = set;
   weight = λ v. v % 10;

@@ -1,18 +1,14 @@
 -- The reading of STL: a tetrahedron with corners 0, x, y and z, and files that are refused.
-use Rattle.std.specs.Prelude.{ℕ, ◌/◌, ◌%◌, ◌≡◌, List, [], ◌∷◌, ◌++◌, map, replicate, ℤ, pos, Float, Ok}
+use Rattle.std.specs.Prelude.{ℕ, ◌≡◌, List, [], ◌∷◌, ◌++◌, map, replicate, ℤ, pos, Float, Ok}
 use Rattle.std.specs.Float.{nan}
 use Rattle.float.specs.Ops.{lit32}
-use Rattle.mesh.specs.Check.{refused}
-use Rattle.mesh.specs.declared.Question.TheVariants.{Lengths, Size, Corners, Pairing}
+use Rattle.questions.specs.Check.{refused}
+use Rattle.questions.specs.declared.Question.TheVariants.{Lengths, Size, Corners, Pairing}
 use Rattle.stl.specs.Questions.{check_stl}
-use Rattle.stl.specs.Stl.{read_stl, points_after, halfedges_after, normals_after}
+use Rattle.cases.specs.Bytes.{numbers}
+use Rattle.stl.specs.Stl.{read_stl, pos_after, h_after, face_normals_after}
 
 -- ---- files
-
--- little-endian
-abbrev pub bytes_of : List ℕ → List ℕ
-bytes_of [] = []
-bytes_of (w ∷ words) = w % 256 ∷ w / 256 % 256 ∷ w / 65536 % 256 ∷ w / 16777216 ∷ bytes_of words
 
 -- 1, -1, -0 and infinity, by their bits
 abbrev pub one : ℕ
@@ -41,10 +37,10 @@ z = 0 ∷ 0 ∷ one ∷ []
 
 -- a normal, three corners, and two bytes that are ignored
 abbrev pub triangle : List ℕ → List ℕ → List ℕ → List ℕ → List ℕ
-triangle normal a b c = bytes_of (normal ++ a ++ b ++ c) ++ (7 ∷ 7 ∷ [])
+triangle normal a b c = numbers 4 (normal ++ a ++ b ++ c) ++ (7 ∷ 7 ∷ [])
 
 abbrev pub file : ℕ → List ℕ → List ℕ
-file count triangles = replicate 80 0 ++ bytes_of (count ∷ []) ++ triangles
+file count triangles = replicate 80 0 ++ numbers 4 (count ∷ []) ++ triangles
 
 -- the three triangles at x, of which the second has the origin with two numbers of -0
 abbrev pub three : List ℕ
@@ -74,10 +70,10 @@ pub record StlHolds : Type 0 where
   -- the tetrahedron is accepted
   pub accepted : read_stl tetrahedron points halfedges normals ≡ Ok (record { halfedges = 12; points = 4 })
   -- four points, by first appearance; the places beyond stay as lent
-  pub its_points : points_after tetrahedron points halfedges normals ≡ map lit32 (origin ++ y ++ x ++ z) ++ replicate 24 nan
+  pub its_points : pos_after tetrahedron points halfedges normals ≡ map lit32 (origin ++ y ++ x ++ z) ++ replicate 24 nan
   -- start, end, pair and row
-  pub its_halfedges : halfedges_after tetrahedron points halfedges normals ≡ map pos (0 ∷ 1 ∷ 11 ∷ 0 ∷ 1 ∷ 2 ∷ 6 ∷ 1 ∷ 2 ∷ 0 ∷ 3 ∷ 2 ∷ 0 ∷ 2 ∷ 2 ∷ 3 ∷ 2 ∷ 3 ∷ 8 ∷ 4 ∷ 3 ∷ 0 ∷ 9 ∷ 5 ∷ 2 ∷ 1 ∷ 1 ∷ 6 ∷ 1 ∷ 3 ∷ 10 ∷ 7 ∷ 3 ∷ 2 ∷ 4 ∷ 8 ∷ 0 ∷ 3 ∷ 5 ∷ 9 ∷ 3 ∷ 1 ∷ 7 ∷ 10 ∷ 1 ∷ 0 ∷ 0 ∷ 11 ∷ [])
-  pub its_normals : normals_after tetrahedron points halfedges normals ≡ map lit32 (0 ∷ 0 ∷ minus_one ∷ 0 ∷ minus_one ∷ 0 ∷ one ∷ one ∷ one ∷ minus_one ∷ 0 ∷ 0 ∷ [])
+  pub its_halfedges : h_after tetrahedron points halfedges normals ≡ map pos (0 ∷ 1 ∷ 11 ∷ 0 ∷ 1 ∷ 2 ∷ 6 ∷ 1 ∷ 2 ∷ 0 ∷ 3 ∷ 2 ∷ 0 ∷ 2 ∷ 2 ∷ 3 ∷ 2 ∷ 3 ∷ 8 ∷ 4 ∷ 3 ∷ 0 ∷ 9 ∷ 5 ∷ 2 ∷ 1 ∷ 1 ∷ 6 ∷ 1 ∷ 3 ∷ 10 ∷ 7 ∷ 3 ∷ 2 ∷ 4 ∷ 8 ∷ 0 ∷ 3 ∷ 5 ∷ 9 ∷ 3 ∷ 1 ∷ 7 ∷ 10 ∷ 1 ∷ 0 ∷ 0 ∷ 11 ∷ [])
+  pub its_normals : face_normals_after tetrahedron points halfedges normals ≡ map lit32 (0 ∷ 0 ∷ minus_one ∷ 0 ∷ minus_one ∷ 0 ∷ one ∷ one ∷ one ∷ minus_one ∷ 0 ∷ 0 ∷ [])
   -- one byte more than the count says
   pub longer : check_stl (tetrahedron ++ (0 ∷ [])) 36 48 12 ≡ refused Size 0
   -- cut off in its header

@@ -1,11 +1,11 @@
 -- Worked cases of spreading's two walks: in the second, a fixed halfedge other than the start ends the walk before its mark is read, and only in the first is the mark read first. The stated side has literals only; the unchanged Rust gives the same.
-use Rattle.std.specs.Prelude.{ℕ, ◌≡◌, List, [], ◌∷◌, ◌++◌, map, replicate, ℤ, pos, Float, Ok}
+use Rattle.std.specs.Prelude.{ℕ, List, [], ◌∷◌, ◌++◌, map, replicate, ℤ, pos, Float, Ok}
 use Rattle.std.specs.Float.{binary64}
-use Rattle.std.specs.Float.Ieee.{neg, of_bits}
+use Rattle.std.specs.Float.Ieee.{of_bits}
 use Rattle.float.specs.Ops.{zero, one}
 use Rattle.mesh.specs.Mesh.{as_halfedges}
 use Rattle.distribute.specs.Distribute.{distribute_tangents, tangents_after}
-use Rattle.cases.specs.Lines.{Value, Line, counts, tangents, ◌is◌, AllHold}
+use Rattle.cases.specs.Lines.{Value, Line, counts, tangents, minus, ◌is◌, AllHold}
 
 -- Two squares back to back: points (0,0,0), (1,0,0), (1,1,0), (0,1,0), each square with its diagonal from point 0. Start, end, pair and row (its own number) of the halfedges 0 to 11; the round of point 0 is 0, 6, 9, 3.
 abbrev pub square : List ℤ
@@ -32,9 +32,6 @@ corners = zero ∷ zero ∷ zero ∷ one ∷ zero ∷ zero ∷ one ∷ one ∷ z
 abbrev pub upwards : List Float
 upwards = zero ∷ zero ∷ one ∷ zero ∷ zero ∷ one ∷ zero ∷ zero ∷ one ∷ zero ∷ zero ∷ one ∷ []
 
-abbrev pub minus : Float
-minus = neg one
-
 -- a tangent of direction 0 and weight 1
 abbrev pub plain : List Float
 plain = zero ∷ zero ∷ zero ∷ one ∷ []
@@ -47,9 +44,9 @@ lent b c =
     ++ (zero ∷ one ∷ zero ∷ b ∷ []) ++ plain ++ plain
     ++ (minus ∷ zero ∷ zero ∷ c ∷ []) ++ plain ++ plain
 
--- flags on halfedge 0, and as given on 6 and 9
-abbrev pub flags : ℕ → ℕ → List ℕ
-flags b c = 1 ∷ 0 ∷ 0 ∷ 0 ∷ 0 ∷ 0 ∷ b ∷ 0 ∷ 0 ∷ c ∷ 0 ∷ 0 ∷ []
+-- halfedge 0 is fixed, and 6 and 9 as given
+abbrev pub fixed : ℕ → ℕ → List ℕ
+fixed b c = 1 ∷ 0 ∷ 0 ∷ 0 ∷ 0 ∷ 0 ∷ b ∷ 0 ∷ 0 ∷ c ∷ 0 ∷ 0 ∷ []
 
 abbrev pub angles : List Float
 angles = replicate 12 zero
@@ -63,8 +60,8 @@ spread_tangents X T = tangents (tangents_after (as_halfedges square) corners upw
 -- 9 is fixed and marked. The first walk from 0 reads its mark, and goes past it to 3 and 0: looked 4. The second turns 6 and ends at 9: turned 1. One that read the mark first would go on and turn 3 and 0.
 abbrev pub marked_in_an_arc : List Line
 marked_in_an_arc =
-    (spreading (flags 0 1) (lent one minus) is counts (Ok (record { looked = 4; turned = 1 })))
-    ∷ (spread_tangents (flags 0 1) (lent one minus)
+    (spreading (fixed 0 1) (lent one minus) is counts (Ok (record { looked = 4; turned = 1 })))
+    ∷ (spread_tangents (fixed 0 1) (lent one minus)
     is tangents
     (map (of_bits binary64)
     (0x3ff0000000000000 ∷ 0x0000000000000000 ∷ 0x0000000000000000 ∷ 0x3ff0000000000000
@@ -84,15 +81,15 @@ marked_in_an_arc =
 
 -- 9 is marked and not fixed: both walks go past it, and the second turns 6, 3 and 0.
 abbrev pub marked_only : List Line
-marked_only = (spreading (flags 0 0) (lent one minus) is counts (Ok (record { looked = 4; turned = 3 }))) ∷ []
+marked_only = (spreading (fixed 0 0) (lent one minus) is counts (Ok (record { looked = 4; turned = 3 }))) ∷ []
 
 -- 6 is fixed and marked. The first walk goes past it; one that read the flag first would end there, with looked 1. The second ends there and turns nothing.
 abbrev pub marked_at_once : List Line
-marked_at_once = (spreading (flags 1 0) (lent minus one) is counts (Ok (record { looked = 4; turned = 0 }))) ∷ []
+marked_at_once = (spreading (fixed 1 0) (lent minus one) is counts (Ok (record { looked = 4; turned = 0 }))) ∷ []
 
 -- 9 is fixed and not marked: the first walk from 0 ends there, and so does the second, after 6; those from 9 go on to 3 and 0.
 abbrev pub fixed_only : List Line
-fixed_only = (spreading (flags 0 1) (lent one one) is counts (Ok (record { looked = 4; turned = 2 }))) ∷ []
+fixed_only = (spreading (fixed 0 1) (lent one one) is counts (Ok (record { looked = 4; turned = 2 }))) ∷ []
 
 abbrev pub traps : List Line
 traps = marked_in_an_arc ++ marked_only ++ marked_at_once ++ fixed_only

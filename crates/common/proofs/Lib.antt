@@ -5,3 +5,4 @@ pub mod Count
 pub mod Counted
 pub mod Filled
 pub mod Front
+pub mod Lowest

@@ -3,3 +3,4 @@ pub mod Fold
 pub mod Count
 pub mod Counted
 pub mod Pillow
+pub mod Lowest

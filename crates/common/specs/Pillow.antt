@@ -1,4 +1,4 @@
--- Document 01's pillow: three points, two triangles back to back; and the tangents of its listing. The worked cases of the crates above are made of these.
+-- The pillow: three points, two triangles back to back; and the bits of its straightened tangents. The worked cases of the crates above are made of these.
 use Rattle.std.specs.Prelude.{ℕ, List, [], ◌∷◌, map, ℤ, pos, Float}
 use Rattle.std.specs.Float.{binary64}
 use Rattle.std.specs.Float.Ieee.{of_bits}
@@ -30,7 +30,7 @@ refs = map pos (1 ∷ 0 ∷ 0 ∷ 1 ∷ 1 ∷ 1 ∷ [])
 abbrev pub position_bits : List ℕ
 position_bits = 0 ∷ 0 ∷ 0 ∷ 0x4008_0000_0000_0000 ∷ 0 ∷ 0 ∷ 0 ∷ 0x4018_0000_0000_0000 ∷ 0 ∷ []
 
--- the listing of document 01: the bits of the straightened tangents
+-- the bits of the straightened tangents
 abbrev pub straightened_bits : List ℕ
 straightened_bits =
     0x3ff0000000000000 ∷ 0x0000000000000000 ∷ 0x0000000000000000 ∷ 0x3ff0000000000000

@@ -1,3 +1,3 @@
 // What several crates share, for specs and proofs alone: folds, counts and sums with their laws, a filled list, tests joined, and
-// document 01's pillow. There is no code here.
+// the pillow, a mesh of two triangles back to back. There is no code here.
 #![tactic(auto)]

@@ -1,20 +1,20 @@
 -- Making from sharp edges as a public call: `create_tangents` of src/smoothing_tangents.rs, with its questions. H are the halfedges, P the positions, N the point normals, A the face normals, R the face references, I and Q the halfedges and the smoothness of the sharp entries, T the tangents, `old` whether these are old tangents, X, F, M, D, W and L the scratch lists `fixed`, `flat`, `smooth`, `desired`, `at` and `link`, n and p the counts of halfedges and points.
 use Rattle.std.specs.Prelude.{ℕ, List, Bool, ◌&&◌, length, ℤ, Float}
 use Rattle.mesh.specs.Mesh.{Halfedges}
-use Rattle.mesh.specs.Questions.{has_length}
-use Rattle.mesh.specs.Check.{Checked, check_mesh, check_refs, check_entries, answer_of, when_accepted}
+use Rattle.questions.specs.Questions.{has_length}
+use Rattle.questions.specs.Check.{Checked, check_mesh, check_refs, check_entries, answer_of, when_accepted}
 use Rattle.create_shared.specs.Lengths.{mesh_lists_fit}
 use Rattle.create_shared.specs.Answer.{Making}
-use Rattle.create_smoothness.specs.declared.Smoothness.{Smoothness}
-use Rattle.create_smoothness.specs.Entries.{entries_of}
-use Rattle.create_core.specs.Core.{create_tangents, create_directionless}
+use Rattle.create.specs.declared.sharp.Smoothness.{Smoothness}
+use Rattle.create.specs.Sharp.Entries.{entries_of}
+use Rattle.create.specs.Whole.Core.{create_tangents, create_directionless}
 
 -- ---- the questions
 
 -- question 2 of the lists that the call reads, and of the tangents: what their lengths must be
 abbrev pub lists_fit : ℕ → ℕ → ℕ → ℕ → ℕ → ℕ → ℕ → ℕ → ℕ → ℕ → Bool
-lists_fit halfedges positions normals face_normals refs entries values tangents n p =
-    mesh_lists_fit halfedges positions normals face_normals refs n p && has_length values entries 1 && has_length tangents n 4
+lists_fit halfedges positions normals face_normals refs entries smoothness tangents n p =
+    mesh_lists_fit halfedges positions normals face_normals refs n p && has_length smoothness entries 1 && has_length tangents n 4
 
 -- question 2 of scratch: `at` has a place for each point, each other list one for each halfedge
 abbrev pub scratch_fits : ℕ → ℕ → ℕ → ℕ → ℕ → ℕ → ℕ → ℕ → Bool

@@ -1,7 +1,7 @@
 -- What an accepted call establishes of its lists. Assumes nothing.
 use Prim.Native.Nat.{ℕ, ◌*◌, ◌/◌, ◌%◌, ◌<◌}
 use native.Mathlib.Omega.{arith}
-use mathlib.Core.Path.{◌≡◌, ◌∙◌}
+use mathlib.Core.Path.{◌≡◌, refl, ◌∙◌}
 use mathlib.Core.Bool.{true, ◌&&◌}
 use mathlib.Core.List.{List}
 use borrow.Author.Tests.{eqb-true}
@@ -10,15 +10,16 @@ use lib.Dec.{eqb}
 use lib.IntN.{ℤ}
 use lib.Ieee.{Float}
 use Rattle.mesh.specs.Mesh.{halfedge_stride, no_index, as_halfedges, prop_vert}
-use Rattle.mesh.specs.Questions.{has_length}
-use Rattle.mesh.specs.Check.{check_mesh, check_rows}
+use Rattle.questions.specs.Questions.{has_length}
+use Rattle.questions.specs.Check.{check_mesh, check_rows}
 use Rattle.mesh.specs.Sound.{Sound}
 use Rattle.std.specs.Prelude.{Ok}
 use Rattle.std.proofs.lemmas.Bool.{and_parts}
-use Rattle.mesh.proofs.Tests.{has_length_lem, has_one}
-use Rattle.mesh.proofs.Accepted.{accepted, rows_accepted, refs_accepted, list_numbers}
-use Rattle.normals_state.specs.State.{RowIn}
-use Rattle.normals_core.specs.Core.{ScratchIn}
+use Rattle.questions.proofs.Lengths.{has_length_lem, has_one}
+use Rattle.questions.proofs.Accepted.{accepted, rows_exactly, refs_exactly}
+use Rattle.mesh.proofs.Inside.{list_numbers}
+use Rattle.create_from_normals.specs.State.State.{RowIn}
+use Rattle.create_from_normals.specs.Whole.Core.{ScratchIn}
 use Rattle.create_shared.proofs.Lengths.{MeshListsFit, mesh_lists_fit_lem}
 use Rattle.create_from_normals.specs.FromNormals.{lists_fit, scratch_fits, check_normals, check_lists}
 
@@ -88,7 +89,7 @@ lists_of list P N A R G T X Q C D F n p e =
     let rows = length G / 3 in
     let lengths = lists_fit (length list) (length P) (length N) (length A) (length R) (length G) (length T) n p && scratch_fits (length X) (length Q) (length C) (length D) (length F) n p in
     let mesh = check_mesh H n p lengths in
-    let r = rows_accepted mesh n list rows (refs_accepted (check_rows mesh list rows n) n R e).0 in
+    let r = (rows_exactly mesh n list rows refl).0 ((refs_exactly (check_rows mesh list rows n) n R refl).0 e).0 in
     let b = accepted H n p lengths r.0 in
     let q = and_parts _ _ b.0 in
     let l = lists_fit_lem _ _ _ _ _ _ _ n p q.0 in

@@ -11,9 +11,9 @@ use Rattle.mesh.specs.Sound.{Sound}
 use Rattle.smoothing.specs.Edges.{is_inside_quad}
 use Rattle.create_shared.specs.Makings.{Tangents}
 use Rattle.distribute.specs.Distribute.{spread_tangents}
-use Rattle.normals_state.specs.State.{get_normal}
-use Rattle.normals_walks.proofs.Same.{verts_same, verts_count_same}
-use Rattle.normals_core.specs.Core.{no_tangents, normal_tangents, create_tangents_from_normals, from_normals_directionless}
+use Rattle.create_from_normals.specs.State.State.{get_normal}
+use Rattle.create_from_normals.proofs.WalksLaws.Same.{verts_same, verts_count_same}
+use Rattle.create_from_normals.specs.Whole.Core.{no_tangents, normal_tangents, create_tangents_from_normals, from_normals_directionless}
 use Rattle.create_from_normals.specs.OldNormals.{OldTangents, OldCount}
 
 -- two functions that give the same normals of the n halfedges

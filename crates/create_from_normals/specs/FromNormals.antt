@@ -1,12 +1,12 @@
 -- Making from normals as a public call: `create_tangents_from_normals` of src/smoothing_tangents.rs, with its questions. `list` is the list of halfedges, P the positions, N the point normals, A the face normals, R the face references, G the row list, three numbers for each row, T the tangents, `old` whether these are old tangents, X, B, C, D and W the scratch lists `fixed`, `inside`, `current`, `desired` and `first`, n and p the counts of halfedges and points.
 use Rattle.std.specs.Prelude.{ℕ, ◌/◌, ◌%◌, List, Bool, ◌&&◌, length, eqb, ℤ, Float}
 use Rattle.mesh.specs.Mesh.{as_halfedges}
-use Rattle.mesh.specs.Questions.{has_length}
-use Rattle.mesh.specs.Check.{Checked, check_mesh, check_rows, check_refs, answer_of, when_accepted}
+use Rattle.questions.specs.Questions.{has_length}
+use Rattle.questions.specs.Check.{Checked, check_mesh, check_rows, check_refs, answer_of, when_accepted}
 use Rattle.create_shared.specs.Lengths.{mesh_lists_fit}
 use Rattle.create_shared.specs.Answer.{Making}
-use Rattle.normals_state.specs.State.{get_normal}
-use Rattle.normals_core.specs.Core.{create_tangents_from_normals, from_normals_directionless}
+use Rattle.create_from_normals.specs.State.State.{get_normal}
+use Rattle.create_from_normals.specs.Whole.Core.{create_tangents_from_normals, from_normals_directionless}
 
 -- ---- the questions
 

@@ -2,8 +2,8 @@
 use Rattle.std.specs.Prelude.{ℕ, ◌<◌, ◌≡◌, List, Bool, ℤ, Float}
 use Rattle.mesh.specs.Mesh.{Halfedges, as_halfedges}
 use Rattle.smoothing.specs.Lists.{point_at}
-use Rattle.normals_state.specs.State.{get_normal}
-use Rattle.normals_core.specs.Core.{create_tangents_from_normals, from_normals_directionless}
+use Rattle.create_from_normals.specs.State.State.{get_normal}
+use Rattle.create_from_normals.specs.Whole.Core.{create_tangents_from_normals, from_normals_directionless}
 
 -- each halfedge's row in G holds its three old numbers
 abbrev pub HoldsOld : List ℤ → List Float → List Float → ℕ → Type 0

@@ -1,21 +1,27 @@
-// `create_tangents_from_normals` of src/smoothing_tangents.rs (document 01's making from normals) as a public call: its
-// questions, and then `normals_core`.
+// Making from normals: `create_tangents_from_normals` of src/smoothing_tangents.rs as a public call, with its questions. `state` has
+// what the loop round a vertex cycle carries, `steps` the bodies of the loops, `walks` the loops, and `whole` the making on an
+// accepted mesh.
 #![tactic(auto)]
+
+mod state;
+mod steps;
+mod walks;
+mod whole;
 
 ghost use Rattle.std.specs.Prelude.{◌≡◌, ◌*◌, ◌≤◌, length, replicate, IfOk, OnOk};
 ghost use Rattle.float.specs.Ops.{zero};
 ghost use Rattle.mesh.specs.Mesh.{as_halfedges};
-ghost use Rattle.mesh.specs.Check.{when_accepted};
+ghost use Rattle.questions.specs.Check.{when_accepted};
 ghost use Rattle.create_shared.specs.Answer.{directionless_of, checked_of, Values};
-ghost use Rattle.normals_state.specs.State.{get_normal};
-ghost use Rattle.normals_core.specs.Core.{from_normals_directionless};
-ghost use Rattle.normals_weights.specs.Weights.{Weights};
+ghost use Rattle.create_from_normals.specs.State.State.{get_normal};
+ghost use Rattle.create_from_normals.specs.Whole.Core.{from_normals_directionless};
+ghost use Rattle.create_from_normals.specs.Weights.{Weights, WeightsOf};
 ghost use Rattle.create_from_normals.specs.FromNormals.{lists_fit, scratch_fits, check_normals, check_lists, tangents_after, create_answer};
 ghost use Rattle.create_from_normals.specs.OldNormals.{OldTangents, OldCount};
 
 use create_shared::MeshLists;
-use mesh::Refusal;
-use normals_walks::NormalLists;
+use questions::Refusal;
+use walks::NormalLists;
 
 // Question 2 of the lists that the call reads, and of the tangents, from the length of each. No struct, here or for scratch: what its
 // ghost fields would say is what is asked.
@@ -41,7 +47,7 @@ fn lists_fit(
         face_normals,
         refs,
     );
-    lists & (row_numbers % 3 == 0) & mesh::has_length(tangents, n, 4)
+    lists & (row_numbers % 3 == 0) & questions::has_length(tangents, n, 4)
 }
 
 // Question 2 of the scratch lists.
@@ -56,11 +62,12 @@ fn scratch_fits(
 ) -> bool
     ensures { result ≡ scratch_fits (length fixed.now) (length inside.now) (length current.now) (length desired.now) (length first.now) n p }
 {
-    let flags = mesh::has_length(fixed.len(), n, 1) & mesh::has_length(inside.len(), n, 1);
+    let flags = questions::has_length(fixed.len(), n, 1)
+        & questions::has_length(inside.len(), n, 1);
     let angles = flags
-        & mesh::has_length(current.len(), n, 1)
-        & mesh::has_length(desired.len(), n, 1);
-    angles & mesh::has_length(first.len(), p, 1)
+        & questions::has_length(current.len(), n, 1)
+        & questions::has_length(desired.len(), n, 1);
+    angles & questions::has_length(first.len(), p, 1)
 }
 
 // The questions 1 to 7, 12 and 8; `lengths` is the answer to question 2, `rows` how many rows there are.
@@ -75,9 +82,9 @@ fn check_normals(
 ) -> Result<(), Refusal>
     ensures { result ≡ check_normals h.now refs.now rows n p lengths }
 {
-    let checked = mesh::check_mesh(h, n, p, lengths);
-    let checked = mesh::check_rows(checked, h, rows, n);
-    mesh::check_refs(checked, refs, n)
+    let checked = questions::check_mesh(h, n, p, lengths);
+    let checked = questions::check_rows(checked, h, rows, n);
+    questions::check_refs(checked, refs, n)
 }
 
 // Making from normals, for lists of any length and content. `pos` and `normals` have three numbers for each point,
@@ -132,9 +139,9 @@ pub fn create_tangents_from_normals<'a>(
     let scratch = scratch_fits(n, p, fixed, inside, current, desired, first);
     let lengths = lists & scratch;
     let checked = check_normals(n, p, h, refs, rows.len() / 3, lengths);
-    // Document 01's form by place: the check's answer is opened by `let .. else`.
+    // The rule for a public call: the check's answer is opened by `let .. else`.
     let Ok(()) = checked else {
-        return mesh::refused(checked);
+        return questions::refused(checked);
     };
     let mesh = MeshLists {
         n,
@@ -146,8 +153,13 @@ pub fn create_tangents_from_normals<'a>(
         face_normals,
     };
     let read = NormalLists { mesh, rows };
-    let directionless = normals_core::make_tangents(
-        &read, old, t, fixed, inside, current, desired, first,
-    );
+    let directionless = whole::make_tangents(&read, old, t, fixed, inside, current, desired, first);
     Ok(directionless)
 }
+
+// Law: on a sound mesh making from normals leaves at each halfedge the weight -1, 0, or that of a circular tangent along its edge,
+// and never -3 (specs/Weights.antt, `WeightsOf`).
+#[tactic(auto, using(crate::proofs::WeightsLaws::Weights::weights))]
+pub fn weights_hold()
+    ensures { WeightsOf }
+{}

@@ -4,9 +4,9 @@ use native.Mathlib.Omega.{arith}
 use mathlib.Core.Path.{◌≡◌}
 use mathlib.Core.Bool.{true}
 use Rattle.mesh.specs.Mesh.{halfedge_stride, ref_stride}
-use Rattle.mesh.specs.Questions.{has_length}
+use Rattle.questions.specs.Questions.{has_length}
 use Rattle.std.proofs.lemmas.Bool.{and_parts}
-use Rattle.mesh.proofs.Tests.{has_length_lem}
+use Rattle.questions.proofs.Lengths.{has_length_lem}
 use Rattle.create_shared.specs.Lengths.{mesh_lists_fit}
 
 pub record MeshListsFit (h l m a n p : ℕ) : Type 0 where

@@ -1,48 +1,10 @@
--- What the results of `create_shared` are good for: their ranges. Assumes nothing.
-use Prim.Native.Nat.{ℕ, ◌+◌, ◌*◌, ◌/◌, ◌%◌, ◌≤◌, ◌<◌}
-use native.Mathlib.Omega.{arith}
+-- The lowest halfedge of a point: it is below n or n, and it starts there.
+use Prim.Native.Nat.{ℕ, ◌≤◌, ◌<◌}
 use mathlib.Core.Path.{◌≡◌}
-use mathlib.Core.List.{List}
-use mathlib.Core.Bool.{Bool, true, false, cond, ◌&&◌}
-use lib.IntN.{ℤ}
-use lib.Dec.{eqb}
-use borrow.Author.Tests.{eq-eqb, eqb-true, not-false}
-use Rattle.mesh.specs.Mesh.{start_vert, same_face, Halfedges}
-use Rattle.mesh.proofs.Lowest.{lowest_within, lowest_found, lowest_least}
-use Rattle.common.proofs.Fold.{fold_keeps}
-use Rattle.create_shared.specs.Faces.{add_flat_face, vert_face_at, vert_flat_face, starts_elsewhere, vert_halfedge}
-use Rattle.create_shared.specs.declared.FlatFace.{FlatFace}
-use Rattle.create_shared.specs.declared.FlatFace.TheVariants.{NoFace, OneFace, MoreFaces}
-
--- ---- the triangle of a point's one flat face is there
-
-abbrev In : ℕ → FlatFace → Type 0
-In n f = (t : ℕ) → f ≡ OneFace t → t * 3 + 3 ≤ n
-
-in_cond : (n : ℕ) (b : Bool) (f g : FlatFace) → In n f → In n g → In n (cond b f g)
-in_cond n true f g p q = p
-in_cond n false f g p q = q
-
-more_in : (n u : ℕ) → In n (MoreFaces u)
-more_in n u t e = let z : ◌≡◌ {A = ℕ} 0 1 = cc in absurd (omega arith)
-
-in_add : (R : List ℤ) (n : ℕ) (f : FlatFace) (t : ℕ) → t * 3 + 3 ≤ n → In n f → In n (add_flat_face R f t)
-unfolding add_flat_face
-in_add R n NoFace t l p = λ u e. let q : t ≡ u = cc in omega arith
-in_add R n (OneFace w) t l p = in_cond n (same_face R w t) (OneFace w) (MoreFaces t) p (more_in n t)
-in_add R n (MoreFaces w) t l p = in_cond n (same_face R w t) (MoreFaces w) (MoreFaces t) (more_in n w) (more_in n t)
-
-pub vert_face_in : (H : Halfedges) (R : List ℤ) (flat : ℕ → Bool) (n v t : ℕ) → n % 3 ≡ 0 → vert_flat_face H R flat n v ≡ OneFace t → t * 3 + 3 ≤ n
-unfolding vert_flat_face vert_face_at
-vert_face_in H R flat n v t m =
-    fold_keeps (vert_face_at H R flat v) NoFace (In n) n
-    (λ f e l p. in_cond n (flat (e / 3) && eqb (start_vert H e) v) (add_flat_face R f (e / 3)) f (in_add R n f (e / 3) (omega arith) p) p)
-    (λ u e. let z : ◌≡◌ {A = ℕ} 0 1 = cc in absurd (omega arith))
-    n
-    (omega arith)
-    t
-
--- ---- the lowest halfedge of a point
+use borrow.Author.Tests.{eqb-true, not-false}
+use Rattle.mesh.specs.Mesh.{start_vert, Halfedges}
+use Rattle.common.proofs.Lowest.{lowest_within, lowest_found}
+use Rattle.create_shared.specs.Verts.{starts_elsewhere, vert_halfedge}
 
 pub vert_halfedge_within : (H : Halfedges) (n v : ℕ) → vert_halfedge H n v ≤ n
 unfolding vert_halfedge
@@ -51,7 +13,3 @@ vert_halfedge_within H n v = lowest_within (starts_elsewhere H v) n
 pub vert_halfedge_starts : (H : Halfedges) (n v : ℕ) → vert_halfedge H n v < n → start_vert H (vert_halfedge H n v) ≡ v
 unfolding vert_halfedge
 vert_halfedge_starts H n v l = eqb-true _ _ (not-false _ (lowest_found (starts_elsewhere H v) n l))
-
-pub vert_halfedge_least : (H : Halfedges) (n v e : ℕ) → start_vert H e ≡ v → vert_halfedge H n v ≤ e
-unfolding vert_halfedge
-vert_halfedge_least H n v e q = lowest_least (starts_elsewhere H v) n e (let z = eq-eqb (start_vert H e) v q in rw z)

@@ -1,7 +1,7 @@
--- The answer of a making: request 3's count, or the refusal.
+-- The answer of a making: the count of circular tangents on an edge without direction, or the refusal.
 use Rattle.std.specs.Prelude.{ℕ, ◌≡◌, Result, Ok, Err}
-use Rattle.mesh.specs.Check.{Checked, number_of, place_of, when_accepted}
-use Rattle.mesh.specs.declared.Refusal.{Refusal}
+use Rattle.questions.specs.Check.{Checked, number_of, place_of, value_or, when_accepted}
+use Rattle.questions.specs.declared.Refusal.{Refusal}
 
 -- how many circular tangents were computed on an edge without direction, or the refusal
 abbrev pub Making : Type 0
@@ -9,8 +9,7 @@ Making = Result ℕ Refusal
 
 -- the count; 0 for a refusal, which computes none
 abbrev pub directionless_of : Making → ℕ
-directionless_of (Ok directionless) = directionless
-directionless_of (Err refusal) = 0
+directionless_of = value_or 0 (λ directionless. directionless)
 
 -- what the questions were answered
 abbrev pub checked_of : Making → Checked

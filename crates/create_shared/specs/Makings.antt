@@ -45,7 +45,7 @@ align_tangents H P m first second dir =
     (put_circular_tangent H P (put_circular_tangent H P m.tangents first dir) second (neg3 dir))
     (set (set m.fixed first 1) second 1)
 
--- ---- request 3's count: the circular tangents on an edge without direction, those that are written over later too
+-- ---- the count: the circular tangents on an edge without direction, those that are written over later too
 
 -- a circular tangent of halfedge e, with its edge, counts 1 where the edge has no direction
 unfoldable pub directionless_at : Halfedges → List Float → ℕ → ℕ

@@ -25,10 +25,10 @@ use Rattle.common.proofs.Front.{range_next}
 use Rattle.float.specs.Ops.{◌⊘◌}
 use Rattle.float.specs.Ops as float
 use Rattle.linalg.specs.declared.Vec4.{Vec4}
-use Rattle.mesh.specs.Check.{Checked}
-use Rattle.mesh.specs.declared.Question.TheVariants.{CurveCount}
-use Rattle.mesh.proofs.Accepted.{then_accepted, asked_accepted}
-use Rattle.curve.specs.Questions.{is_parameter, count_fits, check_points}
+use Rattle.questions.specs.Check.{Checked}
+use Rattle.questions.specs.declared.Question.TheVariants.{CurveCount}
+use Rattle.questions.proofs.Accepted.{then_accepted, asked_accepted}
+use Rattle.curve.specs.Questions.{is_parameter, min_points, max_points, count_fits, check_points}
 use Rattle.curve.specs.Curve.{Point, curve_at, position_of, parameter_at, numbers_of, numbers_at, points_of, points_after}
 use Rattle.curve.specs.Parameters.{ParametersFit, PointsAnswered, SamePoints}
 use Rattle.curve.proofs.Points.{first_points, points_next}
@@ -54,7 +54,7 @@ div_whole (fin false m e) (fin false n d) a b B h k =
     (round_same binary64 false (m * up e * down d) (n * up d * down e) a b (mul-pos (mul-pos N (up_pos d)) (down_pos e)) B
     (cross m (up e) n (up d) (down d) (down e) a b h.1 k.1))
 
-of_int_value : (n : ℕ) → n ≤ 256 → HasValue (of_int binary64 (pos n)) false n 1
+of_int_value : (n : ℕ) → n ≤ max_points → HasValue (of_int binary64 (pos n)) false n 1
 unfolding of_int
 of_int_value n h = round_whole binary64 false n (omega arith)
 
@@ -79,10 +79,10 @@ between x low high = rw (not-true (is_nan x) (is_true (not (is_nan x)) (le_left 
 
 module _ (count : ℕ) (h : count_fits count ≡ true) where
   two_or_more : 2 ≤ count
-  two_or_more = leb-true 2 count (and_parts (leb 2 count) (leb count 256) h).0
+  two_or_more = leb-true min_points count (and_parts (leb min_points count) (leb count max_points) h).0
 
-  few : count ≤ 256
-  few = leb-true count 256 (and_parts (leb 2 count) (leb count 256) h).1
+  few : count ≤ max_points
+  few = leb-true count max_points (and_parts (leb min_points count) (leb count max_points) h).1
 
   nearest_lem : (i : ℕ) → i < count → parameter_at i count ≡ round binary64 false i (count - 1)
   unfolding parameter_at

@@ -1,14 +1,14 @@
--- Points along an edge curve, request 7 of document 02, as two public calls. p0 to p3 are the four control points, their coordinates already times their weights; L is the list lent for the points.
-use Rattle.std.specs.Prelude.{ℕ, ◌-◌, ◌≡◌, List, [], ◌∷◌, flat_map, length, pos, Float, Result, Ok, Err}
+-- Points along the curve of an edge, as two public calls. p0 to p3 are the four control points, their coordinates already times their weights; L is the list lent for the points.
+use Rattle.std.specs.Prelude.{ℕ, ◌-◌, ◌≡◌, List, [], ◌∷◌, flat_map, length, pos, Float, Result}
 use Rattle.std.specs.List.{range_with_len}
 use Rattle.std.specs.Float.{binary64}
 use Rattle.std.specs.Float.Ieee.{of_int}
 use Rattle.float.specs.Ops.{◌⊘◌, zero}
 use Rattle.linalg.specs.declared.Vec3.{Vec3}
 use Rattle.linalg.specs.declared.Vec4.{Vec4}
-use Rattle.mesh.specs.Check.{number_of, place_of, answer_of, when_accepted}
-use Rattle.mesh.specs.declared.Refusal.{Refusal}
-use Rattle.interp_tri.specs.Bezier.{cubic_bezier_2_linear, bezier_point, bezier_tangent}
+use Rattle.questions.specs.Check.{number_of, place_of, value_or, answer_of, when_accepted}
+use Rattle.questions.specs.declared.Refusal.{Refusal}
+use Rattle.curve.specs.InterpTri.Bezier.{cubic_bezier_2_linear, bezier_point, bezier_tangent}
 use Rattle.curve.specs.Questions.{check_parameter, check_points}
 use Rattle.curve.specs.declared.CurvePoint.{CurvePoint}
 
@@ -35,12 +35,10 @@ abbrev pub zero_vector : Vec3
 zero_vector = record { x = zero; y = zero; z = zero }
 
 abbrev pub position_of : Point → Vec3
-position_of (Ok point) = point.position
-position_of (Err refusal) = zero_vector
+position_of = value_or zero_vector (λ (point : CurvePoint). point.position)
 
 abbrev pub direction_of : Point → Vec3
-direction_of (Ok point) = point.direction
-direction_of (Err refusal) = zero_vector
+direction_of = value_or zero_vector (λ (point : CurvePoint). point.direction)
 
 -- what the definitions give of the answer `r`
 pub record Values (p0 p1 p2 p3 : Vec4) (x : Float) (r : Point) : Type 0 where

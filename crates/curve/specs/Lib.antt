@@ -2,3 +2,4 @@
 pub mod Questions
 pub mod Curve
 pub mod Parameters
+pub mod InterpTri

@@ -1,15 +1,22 @@
-// Points along the curve of an edge, request 7 of document 02: position and direction at one parameter, and a list of points. A curve
-// is four control points, as `cubic_bezier_2_linear` takes them.
+// Points along the curve of an edge: position and direction at one parameter, and a list of points. A curve is four control points, as
+// `cubic_bezier_2_linear` takes them.
 #![tactic(auto)]
 
+mod interp_tri;
+
 ghost use Rattle.std.specs.Prelude.{◌≡◌, ◌*◌, ◌<◌, ◌≤◌, true, length, OnOk};
-ghost use Rattle.mesh.specs.Check.{Values as Checks};
-ghost use Rattle.curve.specs.Questions.{is_parameter, count_fits, check_points};
+ghost use Rattle.questions.specs.Check.{Values as Checks};
+ghost use Rattle.curve.specs.Questions.{is_parameter, max_points, count_fits, check_points};
 ghost use Rattle.curve.specs.Curve.{position_at, curve_at, position_of, direction_of, Values, parameter_at, points_of, points_after};
 ghost use Rattle.curve.specs.Parameters.{ParametersFit, PointsAnswered, SamePoints};
 
 use linalg::{Vec3, Vec4};
-use mesh::{Question, Refusal};
+use questions::{Question, Refusal};
+
+// The fewest and the most points of a list (question 41).
+const MIN_POINTS: usize = 2;
+
+const MAX_POINTS: usize = 256;
 
 // Where a point of a curve is, and the direction of the curve there: of length 1 up to rounding, or zero where the length that is worked
 // out is below 1e-30. Its square can overflow, as with control points 1e200 apart: then the direction is zero though the curve has one.
@@ -47,10 +54,9 @@ pub fn curve_at(p0: Vec4, p1: Vec4, p2: Vec4, p3: Vec4, x: f64) -> Result<CurveP
     ensures answer { result ≡ curve_at p0 p1 p2 p3 x }
     ensures values { Values p0 p1 p2 p3 x result }
 {
-    let checked = mesh::ask_at(Question::Parameter, 0, is_parameter(x));
-    // Document 01's form by place: the check's answer is opened by `let .. else`.
+    let checked = questions::ask_at(Question::Parameter, 0, is_parameter(x));
     let Ok(()) = checked else {
-        return mesh::refused(checked);
+        return questions::refused(checked);
     };
     let points = interp_tri::cubic_bezier_2_linear(p0, p1, p2, p3, x);
     Ok(CurvePoint {
@@ -69,7 +75,7 @@ fn position_at(p0: Vec4, p1: Vec4, p2: Vec4, p3: Vec4, x: f64) -> Vec3
 // The parameter of point i of so many.
 #[tactic(auto, unfolding(crate::specs::Curve::parameter_at))]
 fn parameter_at(i: usize, count: usize) -> f64
-    requires { (i < count) × (count ≤ 256) }
+    requires { (i < count) × (count ≤ max_points) }
     ensures { result ≡ parameter_at i count }
 {
     i as f64 / (count - 1) as f64
@@ -77,7 +83,7 @@ fn parameter_at(i: usize, count: usize) -> f64
 
 // All points of a list that is known to have their room.
 fn fill_points(p0: Vec4, p1: Vec4, p2: Vec4, p3: Vec4, count: usize, points: &mut [f64])
-    requires { (count ≤ 256) × (length points.old ≡ count * 3) }
+    requires { (count ≤ max_points) × (length points.old ≡ count * 3) }
     ensures { points.new ≡ points_of p0 p1 p2 p3 count }
 {
     for i in 0..count {
@@ -90,8 +96,16 @@ fn fill_points(p0: Vec4, p1: Vec4, p2: Vec4, p3: Vec4, count: usize, points: &mu
 fn check_points(count: usize, room: usize) -> Result<(), Refusal>
     ensures { result ≡ check_points count room }
 {
-    mesh::ask_at(Question::CurveCount, 0, (count >= 2) & (count <= 256))?;
-    mesh::ask_at(Question::CurveRoom, 0, mesh::has_length(room, count, 3))
+    questions::ask_at(
+        Question::CurveCount,
+        0,
+        (count >= MIN_POINTS) & (count <= MAX_POINTS),
+    )?;
+    questions::ask_at(
+        Question::CurveRoom,
+        0,
+        questions::has_length(room, count, 3),
+    )
 }
 
 // Fills the list with 2 to 256 points, three numbers each: point i at parameter i/(count - 1).

@@ -6,7 +6,7 @@ use native.Mathlib.Omega.{arith}
 use lib.ListN.{length}
 use Rattle.mesh.specs.Mesh.{start_vert, paired_halfedge, next_halfedge, prev_halfedge, Halfedges}
 use Rattle.mesh.specs.Sound.{Sound}
-use Rattle.mesh.proofs.Accepted.{accepted}
+use Rattle.questions.proofs.Accepted.{accepted}
 use Rattle.mesh.proofs.Halfedges as Halfedges
 use Rattle.cycles.specs.Count.{count, ◌∈◌}
 use Rattle.cycles.specs.Walk.{iter, cycle_of, Reaches}

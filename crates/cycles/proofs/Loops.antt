@@ -1,5 +1,5 @@
 -- Loops of code over a walk: what holds of the place that a walk has come to, one step at a time. `Walking` is the invariant, `steps_left` the measure.
---   loop { current = step(current); act(current); if stop(current) { break current; } }    `walking_..`; proofs/Loops.antt of `distribute_spread` has what its loops carry
+--   loop { current = step(current); act(current); if stop(current) { break current; } }    `walking_..`; crates/distribute/proofs/SpreadLaws/Loops.antt has what its loops carry
 --   loop { act(current); current = step(current); if current == start { break; } }         `around_..`; the state of a fold over `cycle_from` is carried as
 --                                                                                          "what is left of the fold gives the whole"
 use mathlib.Core.Path.{◌≡◌, refl, sym, ap, ◌∙◌, subst}

@@ -1,7 +1,7 @@
--- Vertex cycles (document 01's rounds): the halfedges that leave one point, reached one from the other by going to the pair and then to the next in that triangle.
+-- Vertex cycles: the halfedges that leave one point, reached one from the other by going to the pair and then to the next in that triangle.
 use Rattle.std.specs.Prelude.{ℕ, ◌≤◌, ◌<◌, ◌≡◌, Bool, List, length, Ok}
 use Rattle.mesh.specs.Mesh.{start_vert, paired_halfedge, next_halfedge, prev_halfedge, Halfedges}
-use Rattle.mesh.specs.Check.{check_mesh}
+use Rattle.questions.specs.Check.{check_mesh}
 use Rattle.cycles.specs.Count.{count, ◌∈◌}
 use Rattle.cycles.specs.Walk.{cycle_of}
 use Rattle.cycles.specs.Orbits.{Orbits}
@@ -13,7 +13,7 @@ next_around H e = next_halfedge (paired_halfedge H e)
 unfoldable pub prev_around : Halfedges → ℕ → ℕ
 prev_around H e = paired_halfedge H (prev_halfedge e)
 
--- `collect_vertex_cycle` over n halfedges: the vertex cycle of e (document 01's round), e first. Question 4 rules out the Rust's break at a negative pair.
+-- `collect_vertex_cycle` over n halfedges: the vertex cycle of e, e first. Question 4 rules out the Rust's break at a negative pair.
 abbrev pub vertex_cycle : Halfedges → ℕ → ℕ → List ℕ
 vertex_cycle H n e = cycle_of (next_around H) n e
 

@@ -1,4 +1,4 @@
--- The guards never fire, no angle is read past its list, and the unit's own starts are named: what the laws of `distribute_spread` say of the float steps on an accepted mesh.
+-- The guards never fire, no angle is read past its list, and the unit's own starts are named: what the laws of spreading say of the float steps on an accepted mesh.
 use Prim.Native.Nat.{ℕ, zero, suc, ◌+◌, ◌≤◌}
 use native.Mathlib.Omega.{arith}
 use mathlib.Core.Path.{◌≡◌, refl, sym, ap, ◌∙◌}
@@ -12,16 +12,16 @@ use Rattle.mesh.specs.Mesh.{Halfedges}
 use Rattle.cycles.specs.Walk.{cycle_of}
 use Rattle.cycles.proofs.Orbits.{cycle_back, cycle_within, cycle_some}
 use Rattle.cycles.proofs.Around.{next_permutes}
-use Rattle.distribute_spread.specs.Spread.{State, marked, turn_at}
-use Rattle.distribute_spread.specs.Order.{AngleCount}
-use Rattle.distribute_spread.proofs.Sublists.{sublist_length}
-use Rattle.distribute_spread.proofs.Turns.{turn_all}
-use Rattle.distribute_spread.proofs.Places.{gather_places, turn_places, turns_gathers}
-use Rattle.distribute_spread.proofs.Walks.{second_is}
-use Rattle.distribute_spread.proofs.Own.{own_starts}
-use Rattle.distribute_spread.proofs.Guards.{unguarded, angles_suffice, angles_gathered}
-use Rattle.distribute_steps.specs.FloatSteps.{Plan, begin, gather_edge, plan, clamp_angle, clamped_angle, next, float_steps}
-use Rattle.distribute_walks.proofs.Lawful.{lawful, angle_count, angles_counted}
+use Rattle.distribute.specs.Spread.Spread.{State, marked, turn_at}
+use Rattle.distribute.specs.Spread.Order.{AngleCount}
+use Rattle.distribute.proofs.SpreadLaws.Sublists.{sublist_length}
+use Rattle.distribute.proofs.SpreadLaws.Turns.{turn_all}
+use Rattle.distribute.proofs.SpreadLaws.Places.{gather_places, turn_places, turns_gathers}
+use Rattle.distribute.proofs.SpreadLaws.Walks.{second_is}
+use Rattle.distribute.proofs.SpreadLaws.Own.{own_starts}
+use Rattle.distribute.proofs.SpreadLaws.Guards.{unguarded, angles_suffice, angles_gathered}
+use Rattle.distribute.specs.Steps.FloatSteps.{Plan, begin, gather_edge, plan, clamp_angle, clamped_angle, next, float_steps}
+use Rattle.distribute.proofs.WalksLaws.Lawful.{lawful, angle_count, angles_counted}
 use Rattle.distribute.specs.Claims.{GuardsNeverFire, plan_at, plan_from, AnglesInLists, NextInList, OwnStartsNamed}
 use Rattle.distribute.proofs.Accepted.{lists_of}
 

@@ -4,3 +4,7 @@ pub mod Values
 pub mod Accepted
 pub mod Order
 pub mod Claims
+pub mod SpreadLaws
+pub mod StepsLaws
+pub mod WalksLaws
+pub mod PreviewLaws

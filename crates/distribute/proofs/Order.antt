@@ -1,14 +1,14 @@
--- Demand 3 of the call, from what it answers and leaves.
+-- The order rule of the call, from what it answers and leaves.
 use mathlib.Core.List.{List}
 use Prim.Native.Nat.{ℕ}
 use lib.Ieee.{Float}
 use Rattle.std.specs.Prelude.{Ok}
 use Rattle.mesh.specs.Mesh.{Halfedges}
-use Rattle.distribute_spread.proofs.Order.{order_free}
-use Rattle.distribute_steps.specs.FloatSteps.{float_steps}
-use Rattle.distribute_walks.specs.declared.Counts.{Counts}
+use Rattle.distribute.proofs.SpreadLaws.Order.{order_free}
+use Rattle.distribute.specs.Steps.FloatSteps.{float_steps}
+use Rattle.distribute.specs.declared.walks.Counts.{Counts}
 use Rattle.distribute.specs.Distribute.{spread_tangents, Reports, AnyOrder}
-use Rattle.distribute_walks.proofs.Lawful.{lawful}
+use Rattle.distribute.proofs.WalksLaws.Lawful.{lawful}
 use Rattle.distribute.proofs.Accepted.{lists_of}
 
 module _ (H : Halfedges) (P N : List Float) (F : List ℕ) (T C D : List Float) (n p : ℕ) where

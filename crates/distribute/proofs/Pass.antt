@@ -3,11 +3,11 @@ use mathlib.Core.Path.{ap}
 use mathlib.Core.List.{List, []}
 use Prim.Native.Nat.{ℕ, ◌+◌, ◌≤◌, ◌<◌}
 use native.Mathlib.Numerals.{add-one}
-use Rattle.distribute_spread.specs.Steps.{Steps}
-use Rattle.distribute_spread.specs.Spread.{State, spread_at, pass}
-use Rattle.distribute_spread.proofs.Branches.{PassLeft, left_all, left_next, left_none}
-use Rattle.distribute_walks.specs.Walks.{state_of, Gives}
-use Rattle.distribute_walks.specs.declared.Counts.{Counts}
+use Rattle.distribute.specs.Spread.Steps.{Steps}
+use Rattle.distribute.specs.Spread.Spread.{State, spread_at, pass}
+use Rattle.distribute.proofs.SpreadLaws.Branches.{PassLeft, left_all, left_next, left_none}
+use Rattle.distribute.specs.Walks.Walks.{state_of, Gives}
+use Rattle.distribute.specs.declared.walks.Counts.{Counts}
 use Rattle.distribute.specs.Distribute.{Reports}
 
 -- before the turn s

@@ -7,11 +7,11 @@ use Rattle.common.specs.Fold.{fold_to}
 use Rattle.mesh.specs.Mesh.{Halfedges}
 use Rattle.std.specs.Prelude.{Ok}
 use Rattle.cycles.specs.Walk.{iter}
-use Rattle.distribute_spread.specs.Steps.{Steps}
-use Rattle.distribute_spread.specs.Spread.{State, turn_at, second_walk}
-use Rattle.distribute_spread.specs.Order.{OwnStarts, FixedUnmarked, Unguarded, AnglesSuffice}
-use Rattle.distribute_steps.specs.FloatSteps.{Plan, last_or, plan, clamp_angle, desired_angle, next, float_steps}
-use Rattle.distribute_walks.specs.Walks.{first_from}
+use Rattle.distribute.specs.Spread.Steps.{Steps}
+use Rattle.distribute.specs.Spread.Spread.{State, turn_at, second_walk}
+use Rattle.distribute.specs.Spread.Order.{OwnStarts, FixedUnmarked, Unguarded, AnglesSuffice}
+use Rattle.distribute.specs.Steps.FloatSteps.{Plan, last_or, plan, clamp_angle, desired_angle, next, float_steps}
+use Rattle.distribute.specs.Walks.Walks.{first_from}
 use Rattle.distribute.specs.Distribute.{check_lists}
 
 -- Both walks go from `start` on an accepted mesh: it is fixed, and unmarked in the tangents T' that the starts before it left. T' may be any list with four numbers for each halfedge.

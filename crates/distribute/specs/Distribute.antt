@@ -1,17 +1,17 @@
--- Spreading as a public call: `distribute_tangents` of src/smoothing_tangents.rs, with document 01's two counts and its questions. H are the halfedges, P the positions, N the point normals, X the flags, T the tangents, C and D the scratch lists, n and p the counts of halfedges and points.
-use Rattle.std.specs.Prelude.{ℕ, ◌≡◌, List, Bool, ◌&&◌, length, replicate, Float, Result, Ok, Err}
+-- Spreading as a public call: `distribute_tangents` of src/smoothing_tangents.rs, with its two counts and its questions. H are the halfedges, P the positions, N the point normals, X the flags, T the tangents, C and D the scratch lists, n and p the counts of halfedges and points.
+use Rattle.std.specs.Prelude.{ℕ, ◌≡◌, List, Bool, ◌&&◌, length, replicate, Float, Result, Ok}
 use Rattle.float.specs.Ops.{zero}
-use Rattle.mesh.specs.Mesh.{halfedge_stride, Halfedges}
-use Rattle.mesh.specs.Questions.{has_length}
-use Rattle.mesh.specs.Check.{Checked, number_of, place_of, check_mesh, check_flags, answer_of, when_accepted}
-use Rattle.mesh.specs.declared.Refusal.{Refusal}
-use Rattle.distribute_spread.specs.Steps.{Steps}
-use Rattle.distribute_spread.specs.Spread.{State, pass}
-use Rattle.distribute_spread.specs.Order.{NamesFixed, OrderFree}
-use Rattle.distribute_steps.specs.FloatSteps.{float_steps}
-use Rattle.distribute_walks.specs.declared.Counts.{Counts}
+use Rattle.mesh.specs.Mesh.{Halfedges}
+use Rattle.questions.specs.Questions.{has_length, points_fit}
+use Rattle.questions.specs.Check.{Checked, number_of, place_of, value_or, check_mesh, check_flags, answer_of, when_accepted}
+use Rattle.questions.specs.declared.Refusal.{Refusal}
+use Rattle.distribute.specs.Spread.Steps.{Steps}
+use Rattle.distribute.specs.Spread.Spread.{State, pass}
+use Rattle.distribute.specs.Spread.Order.{NamesFixed, OrderFree}
+use Rattle.distribute.specs.Steps.FloatSteps.{float_steps}
+use Rattle.distribute.specs.declared.walks.Counts.{Counts}
 
--- ---- document 01's values of an answer
+-- ---- the values of an answer
 
 -- the two counts, or the refusal
 abbrev pub Spreading : Type 0
@@ -19,28 +19,25 @@ Spreading = Result Counts Refusal
 
 -- looked and turned; 0 for a refusal, which looks at nothing
 abbrev pub looked_of : Spreading → ℕ
-looked_of (Ok counts) = counts.looked
-looked_of (Err refusal) = 0
+looked_of = value_or 0 (λ (counts : Counts). counts.looked)
 
 abbrev pub turned_of : Spreading → ℕ
-turned_of (Ok counts) = counts.turned
-turned_of (Err refusal) = 0
+turned_of = value_or 0 (λ (counts : Counts). counts.turned)
 
 -- ---- the questions
 
 -- question 2 of the lists that spreading and its preview read or turn
 abbrev pub lists_fit : Halfedges → List Float → List Float → List ℕ → List Float → ℕ → ℕ → Bool
 lists_fit H P N X T n p =
-    has_length H.numbers n halfedge_stride && has_length (length P) p 3 && has_length (length N) p 3 && has_length (length X) n 1
-    && has_length (length T) n 4
+    points_fit H.numbers (length P) (length N) n p && has_length (length X) n 1 && has_length (length T) n 4
 
--- question 2 of the lists that the call is lent
-abbrev pub lengths_fit : Halfedges → List Float → List Float → List ℕ → List Float → List Float → List Float → ℕ → ℕ → Bool
-lengths_fit H P N X T C D n p = lists_fit H P N X T n p && has_length (length C) n 1 && has_length (length D) n 1
+-- questions 1 to 7 and 11; `others` says whether question 2 passes the lists that only the one of them is lent
+abbrev pub check_with : Halfedges → List Float → List Float → List ℕ → List Float → Bool → ℕ → ℕ → Checked
+check_with H P N X T others n p = check_flags (check_mesh H n p (lists_fit H P N X T n p && others)) X n
 
--- questions 1 to 7 and 11
+-- of spreading, with its scratch lists
 unfoldable pub check_lists : Halfedges → List Float → List Float → List ℕ → List Float → List Float → List Float → ℕ → ℕ → Checked
-check_lists H P N X T C D n p = check_flags (check_mesh H n p (lengths_fit H P N X T C D n p)) X n
+check_lists H P N X T C D n p = check_with H P N X T (has_length (length C) n 1 && has_length (length D) n 1) n p
 
 -- ---- the call
 
@@ -71,7 +68,7 @@ tangents_after H P N X T C D n p = when_accepted (check_lists H P N X T C D n p)
 abbrev pub scratch_after : Checked → List Float → ℕ → List Float
 scratch_after checked lent n = when_accepted checked (replicate n zero) lent
 
--- Demand 3 of an accepted call that found the tangents T and left them as `after`, and answered r: for every list of starts that names each fixed halfedge once.
+-- The order rule of an accepted call that found the tangents T and left them as `after`, and answered r: for every list of starts that names each fixed halfedge once.
 abbrev pub AnyOrder : Halfedges → List Float → List Float → List ℕ → List Float → List Float → List Float → ℕ → ℕ → List Float → Spreading → Type 0
 AnyOrder H P N X T C D n p after r =
     check_lists H P N X T C D n p ≡ Ok tt → (starts : List ℕ) → NamesFixed (float_steps H P N X n) starts

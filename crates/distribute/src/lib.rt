@@ -1,20 +1,26 @@
-// `distribute_tangents` of src/smoothing_tangents.rs (document 01's spreading) as a public call, with its two counts. The
-// float steps are the crate `distribute_steps`, the walks `distribute_walks`, and the theorem of demand 3 is in `distribute_spread`.
+// Spreading: `distribute_tangents` of src/smoothing_tangents.rs as a public call, with its two counts. The float steps are in `steps`,
+// the walks in `walks`, the loop over the starts in `inner`. specs/Spread defines it over any float steps, and specs/Spread/Order.antt
+// states that it does not depend on the order of its starts.
 #![tactic(auto)]
 
-ghost use Rattle.std.specs.Prelude.{◌≡◌, length, replicate};
-ghost use Rattle.float.specs.Ops.{zero};
+pub mod inner;
+pub mod preview;
+mod steps;
+mod walks;
+
+ghost use Rattle.std.specs.Prelude.{◌≡◌, ℕ, List, Float};
 ghost use Rattle.mesh.specs.Mesh.{as_halfedges};
-ghost use Rattle.distribute_steps.specs.FloatSteps.{float_steps};
-ghost use Rattle.distribute_walks.specs.Walks.{Written, steps_of};
-ghost use Rattle.distribute.specs.Distribute.{looked_of, turned_of, lists_fit, lengths_fit, check_lists, spread_tangents, Reports, distribute_tangents, tangents_after, scratch_after, AnyOrder, Values};
+ghost use Rattle.mesh.specs.Rows.{RowsUnread};
+ghost use Rattle.distribute.specs.Steps.FloatSteps.{float_steps};
+ghost use Rattle.distribute.specs.Distribute.{looked_of, turned_of, check_with, check_lists, spread_tangents, distribute_tangents, tangents_after, scratch_after, AnyOrder, Values};
 ghost use Rattle.distribute.specs.Claims.{GuardsNeverFire, AnglesInLists, OwnStartsNamed};
 
-pub use distribute_walks::{Counts, SpreadLists};
-use mesh::Refusal;
+use inner::SpreadLists;
+use questions::Refusal;
+pub use walks::Counts;
 
-// How many steps were looked at; 0 where the call is refused. Here and below there is one function for each value of an answer, as
-// document 01 names each.
+// How many steps were looked at; 0 where the call is refused. Here and below there is one function for each value of an
+// answer.
 pub fn looked_of(spreading: Result<Counts, Refusal>) -> usize
     ensures { result ≡ looked_of spreading }
 {
@@ -28,36 +34,10 @@ pub fn turned_of(spreading: Result<Counts, Refusal>) -> usize
     spreading.map_or(0, |counts| counts.turned)
 }
 
-// Spreading of an accepted mesh: the loop over its halfedges, and then zeros in both scratch lists. The lists written are
-// parameters: with a struct that lends them each clause would read `lists.new.t.now` and state what they are lent as, too.
-#[tactic(auto, using(crate::proofs::Pass::pass_begin, crate::proofs::Pass::pass_next))]
-pub fn spread_tangents(
-    lists: &SpreadLists,
-    t: &mut [f64],
-    current: &mut [f64],
-    desired: &mut [f64],
-) -> Counts
-    requires { Written lists.now t.old current.old desired.old }
-    ensures report { Reports (steps_of lists.now) (spread_tangents (as_halfedges lists.now.h.now) lists.now.pos.now lists.now.normals.now lists.now.fixed.now t.old lists.now.n) t.new result }
-    ensures current { current.new ≡ replicate lists.now.n zero }
-    ensures desired { desired.new ≡ replicate lists.now.n zero }
-{
-    let mut counts = Counts {
-        looked: 0,
-        turned: 0,
-    };
-    for start in 0..lists.n {
-        counts = distribute_walks::spread_at(lists, t, current, desired, start, counts);
-    }
-    current.fill(0.0);
-    desired.fill(0.0);
-    counts
-}
-
-// Question 2 of the lists that spreading and its preview read or turn. No struct, here or in the other questions: what its
-// invariant would say is what they ask.
+// The questions 1 to 7 and 11 of spreading and of its preview; `others` says whether question 2 passes the lists that only the one of
+// them is lent. No struct of the lists: what its invariant would say is what is asked.
 #[tactic(auto, unfolding(mesh::specs::Mesh::as_halfedges))]
-pub fn lists_fit(
+fn check_with(
     n: usize,
     p: usize,
     h: &[i32],
@@ -65,58 +45,23 @@ pub fn lists_fit(
     normals: &[f64],
     fixed: &[u8],
     t: &[f64],
-) -> bool
-    ensures { result ≡ lists_fit (as_halfedges h.now) pos.now normals.now fixed.now t.now n p }
-{
-    let points = mesh::has_length(h.len(), n, mesh::HALFEDGE_STRIDE)
-        & mesh::has_length(pos.len(), p, 3)
-        & mesh::has_length(normals.len(), p, 3);
-    points & mesh::has_length(fixed.len(), n, 1) & mesh::has_length(t.len(), n, 4)
-}
-
-// Question 2 of the lists that the call is lent.
-fn lengths_fit(
-    n: usize,
-    p: usize,
-    h: &[i32],
-    pos: &[f64],
-    normals: &[f64],
-    fixed: &[u8],
-    t: &[f64],
-    current: &[f64],
-    desired: &[f64],
-) -> bool
-    ensures { result ≡ lengths_fit (as_halfedges h.now) pos.now normals.now fixed.now t.now current.now desired.now n p }
-{
-    let lists = lists_fit(n, p, h, pos, normals, fixed, t);
-    lists & mesh::has_length(current.len(), n, 1) & mesh::has_length(desired.len(), n, 1)
-}
-
-// The questions 1 to 7 and 11.
-#[tactic(auto, unfolding(crate::specs::Distribute::check_lists))]
-fn check_lists(
-    n: usize,
-    p: usize,
-    h: &[i32],
-    pos: &[f64],
-    normals: &[f64],
-    fixed: &[u8],
-    t: &[f64],
-    current: &[f64],
-    desired: &[f64],
+    others: bool,
 ) -> Result<(), Refusal>
-    ensures { result ≡ check_lists (as_halfedges h.now) pos.now normals.now fixed.now t.now current.now desired.now n p }
+    ensures { result ≡ check_with (as_halfedges h.now) pos.now normals.now fixed.now t.now others n p }
 {
-    let lengths = lengths_fit(n, p, h, pos, normals, fixed, t, current, desired);
-    let checked = mesh::check_mesh(h, n, p, lengths);
-    mesh::check_flags(checked, fixed, n)
+    let points = questions::points_fit(n, p, h.len(), pos.len(), normals.len());
+    let lists = points
+        & questions::has_length(fixed.len(), n, 1)
+        & questions::has_length(t.len(), n, 4);
+    let checked = questions::check_mesh(h, n, p, lists & others);
+    questions::check_flags(checked, fixed, n)
 }
 
 // Spreading, for lists of any length and content. `pos` and `normals` have three numbers for each point, `fixed` a flag
 // for each halfedge, and the scratch lists `current` and `desired` (the Rust's `current_angle` and `desired_angle`) a
 // place for each halfedge.
 // The signature stays flat, as the C interface lends: counts, lists read, lists written, scratch.
-#[tactic(auto, using(crate::proofs::Accepted::lists_of, crate::proofs::Values::values_of))]
+#[tactic(auto, using(crate::proofs::Accepted::lists_of, crate::proofs::Values::values_of), unfolding(crate::specs::Distribute::check_lists))]
 pub fn distribute_tangents(
     n: usize,
     p: usize,
@@ -137,10 +82,11 @@ pub fn distribute_tangents(
     ensures angles { AnglesInLists (as_halfedges h.now) pos.now normals.now fixed.now t.old current.old desired.old n p }
     ensures values { Values (check_lists (as_halfedges h.now) pos.now normals.now fixed.now t.old current.old desired.old n p) (float_steps (as_halfedges h.now) pos.now normals.now fixed.now n) (spread_tangents (as_halfedges h.now) pos.now normals.now fixed.now t.old n) result }
 {
-    let checked = check_lists(n, p, h, pos, normals, fixed, t, current, desired);
-    // Document 01's form by place: the check's answer is opened by `let .. else`.
+    let scratch = questions::has_length(current.len(), n, 1)
+        & questions::has_length(desired.len(), n, 1);
+    let checked = check_with(n, p, h, pos, normals, fixed, t, scratch);
     let Ok(()) = checked else {
-        return mesh::refused(checked);
+        return questions::refused(checked);
     };
     let lists = SpreadLists {
         n,
@@ -150,7 +96,7 @@ pub fn distribute_tangents(
         normals,
         fixed,
     };
-    let counts = spread_tangents(&lists, t, current, desired);
+    let counts = inner::spread_tangents(&lists, t, current, desired);
     Ok(counts)
 }
 
@@ -158,4 +104,12 @@ pub fn distribute_tangents(
 // `order` speak (specs/Claims.antt, `OwnStartsNamed`).
 pub fn own_starts_hold()
     ensures { OwnStartsNamed }
+{}
+
+// Law: the call carries the rows of the halfedges unread (`RowsUnread`, crates/mesh/specs/Rows.antt).
+#[tactic(auto, using(mesh::proofs::Rows::rows_unread))]
+pub fn rows_unread()
+    ensures questions { (P N : List Float) (X : List ℕ) (T C D : List Float) (n p : ℕ) → RowsUnread (λ H. check_lists H P N X T C D n p) }
+    ensures answer { (P N : List Float) (X : List ℕ) (T C D : List Float) (n p : ℕ) → RowsUnread (λ H. distribute_tangents H P N X T C D n p) }
+    ensures tangents { (P N : List Float) (X : List ℕ) (T C D : List Float) (n p : ℕ) → RowsUnread (λ H. tangents_after H P N X T C D n p) }
 {}

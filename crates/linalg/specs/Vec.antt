@@ -1,7 +1,7 @@
 -- The vectors and quaternions of src/linalg.rs: each definition is the Rust's, one rounded operation at a time.
-use Rattle.std.specs.Prelude.{Float}
-use Rattle.std.specs.Float.Ieee.{neg}
-use Rattle.float.specs.Ops.{◌⊕◌, ◌⊖◌, ◌⊗◌, ◌⊘◌, two}
+use Rattle.std.specs.Prelude.{Bool, ◌&&◌, Float}
+use Rattle.std.specs.Float.Ieee.{neg, eq}
+use Rattle.float.specs.Ops.{◌⊕◌, ◌⊖◌, ◌⊗◌, ◌⊘◌, zero, two}
 use Rattle.sqrt.specs.Sqrt.{sqrt_of}
 use Rattle.math.specs.Trig.{sin_of, cos_of}
 use Rattle.linalg.specs.declared.Vec3.{Vec3}
@@ -22,6 +22,10 @@ scale3 a s = record { x = a.x ⊗ s; y = a.y ⊗ s; z = a.z ⊗ s }
 
 unfoldable pub div3 : Vec3 → Float → Vec3
 div3 a s = record { x = a.x ⊘ s; y = a.y ⊘ s; z = a.z ⊘ s }
+
+-- `== Vec3::new(0.0, 0.0, 0.0)`: each number is a zero of either sign, and none is not-a-number
+unfoldable pub is_zero : Vec3 → Bool
+is_zero a = eq a.x zero && eq a.y zero && eq a.z zero
 
 -- `dot`
 unfoldable pub dot_of : Vec3 → Vec3 → Float

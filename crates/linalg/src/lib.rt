@@ -3,7 +3,7 @@
 #![tactic(auto)]
 
 ghost use Rattle.std.specs.Prelude.{◌≡◌};
-ghost use Rattle.linalg.specs.Vec.{add3, sub3, neg3, scale3, div3, dot_of, cross_of, qxdir_of, qydir_of, qzdir_of, qrot_of, length2_of, length_of, normalize_of, rotation_quat_axis_angle};
+ghost use Rattle.linalg.specs.Vec.{add3, sub3, neg3, scale3, div3, is_zero, dot_of, cross_of, qxdir_of, qydir_of, qzdir_of, qrot_of, length2_of, length_of, normalize_of, rotation_quat_axis_angle};
 
 use std::ops::{Add, Div, Mul, Neg, Sub};
 
@@ -107,6 +107,14 @@ impl Div<f64> for Vec3 {
             z: self.z / s,
         }
     }
+}
+
+// Is each number zero, of either sign?
+#[tactic(auto, unfolding(crate::specs::Vec::is_zero))]
+pub fn is_zero(a: Vec3) -> bool
+    ensures { result ≡ is_zero a }
+{
+    (a.x == 0.0) & (a.y == 0.0) & (a.z == 0.0)
 }
 
 #[tactic(auto, unfolding(crate::specs::Vec::dot_of))]

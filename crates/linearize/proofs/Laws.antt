@@ -1,7 +1,5 @@
--- Laws of straightening: an end that is not flat is left alone, and the lists of an accepted call are right. Assumes nothing.
+-- Laws of straightening: an end that is not flat is left alone.
 use Prim.Native.Nat.{ℕ}
-use native.Mathlib.Omega.{arith}
-use Rattle.std.proofs.lemmas.Grind.{common_steps}
 use mathlib.Core.Path.{◌≡◌}
 use mathlib.Core.List.{List}
 use mathlib.Core.Bool.{false}
@@ -9,10 +7,7 @@ use lib.Ieee.{Float}
 use Rattle.linalg.specs.declared.Vec3.{Vec3}
 use Rattle.linalg.specs.declared.Vec4.{Vec4}
 use Rattle.linalg.specs.Vec.{neg3}
-use Rattle.mesh.specs.Mesh.{Halfedges}
-use Rattle.std.specs.Prelude.{Ok}
-use Rattle.mesh.proofs.Accepted.{accepted}
-use Rattle.linearize.specs.Linearize.{is_flat, linearize_end, linearize_edge, lengths_fit, linearize_answer, Lists}
+use Rattle.linearize.specs.Linearize.{is_flat, linearize_end, linearize_edge}
 
 -- ---- an end that is not flat is left alone
 
@@ -23,10 +18,3 @@ end_unflat T e edge tangent other q = rw q
 pub other_end : (T : List Float) (e pair : ℕ) (edge : Vec3) (tangent other : Vec4) → is_flat tangent ≡ false → linearize_edge T e pair edge tangent other ≡ linearize_end T pair (neg3 edge) other tangent
 unfolding linearize_edge
 other_end T e pair edge tangent other q = rw (end_unflat T e edge tangent other q)
-
--- ---- the lists of an accepted call
-
-pub accepted_lists : (H : Halfedges) (P T : List Float) (n p : ℕ) → linearize_answer H P T n p ≡ Ok tt → Lists H P T n p
-accepted_lists H P T n p e =
-    let a = accepted H n p (lengths_fit H P T n p) e in
-    record { sound = a.1; whole = grind (arith, common_steps); positions = grind (arith, common_steps); tangents = grind (arith, common_steps) }

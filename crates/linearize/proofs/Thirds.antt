@@ -1,4 +1,4 @@
--- The quotient of a negated vector is the negated quotient: rounding is the same on both sides of zero. Assumes nothing.
+-- The quotient of a negated vector is the negated quotient: rounding is the same on both sides of zero.
 use Prim.Native.Nat.{ℕ}
 use mathlib.Core.Path.{◌≡◌}
 use mathlib.Core.Bool.{true}

@@ -1,4 +1,4 @@
--- `linearize_flat_tangents` of src/smoothing_tangents.rs (document 01's straightening). H are the halfedges, P the positions, T the tangents, n and p the counts of halfedges and points.
+-- `linearize_flat_tangents` of src/smoothing_tangents.rs: straightening. H are the halfedges, P the positions, T the tangents, n and p the counts of halfedges and points.
 use Rattle.std.specs.Prelude.{ℕ, ◌*◌, ◌≡◌, List, Bool, cond, ◌&&◌, length, Float}
 use Rattle.std.specs.Float.Ieee.{eq}
 use Rattle.float.specs.Ops.{zero, one, two, three}
@@ -6,8 +6,8 @@ use Rattle.linalg.specs.declared.Vec3.{Vec3}
 use Rattle.linalg.specs.declared.Vec4.{Vec4}
 use Rattle.linalg.specs.Vec.{add3, neg3, div3}
 use Rattle.mesh.specs.Mesh.{halfedge_stride, paired_halfedge, is_forward, Halfedges}
-use Rattle.mesh.specs.Questions.{has_length}
-use Rattle.mesh.specs.Check.{Checked, check_mesh, when_accepted}
+use Rattle.questions.specs.Questions.{has_length, mesh_fits}
+use Rattle.questions.specs.Check.{Checked, check_mesh, when_accepted}
 use Rattle.common.specs.Fold.{fold_to}
 use Rattle.mesh.specs.Sound.{Sound}
 use Rattle.smoothing.specs.Directions.{vec3_from_vec4, with_weight}
@@ -53,7 +53,7 @@ linearize_flat_tangents H P T n = fold_to (linearize_at H P) T n
 
 -- question 2: 3 numbers per halfedge, 3 per point, 4 per tangent
 abbrev pub lengths_fit : Halfedges → List Float → List Float → ℕ → ℕ → Bool
-lengths_fit H P T n p = has_length H.numbers n halfedge_stride && has_length (length P) p 3 && has_length (length T) n 4
+lengths_fit H P T n p = mesh_fits H.numbers (length P) n p && has_length (length T) n 4
 
 -- the answer, for every input
 abbrev pub linearize_answer : Halfedges → List Float → List Float → ℕ → ℕ → Checked

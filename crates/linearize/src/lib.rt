@@ -1,117 +1,27 @@
-// `linearize_flat_tangents` of src/smoothing_tangents.rs (document 01's straightening): a tangent of weight 0 is made
-// straight, edge by edge.
-// Each function asks for its own place (`e * 4 + 4 ≤ length t`, `HalfedgeIn`): the place differs from call to call, so no struct of
-// the lists can hold it.
+// `linearize_flat_tangents` of src/smoothing_tangents.rs as a public call, for lists of any length and content: a tangent of weight 0 is
+// made straight, edge by edge. The work on lists that are known to be right is in `inner`.
 #![tactic(auto)]
 
-ghost use Rattle.std.specs.Prelude.{◌≡◌, ◌+◌, ◌*◌, ◌≤◌, length};
+pub mod inner;
+
+ghost use Rattle.std.specs.Prelude.{◌≡◌, ℕ, List, Float, length};
 ghost use Rattle.mesh.specs.Mesh.{as_halfedges};
-ghost use Rattle.mesh.specs.Check.{Values};
-ghost use Rattle.linearize.specs.Linearize.{is_flat, with_unit_weight, linearized, linearize_end, linearize_edge, linearize_at, linearize_flat_tangents, lengths_fit, linearize_answer, tangents_after, HalfedgeIn, Lists};
+ghost use Rattle.mesh.specs.Rows.{RowsUnread};
+ghost use Rattle.questions.specs.Check.{Values};
+ghost use Rattle.linearize.specs.Linearize.{lengths_fit, linearize_answer, tangents_after};
 
-use linalg::{Vec3, Vec4};
-use mesh::Refusal;
-
-fn is_flat(tangent: Vec4) -> bool
-    ensures { result ≡ is_flat tangent }
-{
-    tangent.w == 0.0
-}
-
-#[tactic(auto, unfolding(crate::specs::Linearize::with_unit_weight))]
-fn with_unit_weight(v: Vec3) -> Vec4
-    ensures { result ≡ with_unit_weight v }
-{
-    smoothing::with_weight(v, 1.0)
-}
-
-// The new tangent of a flat end, from the edge as it runs from that end and the tangent of the other end.
-#[tactic(auto, unfolding(crate::specs::Linearize::linearized))]
-fn linearized(edge: Vec3, other: Vec4) -> Vec4
-    ensures { result ≡ linearized edge other }
-{
-    if is_flat(other) {
-        return with_unit_weight(edge / 3.0);
-    }
-    with_unit_weight((edge + smoothing::vec3_from_vec4(other)) / 2.0)
-}
-
-// The end at halfedge e, whose tangent is `tangent`. No struct of the edge and the tangents, here or below: the pair's end has
-// them turned round and exchanged, so each end would make one of its own.
-#[tactic(auto, unfolding(crate::specs::Linearize::linearize_end))]
-fn linearize_end(t: &mut [f64], e: usize, edge: Vec3, tangent: Vec4, other: Vec4)
-    requires { e * 4 + 4 ≤ length t.old }
-    ensures { t.new ≡ linearize_end t.old e edge tangent other }
-{
-    if !is_flat(tangent) {
-        return;
-    }
-    smoothing::put_tangent(t, e, linearized(edge, other));
-}
-
-// Both ends of an edge, from the tangents as they were read before. Where both are flat, the third of the edge is worked out once.
-#[tactic(auto, unfolding(crate::specs::Linearize::linearize_edge))]
-fn linearize_edge(t: &mut [f64], e: usize, pair: usize, edge: Vec3, tangent: Vec4, other: Vec4)
-    requires { (e * 4 + 4 ≤ length t.old) × (pair * 4 + 4 ≤ length t.old) }
-    ensures { t.new ≡ linearize_edge t.old e pair edge tangent other }
-{
-    if is_flat(tangent) & is_flat(other) {
-        let third = edge / 3.0;
-        smoothing::put_tangent(t, e, with_unit_weight(third));
-        smoothing::put_tangent(t, pair, with_unit_weight(-third));
-        return;
-    }
-    linearize_end(t, e, edge, tangent, other);
-    linearize_end(t, pair, -edge, other, tangent);
-}
-
-// The body of the loop at halfedge e. The edge is worked out only where an end is flat.
-#[tactic(auto, unfolding(crate::specs::Linearize::linearize_at))]
-fn linearize_at(h: &[i32], pos: &[f64], t: &mut [f64], e: usize)
-    requires { HalfedgeIn (as_halfedges h.now) pos.now t.old e }
-    ensures { t.new ≡ linearize_at (as_halfedges h.now) pos.now t.old e }
-{
-    if !mesh::is_forward(h, e) {
-        return;
-    }
-    let pair = mesh::paired_halfedge(h, e);
-    let tangent = smoothing::tangent_at(t, e);
-    let other = smoothing::tangent_at(t, pair);
-    if is_flat(tangent) {
-        let edge = smoothing::edge_vec(h, pos, e);
-        linearize_edge(t, e, pair, edge, tangent, other);
-        return;
-    }
-    if !is_flat(other) {
-        return;
-    }
-    let edge = smoothing::edge_vec(h, pos, e);
-    linearize_end(t, pair, -edge, other, tangent);
-}
-
-// Every halfedge of lists that are known to be right.
-#[tactic(auto, using(common::proofs::Fold::fold_none, common::proofs::Fold::fold_turn), unfolding(crate::specs::Linearize::linearize_flat_tangents))]
-pub fn linearize_all(n: usize, p: usize, h: &[i32], pos: &[f64], t: &mut [f64])
-    requires { Lists (as_halfedges h.now) pos.now t.old n p }
-    ensures { t.new ≡ linearize_flat_tangents (as_halfedges h.now) pos.now t.old n }
-{
-    for e in 0..n {
-        linearize_at(h, pos, t, e);
-    }
-}
+use questions::Refusal;
 
 #[tactic(auto, unfolding(mesh::specs::Mesh::as_halfedges))]
 fn lengths_fit(n: usize, p: usize, h: &[i32], pos: &[f64], t: &[f64]) -> bool
     ensures { result ≡ lengths_fit (as_halfedges h.now) pos.now t.now n p }
 {
-    mesh::has_length(h.len(), n, mesh::HALFEDGE_STRIDE)
-        & mesh::has_length(pos.len(), p, 3)
-        & mesh::has_length(t.len(), n, 4)
+    questions::mesh_fits(n, p, h.len(), pos.len()) & questions::has_length(t.len(), n, 4)
 }
 
-// The public call, for lists of any length and content.
+// The call, for lists of any length and content.
 // The signature stays flat, as the C interface lends: counts, lists read, lists written, scratch.
-#[tactic(auto, using(crate::proofs::Laws::accepted_lists))]
+#[tactic(auto, using(questions::proofs::Accepted::accepted))]
 pub fn linearize_flat_tangents(
     n: usize,
     p: usize,
@@ -123,11 +33,17 @@ pub fn linearize_flat_tangents(
     ensures tangents { t.new ≡ tangents_after (as_halfedges h.now) pos.now t.old n p }
     ensures values { Values (linearize_answer (as_halfedges h.now) pos.now t.old n p) result }
 {
-    let checked = mesh::check_mesh(h, n, p, lengths_fit(n, p, h, pos, t));
-    // Document 01's form by place: the check's answer is opened by `let .. else`.
+    let checked = questions::check_mesh(h, n, p, lengths_fit(n, p, h, pos, t));
     let Ok(()) = checked else {
         return checked;
     };
-    linearize_all(n, p, h, pos, t);
+    inner::linearize_all(n, p, h, pos, t);
     checked
 }
+
+// Law: the call carries the rows of the halfedges unread (`RowsUnread`, crates/mesh/specs/Rows.antt).
+#[tactic(auto, using(mesh::proofs::Rows::rows_unread))]
+pub fn rows_unread()
+    ensures answer { (P T : List Float) (n p : ℕ) → RowsUnread (λ H. linearize_answer H P T n p) }
+    ensures tangents { (P T : List Float) (n p : ℕ) → RowsUnread (λ H. tangents_after H P T n p) }
+{}

@@ -7,7 +7,7 @@ use mathlib.Core.List.{List}
 use lib.ListN.{length, get_or-eq_default}
 use lib.IntN.{ℤ, pos}
 use Rattle.mesh.specs.Mesh.{halfedge_stride, number_at, index_of, field, Halfedges, as_halfedges}
-use Rattle.mesh.specs.Rows.{SameButRows}
+use Rattle.mesh.specs.Rows.{SameButRows, RowsUnread}
 
 -- past the last halfedge each number is 0
 past : (list : List ℤ) (n e k : ℕ) → length list ≡ n * halfedge_stride → n ≤ e → number_at list e halfedge_stride k ≡ pos 0
@@ -37,3 +37,7 @@ same_halfedges list other n s =
     let end = field_same s 1 (omega arith) in
     let pair = field_same s 2 (omega arith) in
     λ i. halfedges (numbers i) (start i) (end i) (pair i)
+
+pub rows_unread : {X : Type 0} (f : Halfedges → X) → RowsUnread f
+unfolding RowsUnread
+rows_unread f list other n s = ap f (same_halfedges list other n s)

@@ -1,19 +1,20 @@
 -- The mesh as flat lists: the halfedges (start, end, pair and row of each), three after each other a triangle, and the face references (mesh, coplanar and face number of each triangle).
 use Rattle.std.specs.Prelude.{ℕ, ◌+◌, ◌*◌, ◌-◌, ◌%◌, List, Bool, false, cond, ◌&&◌, length, get_or, ℤ, pos, negsuc, eqb, ltb}
+use Rattle.mesh.specs.declared.TheConstants.{MAX_HALFEDGES, MAX_POINTS, HALFEDGE_STRIDE, REF_STRIDE, NO_INDEX}
 
--- the limits of question 1
+-- the limits of question 1, and below the other numbers that the code's constants have: each stands in src/lib.rt alone
 abbrev pub max_halfedges : ℕ
-max_halfedges = 65535
+max_halfedges = MAX_HALFEDGES
 
 abbrev pub max_points : ℕ
-max_points = 65535
+max_points = MAX_POINTS
 
 -- how many numbers a halfedge has in its list, and a face reference in its
 abbrev pub halfedge_stride : ℕ
-halfedge_stride = 4
+halfedge_stride = HALFEDGE_STRIDE
 
 abbrev pub ref_stride : ℕ
-ref_stride = 3
+ref_stride = REF_STRIDE
 
 -- number k of item e, in a list of `stride` numbers to an item; 0 past the end
 unfoldable pub number_at : List ℤ → ℕ → ℕ → ℕ → ℤ
@@ -21,7 +22,7 @@ number_at list e stride k = get_or list (e * stride + k) (pos 0)
 
 -- what a negative number is read as: above every i32 and every count of question 1
 abbrev pub no_index : ℕ
-no_index = 4294967296
+no_index = NO_INDEX
 
 -- an i32 as the number of a point, a halfedge or a row
 unfoldable pub index_of : ℤ → ℕ

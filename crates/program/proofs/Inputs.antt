@@ -18,12 +18,12 @@ use Rattle.records.specs.declared.Kind.TheVariants.{Tangents}
 use Rattle.records.specs.declared.Input.{Input}
 use Rattle.records.proofs.Accepted.{never_short, counts_bound}
 use Rattle.std.specs.Prelude.{Result, Ok, Err}
-use Rattle.mesh.specs.declared.Refusal.{Refusal}
-use Rattle.program_lines.specs.Lines.{lines_of, printed, rendered}
-use Rattle.program_lines.proofs.Whole.{whole}
-use Rattle.program_lines.specs.declared.Output.{Output}
-use Rattle.program_operations.specs.Operations.{operation_lines, operation_tangents, operation_scratch, Shows}
-use Rattle.program.specs.Program.{output_of, halfedges_of, positions_of, tangents_of, normals_of, flags_of, positions_after, halfedges_after, normals_after, flags_after, tangents_after, scratch_after, when_spreading, tangent_room, flag_room, output_room, Room}
+use Rattle.questions.specs.declared.Refusal.{Refusal}
+use Rattle.program.specs.Lines.Lines.{lines_of, printed, rendered}
+use Rattle.program.proofs.LinesLaws.Whole.{whole}
+use Rattle.program.specs.declared.lines.Output.{Output}
+use Rattle.program.specs.Operations.Operations.{operation_lines, operation_tangents, operation_scratch, Shows}
+use Rattle.program.specs.Program.{output_of, halfedges_of, positions_of, tangents_of, normals_of, fixed_of, positions_after, halfedges_after, normals_after, fixed_after, tangents_after, scratch_after, when_spreading, tangent_room, flag_room, output_room, Room}
 
 -- what is rendered of an output that shows the program's lines, where there is room
 pub renders : (s : List ℕ) (o : Result Output Refusal) (T : List Float) (out : ℕ) → tangent_room ≤ length T → output_room ≤ out → Shows (output_of s) flag_room o T →
@@ -58,19 +58,19 @@ spread_filled f Check k xs = refl
 pub record Reading (s : List ℕ) (L L' : Lists) (r : Result Input Refusal) (current desired : ℕ) : Type 0 where
   pub answer : r ≡ read_answer s L
   pub lists : L' ≡ read_lists r s L
-  pub room : Room (length L.positions) (length L.halfedges) (length L.tangents) (length L.normals) (length L.flags) current desired
+  pub room : Room (length L.positions) (length L.halfedges) (length L.tangents) (length L.normals) (length L.fixed) current desired
 
 module _ {s : List ℕ} {L L' : Lists} {r : Result Input Refusal} {current desired : ℕ} (w : Reading s L L' r current desired) where
   parsed : (q : Result Input Refusal) → r ≡ q → parse_input s ≡ q
-  parsed q e = sym (never_short s L w.room.positions_in w.room.halfedges_in w.room.tangents_in w.room.normals_in w.room.flags_in) ∙ sym w.answer ∙ e
+  parsed q e = sym (never_short s L w.room.positions_in w.room.halfedges_in w.room.tangents_in w.room.normals_in w.room.fixed_in) ∙ sym w.answer ∙ e
 
   -- the lists that only the reading writes
   pub read_left : (q : Result Input Refusal) → r ≡ q →
       (L'.positions ≡ positions_after s L.positions)
       × (L'.halfedges ≡ halfedges_after s L.halfedges)
       × (L'.normals ≡ normals_after s L.normals)
-      × (L'.flags ≡ flags_after s L.flags)
-  unfolding read_lists filled positions_after halfedges_after normals_after flags_after
+      × (L'.fixed ≡ fixed_after s L.fixed)
+  unfolding read_lists filled positions_after halfedges_after normals_after fixed_after
   read_left (Err refusal) e = rw (w.lists, parsed _ e, e) (refl, refl, refl, refl)
   read_left (Ok i) e =
       rw (w.lists, parsed _ e, e) (refl, refl, spread_filled _ i.operation (3 * i.counts.points) _, spread_filled _ i.operation i.counts.halfedges _)
@@ -113,16 +113,16 @@ module _ {s : List ℕ} {L L' : Lists} {r : Result Input Refusal} {current desir
     unfolding read_lists
     further_tangents = ap (λ (q : Lists). drop (4 * n) q.tangents) lists ∙ dropped (f64_item s (body_at p n Tangents)) (4 * n) L.tangents
 
-    spread_read : o ≡ Spread → (take (3 * p) L'.normals ≡ normals_of s p n) × (take n L'.flags ≡ flags_of s p n)
+    spread_read : o ≡ Spread → (take (3 * p) L'.normals ≡ normals_of s p n) × (take n L'.fixed ≡ fixed_of s p n)
     unfolding read_lists
     spread_read d = (
       ap (λ (q : Lists). take (3 * p) q.normals) lists ∙ rw d (taken _ (3 * p) _),
-      ap (λ (q : Lists). take n q.flags) lists ∙ rw d (taken _ n _),
+      ap (λ (q : Lists). take n q.fixed) lists ∙ rw d (taken _ n _),
     )
 
     -- what the operation prints of the lists that were read is printed
     pub operation_shows : (output : Result Output Refusal) (T : List Float) →
-        Shows (operation_lines o (as_halfedges (take (4 * n) L'.halfedges)) (take (3 * p) L'.positions) (take (3 * p) L'.normals) (take n L'.flags) (take (4 * n) L'.tangents) n p) n output T →
+        Shows (operation_lines o (as_halfedges (take (4 * n) L'.halfedges)) (take (3 * p) L'.positions) (take (3 * p) L'.normals) (take n L'.fixed) (take (4 * n) L'.tangents) n p) n output T →
         Shows (output_of s) flag_room output T
     unfolding output_of
     operation_shows output T h =
@@ -130,25 +130,25 @@ module _ {s : List ℕ} {L L' : Lists} {r : Result Input Refusal} {current desir
           shown =
               h.shown
               ∙ rw (parsed _ e, halfedges_read, positions_read, tangents_read)
-              (only_spread o (λ q N F. operation_lines q (as_halfedges (halfedges_of s p n)) (positions_of s p n) N F (tangents_of s p n) n p) _ (normals_of s p n) _ (flags_of s p n) refl refl spread_read);
+              (only_spread o (λ q N F. operation_lines q (as_halfedges (halfedges_of s p n)) (positions_of s p n) N F (tangents_of s p n) n p) _ (normals_of s p n) _ (fixed_of s p n) refl refl spread_read);
           halfedges_few = omega (arith, bound, h.halfedges_few);
         }
 
     -- and what it leaves in the tangents and the scratch lists is left
     pub tangents_left : (T : List Float) →
-        T ≡ operation_tangents o (as_halfedges (take (4 * n) L'.halfedges)) (take (3 * p) L'.positions) (take (3 * p) L'.normals) (take n L'.flags) (take (4 * n) L'.tangents) n p ++ drop (4 * n) L'.tangents →
+        T ≡ operation_tangents o (as_halfedges (take (4 * n) L'.halfedges)) (take (3 * p) L'.positions) (take (3 * p) L'.normals) (take n L'.fixed) (take (4 * n) L'.tangents) n p ++ drop (4 * n) L'.tangents →
         T ≡ tangents_after s L.tangents
     unfolding tangents_after
     tangents_left T h =
         h
         ∙ rw (parsed _ e, halfedges_read, positions_read, tangents_read, further_tangents)
-        (only_spread o (λ q N F. operation_tangents q (as_halfedges (halfedges_of s p n)) (positions_of s p n) N F (tangents_of s p n) n p ++ drop (4 * n) L.tangents) _ (normals_of s p n) _ (flags_of s p n) refl refl spread_read)
+        (only_spread o (λ q N F. operation_tangents q (as_halfedges (halfedges_of s p n)) (positions_of s p n) N F (tangents_of s p n) n p ++ drop (4 * n) L.tangents) _ (normals_of s p n) _ (fixed_of s p n) refl refl spread_read)
 
     pub scratch_left : (left lent : List Float) →
-        left ≡ operation_scratch o (as_halfedges (take (4 * n) L'.halfedges)) (take (3 * p) L'.positions) (take (3 * p) L'.normals) (take n L'.flags) (take (4 * n) L'.tangents) n p lent →
+        left ≡ operation_scratch o (as_halfedges (take (4 * n) L'.halfedges)) (take (3 * p) L'.positions) (take (3 * p) L'.normals) (take n L'.fixed) (take (4 * n) L'.tangents) n p lent →
         left ≡ scratch_after s lent
     unfolding scratch_after
     scratch_left left lent h =
         h
         ∙ rw (parsed _ e, halfedges_read, positions_read, tangents_read)
-        (only_spread o (λ q N F. operation_scratch q (as_halfedges (halfedges_of s p n)) (positions_of s p n) N F (tangents_of s p n) n p lent) _ (normals_of s p n) _ (flags_of s p n) refl refl spread_read)
+        (only_spread o (λ q N F. operation_scratch q (as_halfedges (halfedges_of s p n)) (positions_of s p n) N F (tangents_of s p n) n p lent) _ (normals_of s p n) _ (fixed_of s p n) refl refl spread_read)

@@ -2,3 +2,5 @@
 mod Inputs
 pub mod Rooms
 pub mod Rows
+pub mod LinesLaws
+pub mod OperationsLaws

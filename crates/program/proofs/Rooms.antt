@@ -8,22 +8,22 @@ use mathlib.Core.List.{List, []}
 use lib.ListN.{length, take}
 use Rattle.std.specs.Prelude.{Result, Ok, Err}
 use Rattle.mesh.specs.Mesh.{as_halfedges}
-use Rattle.mesh.specs.declared.Refusal.{Refusal}
+use Rattle.questions.specs.declared.Refusal.{Refusal}
 use Rattle.records.specs.Records.{max_input, check_input, parse_input}
 use Rattle.records.specs.declared.Input.{Input}
 use Rattle.records.proofs.Accepted.{counts_bound}
-use Rattle.program_lines.specs.Text.{Put}
-use Rattle.program_lines.specs.Lines.{printed}
-use Rattle.program_lines.proofs.Put.{put_front}
-use Rattle.program_lines.proofs.Lengths.{lines_length}
-use Rattle.program_operations.proofs.Lengths.{operation_length}
-use Rattle.program.specs.Program.{positions_of, halfedges_of, tangents_of, normals_of, flags_of, lines_for, output_of, position_room, halfedge_room, tangent_room, flag_room, output_room, has_room, FitsRooms, RoomsSuffice}
+use Rattle.program.specs.Lines.Text.{Put}
+use Rattle.program.specs.Lines.Lines.{printed}
+use Rattle.program.proofs.LinesLaws.Put.{put_front}
+use Rattle.program.proofs.LinesLaws.Lengths.{lines_length}
+use Rattle.program.proofs.OperationsLaws.Lengths.{operation_length}
+use Rattle.program.specs.Program.{positions_of, halfedges_of, tangents_of, normals_of, fixed_of, lines_for, output_of, position_room, halfedge_room, tangent_room, flag_room, output_room, has_room, FitsRooms, RoomsSuffice}
 
 module _ (s : List ℕ) where
   counts_fit : (i : Input) → parse_input s ≡ Ok i → FitsRooms i.counts.points i.counts.halfedges
   counts_fit i e =
       let bound = counts_bound s i e in
-      record { positions_fit = omega arith; halfedges_fit = omega arith; tangents_fit = omega arith; flags_fit = omega arith }
+      record { positions_fit = omega arith; halfedges_fit = omega arith; tangents_fit = omega arith; fixed_fit = omega arith }
 
   lines_fit : (r : Result Input Refusal) → parse_input s ≡ r → length (lines_for s r) ≤ output_room
   lines_fit (Err refusal) e = omega (arith, lines_length (printed (Err refusal)) [])
@@ -32,8 +32,8 @@ module _ (s : List ℕ) where
       let n = i.counts.halfedges in
       omega (
         arith,
-        (counts_fit i e).flags_fit,
-        operation_length i.operation (as_halfedges (halfedges_of s p n)) (positions_of s p n) (normals_of s p n) (flags_of s p n) (tangents_of s p n) n p,
+        (counts_fit i e).fixed_fit,
+        operation_length i.operation (as_halfedges (halfedges_of s p n)) (positions_of s p n) (normals_of s p n) (fixed_of s p n) (tangents_of s p n) n p,
       )
 
   output_fits : length (output_of s) ≤ output_room

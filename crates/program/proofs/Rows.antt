@@ -11,9 +11,9 @@ use Rattle.records.specs.declared.Operation.{Operation}
 use Rattle.records.specs.declared.Operation.TheVariants.{Spread}
 use Rattle.records.specs.declared.Input.{Input}
 use Rattle.std.specs.Prelude.{Result, Ok, Err}
-use Rattle.mesh.specs.declared.Refusal.{Refusal}
-use Rattle.program_operations.specs.Operations.{operation_lines, operation_tangents, operation_scratch}
-use Rattle.program.specs.Program.{positions_of, halfedges_of, tangents_of, normals_of, flags_of, output_of, tangents_after, scratch_after}
+use Rattle.questions.specs.declared.Refusal.{Refusal}
+use Rattle.program.specs.Operations.Operations.{operation_lines, operation_tangents, operation_scratch}
+use Rattle.program.specs.Program.{positions_of, halfedges_of, tangents_of, normals_of, fixed_of, output_of, tangents_after, scratch_after}
 use Rattle.program.specs.Rows.{SameLists, SameInputs, InputRowsUnread}
 use Rattle.program.proofs.Inputs.{only_spread}
 
@@ -23,29 +23,29 @@ module _ (s s' : List ℕ) (o : Operation) (p n : ℕ) (h : SameLists s s' o p n
   same_mesh : as_halfedges (halfedges_of s p n) ≡ as_halfedges (halfedges_of s' p n)
   same_mesh = same_halfedges (halfedges_of s p n) (halfedges_of s' p n) n h.halfedges
 
-  spread_lists : o ≡ Spread → (normals_of s p n ≡ normals_of s' p n) × (flags_of s p n ≡ flags_of s' p n)
-  spread_lists e = (h.normals e, h.flags e)
+  spread_lists : o ≡ Spread → (normals_of s p n ≡ normals_of s' p n) × (fixed_of s p n ≡ fixed_of s' p n)
+  spread_lists e = (h.normals e, h.fixed e)
 
   same_lines :
-      operation_lines o (as_halfedges (halfedges_of s p n)) (positions_of s p n) (normals_of s p n) (flags_of s p n) (tangents_of s p n) n p
-      ≡ operation_lines o (as_halfedges (halfedges_of s' p n)) (positions_of s' p n) (normals_of s' p n) (flags_of s' p n) (tangents_of s' p n) n p
+      operation_lines o (as_halfedges (halfedges_of s p n)) (positions_of s p n) (normals_of s p n) (fixed_of s p n) (tangents_of s p n) n p
+      ≡ operation_lines o (as_halfedges (halfedges_of s' p n)) (positions_of s' p n) (normals_of s' p n) (fixed_of s' p n) (tangents_of s' p n) n p
   same_lines =
       rw (same_mesh, h.positions, h.tangents)
-      (only_spread o (λ q N X. operation_lines q (as_halfedges (halfedges_of s' p n)) (positions_of s' p n) N X (tangents_of s' p n) n p) _ (normals_of s' p n) _ (flags_of s' p n) refl refl spread_lists)
+      (only_spread o (λ q N X. operation_lines q (as_halfedges (halfedges_of s' p n)) (positions_of s' p n) N X (tangents_of s' p n) n p) _ (normals_of s' p n) _ (fixed_of s' p n) refl refl spread_lists)
 
   same_tangents : (lent : List Float) →
-      operation_tangents o (as_halfedges (halfedges_of s p n)) (positions_of s p n) (normals_of s p n) (flags_of s p n) (tangents_of s p n) n p ++ drop (4 * n) lent
-      ≡ operation_tangents o (as_halfedges (halfedges_of s' p n)) (positions_of s' p n) (normals_of s' p n) (flags_of s' p n) (tangents_of s' p n) n p ++ drop (4 * n) lent
+      operation_tangents o (as_halfedges (halfedges_of s p n)) (positions_of s p n) (normals_of s p n) (fixed_of s p n) (tangents_of s p n) n p ++ drop (4 * n) lent
+      ≡ operation_tangents o (as_halfedges (halfedges_of s' p n)) (positions_of s' p n) (normals_of s' p n) (fixed_of s' p n) (tangents_of s' p n) n p ++ drop (4 * n) lent
   same_tangents lent =
       rw (same_mesh, h.positions, h.tangents)
-      (only_spread o (λ q N X. operation_tangents q (as_halfedges (halfedges_of s' p n)) (positions_of s' p n) N X (tangents_of s' p n) n p ++ drop (4 * n) lent) _ (normals_of s' p n) _ (flags_of s' p n) refl refl spread_lists)
+      (only_spread o (λ q N X. operation_tangents q (as_halfedges (halfedges_of s' p n)) (positions_of s' p n) N X (tangents_of s' p n) n p ++ drop (4 * n) lent) _ (normals_of s' p n) _ (fixed_of s' p n) refl refl spread_lists)
 
   same_scratch : (lent : List Float) →
-      operation_scratch o (as_halfedges (halfedges_of s p n)) (positions_of s p n) (normals_of s p n) (flags_of s p n) (tangents_of s p n) n p lent
-      ≡ operation_scratch o (as_halfedges (halfedges_of s' p n)) (positions_of s' p n) (normals_of s' p n) (flags_of s' p n) (tangents_of s' p n) n p lent
+      operation_scratch o (as_halfedges (halfedges_of s p n)) (positions_of s p n) (normals_of s p n) (fixed_of s p n) (tangents_of s p n) n p lent
+      ≡ operation_scratch o (as_halfedges (halfedges_of s' p n)) (positions_of s' p n) (normals_of s' p n) (fixed_of s' p n) (tangents_of s' p n) n p lent
   same_scratch lent =
       rw (same_mesh, h.positions, h.tangents)
-      (only_spread o (λ q N X. operation_scratch q (as_halfedges (halfedges_of s' p n)) (positions_of s' p n) N X (tangents_of s' p n) n p lent) _ (normals_of s' p n) _ (flags_of s' p n) refl refl spread_lists)
+      (only_spread o (λ q N X. operation_scratch q (as_halfedges (halfedges_of s' p n)) (positions_of s' p n) N X (tangents_of s' p n) n p lent) _ (normals_of s' p n) _ (fixed_of s' p n) refl refl spread_lists)
 
 -- ---- the program
 

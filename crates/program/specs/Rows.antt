@@ -5,16 +5,16 @@ use Rattle.records.specs.Records.{parse_input}
 use Rattle.records.specs.declared.Operation.{Operation}
 use Rattle.records.specs.declared.Operation.TheVariants.{Spread}
 use Rattle.records.specs.declared.Input.{Input}
-use Rattle.program.specs.Program.{positions_of, halfedges_of, tangents_of, normals_of, flags_of, output_of, tangents_after, scratch_after}
+use Rattle.program.specs.Program.{positions_of, halfedges_of, tangents_of, normals_of, fixed_of, output_of, tangents_after, scratch_after}
 
 -- the same lists for an operation, but for the rows of the n halfedges
 pub record SameLists (s s' : List ℕ) (operation : Operation) (p n : ℕ) : Type 0 where
   pub positions : positions_of s p n ≡ positions_of s' p n
   pub halfedges : SameButRows (halfedges_of s p n) (halfedges_of s' p n) n
   pub tangents : tangents_of s p n ≡ tangents_of s' p n
-  -- only spreading has point normals and flags
+  -- only spreading has point normals and fixed halfedges
   pub normals : operation ≡ Spread → normals_of s p n ≡ normals_of s' p n
-  pub flags : operation ≡ Spread → flags_of s p n ≡ flags_of s' p n
+  pub fixed : operation ≡ Spread → fixed_of s p n ≡ fixed_of s' p n
 
 -- the same answer to the records, and the same lists but for the rows where they are accepted
 pub record SameInputs (s s' : List ℕ) : Type 0 where

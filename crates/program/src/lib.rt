@@ -1,18 +1,21 @@
-// What the program `tangents` (document 01) does between reading its input and writing its output: the records are read
-// into lent lists, the operation is done, and the answer goes as lines into a lent buffer.
+// What the program `tangents` does between reading its input and writing its output: the records are read into lent lists
+// (the crate `records`), the operation is done (`operations`), and the answer goes as lines into a lent buffer (`lines`).
 #![tactic(auto)]
 
+mod lines;
+mod operations;
+
 ghost use Rattle.std.specs.Prelude.{◌≡◌, cond, [], length};
-ghost use Rattle.program_lines.specs.Text.{Put};
-ghost use Rattle.program_operations.specs.Operations.{Shows};
-ghost use Rattle.program.specs.Program.{output_of, positions_after, halfedges_after, tangents_after, normals_after, flags_after, scratch_after, lists_have_room, flag_room, Room, RoomsSuffice};
+ghost use Rattle.program.specs.Lines.Text.{Put};
+ghost use Rattle.program.specs.Operations.Operations.{Shows};
+ghost use Rattle.program.specs.Program.{output_of, positions_after, halfedges_after, tangents_after, normals_after, fixed_after, scratch_after, lists_have_room, flag_room, Room, RoomsSuffice};
 ghost use Rattle.program.specs.Rows.{InputRowsUnread};
 
-use mesh::Refusal;
-use program_lines::Output;
+use lines::Output;
+use questions::Refusal;
 
 // The lengths of lists with room for every input: its positions or point normals, its halfedges, its tangents, one place
-// for each halfedge (flags, scratch), and its output, a line of each halfedge and two more.
+// for each halfedge (fixed, scratch), and its output, a line of each halfedge and two more.
 pub const POSITION_ROOM: usize = 3 * records::MAX_POINTS;
 
 pub const HALFEDGE_ROOM: usize = mesh::HALFEDGE_STRIDE * records::MAX_HALFEDGES;
@@ -21,7 +24,7 @@ pub const TANGENT_ROOM: usize = 4 * records::MAX_HALFEDGES;
 
 pub const FLAG_ROOM: usize = records::MAX_HALFEDGES;
 
-pub const OUTPUT_ROOM: usize = program_lines::LINE_BYTES * (records::MAX_HALFEDGES + 2);
+pub const OUTPUT_ROOM: usize = lines::LINE_BYTES * (records::MAX_HALFEDGES + 2);
 
 // Law: the lists of every input that is accepted fit these lengths, and the output of every input its own
 // (specs/Program.antt, `RoomsSuffice`).
@@ -36,29 +39,29 @@ fn respond(
     h: &mut [i32],
     t: &mut [f64],
     normals: &mut [f64],
-    flags: &mut [u8],
+    fixed: &mut [u8],
     current: &mut [f64],
     desired: &mut [f64],
 ) -> Result<Output, Refusal>
-    requires { Room (length pos.old) (length h.old) (length t.old) (length normals.old) (length flags.old) (length current.old) (length desired.old) }
+    requires { Room (length pos.old) (length h.old) (length t.old) (length normals.old) (length fixed.old) (length current.old) (length desired.old) }
     ensures output { Shows (output_of input.now) flag_room result t.new }
     ensures positions { pos.new ≡ positions_after input.now pos.old }
     ensures halfedges { h.new ≡ halfedges_after input.now h.old }
     ensures tangents { t.new ≡ tangents_after input.now t.old }
     ensures normals { normals.new ≡ normals_after input.now normals.old }
-    ensures flags { flags.new ≡ flags_after input.now flags.old }
+    ensures fixed { fixed.new ≡ fixed_after input.now fixed.old }
     ensures current { current.new ≡ scratch_after input.now current.old }
     ensures desired { desired.new ≡ scratch_after input.now desired.old }
 {
-    let read = records::read_input(input, pos, h, t, normals, flags)?;
-    program_operations::perform(
+    let read = records::read_input(input, pos, h, t, normals, fixed)?;
+    operations::perform(
         read.operation,
         usize::from(read.counts.halfedges),
         usize::from(read.counts.points),
         h,
         pos,
         normals,
-        flags,
+        fixed,
         t,
         current,
         desired,
@@ -77,34 +80,34 @@ pub fn answer(
     h: &mut [i32],
     t: &mut [f64],
     normals: &mut [f64],
-    flags: &mut [u8],
+    fixed: &mut [u8],
     current: &mut [f64],
     desired: &mut [f64],
     out: &mut [u8],
 ) -> usize
-    ensures output { Put out.old 0 (cond (lists_have_room pos.old h.old t.old normals.old flags.old current.old desired.old out.old) (output_of input.now) []) out.new result }
-    ensures positions { pos.new ≡ cond (lists_have_room pos.old h.old t.old normals.old flags.old current.old desired.old out.old) (positions_after input.now pos.old) pos.old }
-    ensures halfedges { h.new ≡ cond (lists_have_room pos.old h.old t.old normals.old flags.old current.old desired.old out.old) (halfedges_after input.now h.old) h.old }
-    ensures tangents { t.new ≡ cond (lists_have_room pos.old h.old t.old normals.old flags.old current.old desired.old out.old) (tangents_after input.now t.old) t.old }
-    ensures normals { normals.new ≡ cond (lists_have_room pos.old h.old t.old normals.old flags.old current.old desired.old out.old) (normals_after input.now normals.old) normals.old }
-    ensures flags { flags.new ≡ cond (lists_have_room pos.old h.old t.old normals.old flags.old current.old desired.old out.old) (flags_after input.now flags.old) flags.old }
-    ensures current { current.new ≡ cond (lists_have_room pos.old h.old t.old normals.old flags.old current.old desired.old out.old) (scratch_after input.now current.old) current.old }
-    ensures desired { desired.new ≡ cond (lists_have_room pos.old h.old t.old normals.old flags.old current.old desired.old out.old) (scratch_after input.now desired.old) desired.old }
+    ensures output { Put out.old 0 (cond (lists_have_room pos.old h.old t.old normals.old fixed.old current.old desired.old out.old) (output_of input.now) []) out.new result }
+    ensures positions { pos.new ≡ cond (lists_have_room pos.old h.old t.old normals.old fixed.old current.old desired.old out.old) (positions_after input.now pos.old) pos.old }
+    ensures halfedges { h.new ≡ cond (lists_have_room pos.old h.old t.old normals.old fixed.old current.old desired.old out.old) (halfedges_after input.now h.old) h.old }
+    ensures tangents { t.new ≡ cond (lists_have_room pos.old h.old t.old normals.old fixed.old current.old desired.old out.old) (tangents_after input.now t.old) t.old }
+    ensures normals { normals.new ≡ cond (lists_have_room pos.old h.old t.old normals.old fixed.old current.old desired.old out.old) (normals_after input.now normals.old) normals.old }
+    ensures fixed { fixed.new ≡ cond (lists_have_room pos.old h.old t.old normals.old fixed.old current.old desired.old out.old) (fixed_after input.now fixed.old) fixed.old }
+    ensures current { current.new ≡ cond (lists_have_room pos.old h.old t.old normals.old fixed.old current.old desired.old out.old) (scratch_after input.now current.old) current.old }
+    ensures desired { desired.new ≡ cond (lists_have_room pos.old h.old t.old normals.old fixed.old current.old desired.old out.old) (scratch_after input.now desired.old) desired.old }
 {
     // `&` has no branch, so that the proof has one path.
     let room = (POSITION_ROOM <= pos.len())
         & (HALFEDGE_ROOM <= h.len())
         & (TANGENT_ROOM <= t.len())
         & (POSITION_ROOM <= normals.len())
-        & (FLAG_ROOM <= flags.len())
+        & (FLAG_ROOM <= fixed.len())
         & (FLAG_ROOM <= current.len())
         & (FLAG_ROOM <= desired.len())
         & (OUTPUT_ROOM <= out.len());
     if !room {
         return 0;
     }
-    let answer = respond(input, pos, h, t, normals, flags, current, desired);
-    program_lines::render(Output::from(answer), t, out)
+    let answer = respond(input, pos, h, t, normals, fixed, current, desired);
+    lines::render(Output::from(answer), t, out)
 }
 
 // Law: two inputs that are the same but for the rows of the halfedges have the same output, and leave the same tangents and scratch

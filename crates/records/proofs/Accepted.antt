@@ -11,11 +11,11 @@ use Rattle.std.specs.Prelude.{◌⊎◌, Result, Ok, Err}
 use Rattle.std.proofs.Common.{inl, inr}
 use Rattle.std.proofs.lemmas.Bool.{and_parts}
 use Rattle.mesh.specs.Mesh.{halfedge_stride}
-use Rattle.mesh.specs.Check.{Checked, asked, answer_of}
-use Rattle.mesh.specs.declared.Question.TheVariants.{Lengths, Fits, End}
-use Rattle.mesh.specs.declared.Refusal.{Refusal}
-use Rattle.mesh.proofs.Accepted.{then_accepted, asked_accepted}
-use Rattle.records.specs.Records.{operation_number, is_operation, operation_of_number, check_operation, max_input, kinds, mesh_kinds, max_points, max_halfedges, body_bytes, records_length, bodies, check_record, check_bodies, check_records, check_input, operation_in, points_in, halfedges_in, input_in, parse_input, Values}
+use Rattle.questions.specs.Check.{Checked, asked, answer_of}
+use Rattle.questions.specs.declared.Question.TheVariants.{Lengths, Fits, End}
+use Rattle.questions.specs.declared.Refusal.{Refusal}
+use Rattle.questions.proofs.Accepted.{then_accepted, asked_accepted}
+use Rattle.records.specs.Records.{operation_number, is_operation, operation_of_number, check_operation, max_input, header_bytes, counts_at, positions_at, kinds, mesh_kinds, max_points, max_halfedges, body_bytes, records_length, bodies, check_record, check_bodies, check_records, check_input, operation_in, points_in, halfedges_in, input_in, parse_input, Values}
 use Rattle.records.specs.Lists.{if_spread, has_room, Lists, lists_have_room, check_reading, read_answer, MeshRoom, SpreadRoom}
 use Rattle.records.specs.declared.Operation.{Operation}
 use Rattle.records.specs.declared.Operation.TheVariants.{Straighten, Spread, Check}
@@ -30,27 +30,27 @@ whole_from : (s : List ℕ) (p n : ℕ) (left : List Kind) (place : ℕ) → che
 unfolding check_bodies
 whole_from s p n [] place e = let q = eqb-true place (length s) (asked_accepted End place _ e) in omega arith
 whole_from s p n (kind ∷ left) place e =
-    let a = then_accepted (check_record s place kind (body_bytes p n kind)) (check_bodies s p n left (place + (6 + body_bytes p n kind))) e in
-    omega (arith, whole_from s p n left (place + (6 + body_bytes p n kind)) a.1)
+    let a = then_accepted (check_record s place kind (body_bytes p n kind)) (check_bodies s p n left (place + (header_bytes + body_bytes p n kind))) e in
+    omega (arith, whole_from s p n left (place + (header_bytes + body_bytes p n kind)) a.1)
 
 -- what is known of an accepted input
 pub record Accepted (s : List ℕ) : Type 0 where
   pub known : is_operation (operation_in s) ≡ true
   pub short : length s ≤ max_input
-  pub whole : length s ≡ 17 + records_length (points_in s) (halfedges_in s) (bodies (operation_of_number (operation_in s)))
+  pub whole : length s ≡ positions_at + records_length (points_in s) (halfedges_in s) (bodies (operation_of_number (operation_in s)))
 
 accepted_input : (s : List ℕ) → check_input s ≡ Ok tt → Accepted s
 unfolding check_input check_records
 accepted_input s e =
-    let left = check_bodies s (points_in s) (halfedges_in s) (bodies (operation_of_number (operation_in s))) 17 in
+    let left = check_bodies s (points_in s) (halfedges_in s) (bodies (operation_of_number (operation_in s))) positions_at in
     let a = then_accepted (asked Fits 0 (leb (length s) max_input)) _ e in
     let b = then_accepted _ left a.1 in
-    let d = then_accepted _ (check_record s 7 CountsKind 4) b.0 in
+    let d = then_accepted _ (check_record s counts_at CountsKind 4) b.0 in
     let f = then_accepted (check_record s 0 OperationKind 1) (check_operation (operation_in s)) d.0 in
     record {
       known = asked_accepted _ 0 _ f.1;
       short = leb-true _ _ (asked_accepted Fits 0 _ a.0);
-      whole = whole_from s _ _ _ 17 b.1;
+      whole = whole_from s _ _ _ positions_at b.1;
     }
 
 -- the questions accept it, and the answer is what is read in it
@@ -58,13 +58,13 @@ parsed : (s : List ℕ) (i : Input) → parse_input s ≡ Ok i → (check_input 
 unfolding parse_input
 parsed s i e = answer_ok (check_input s) (input_in s) i e
 
-mesh_kinds_in : (o : Operation) (p n : ℕ) → records_length p n mesh_kinds ≤ 17 + records_length p n (bodies o)
+mesh_kinds_in : (o : Operation) (p n : ℕ) → records_length p n mesh_kinds ≤ positions_at + records_length p n (bodies o)
 mesh_kinds_in Straighten p n = omega arith
 mesh_kinds_in Spread p n = omega arith
 mesh_kinds_in Check p n = omega arith
 
 module _ (s : List ℕ) (i : Input) (e : parse_input s ≡ Ok i) where
-  whole : length s ≡ 17 + records_length i.counts.points i.counts.halfedges (bodies i.operation)
+  whole : length s ≡ positions_at + records_length i.counts.points i.counts.halfedges (bodies i.operation)
   whole = rw (parsed s i e).1 (accepted_input s (parsed s i e).0).whole
 
   pub mesh_bodies : records_length i.counts.points i.counts.halfedges mesh_kinds ≤ length s
@@ -119,14 +119,11 @@ module _ (s : List ℕ) (L : Lists) where
     pub short_lists : (b : Bool) (r : Refusal) → b ≡ lists_have_room i L → asked Lengths 0 b ≡ Err r → Err r ≡ read_answer s L
     short_lists b r h f = let z = rw h at f in rw (room_asked, z)
 
-    pub read : (b : Bool) → b ≡ lists_have_room i L → asked Lengths 0 b ≡ Ok tt → (lists_have_room i L ≡ true) × (Ok i ≡ read_answer s L)
-    read b h f = let y = sym h ∙ asked_accepted Lengths 0 b f in (y, rw (room_asked, y))
-
 -- ---- the room in the lists
 
-module _ (o : Operation) (p n positions halfedges tangents normals flags : ℕ) where
-  pub room : has_room o p n positions halfedges tangents normals flags ≡ true →
-      (3 * p ≤ positions) × (4 * n ≤ halfedges) × (4 * n ≤ tangents) × (if_spread o (3 * p) ≤ normals) × (if_spread o n ≤ flags)
+module _ (o : Operation) (p n positions halfedges tangents normals fixed : ℕ) where
+  pub room : has_room o p n positions halfedges tangents normals fixed ≡ true →
+      (3 * p ≤ positions) × (4 * n ≤ halfedges) × (4 * n ≤ tangents) × (if_spread o (3 * p) ≤ normals) × (if_spread o n ≤ fixed)
   unfolding has_room
   room e =
       let a = and_parts _ _ e in
@@ -135,17 +132,24 @@ module _ (o : Operation) (p n positions halfedges tangents normals flags : ℕ) 
       let d = and_parts _ _ c.0 in
       (leb-true _ _ d.0, leb-true _ _ d.1, leb-true _ _ c.1, leb-true _ _ b.1, leb-true _ _ a.1)
 
-module _ (s : List ℕ) (L : Lists) (i : Input) (e : parse_input s ≡ Ok i) (h : lists_have_room i L ≡ true) where
+-- an input that is parsed, where the question of the room is answered yes
+module _ (s : List ℕ) (L : Lists) (i : Input) (e : parse_input s ≡ Ok i) (b : Bool) (h : b ≡ lists_have_room i L) (f : asked Lengths 0 b ≡ Ok tt) where
+  all_room : lists_have_room i L ≡ true
+  all_room = sym h ∙ asked_accepted Lengths 0 b f
+
   fits :
       (3 * i.counts.points ≤ length L.positions) × (4 * i.counts.halfedges ≤ length L.halfedges) × (4 * i.counts.halfedges ≤ length L.tangents)
-      × (if_spread i.operation (3 * i.counts.points) ≤ length L.normals) × (if_spread i.operation i.counts.halfedges ≤ length L.flags)
-  fits = room i.operation i.counts.points i.counts.halfedges (length L.positions) (length L.halfedges) (length L.tangents) (length L.normals) (length L.flags) h
+      × (if_spread i.operation (3 * i.counts.points) ≤ length L.normals) × (if_spread i.operation i.counts.halfedges ≤ length L.fixed)
+  fits = room i.operation i.counts.points i.counts.halfedges (length L.positions) (length L.halfedges) (length L.tangents) (length L.normals) (length L.fixed) all_room
 
   pub mesh_room : MeshRoom i.counts.points i.counts.halfedges (length s) (length L.positions) (length L.halfedges) (length L.tangents)
   mesh_room = record { bodies = mesh_bodies s i e; position_room = fits.0; halfedge_room = fits.1; tangent_room = fits.2 }
 
-  pub spread_room : i.operation ≡ Spread → SpreadRoom i.counts.points i.counts.halfedges (length s) (length L.normals) (length L.flags)
+  pub spread_room : i.operation ≡ Spread → SpreadRoom i.counts.points i.counts.halfedges (length s) (length L.normals) (length L.fixed)
   spread_room g = record { bodies = spread_bodies s i e g; normal_room = rw g at fits.3; flag_room = rw g at fits.4 }
+
+  pub read : Ok i ≡ read_answer s L
+  read = rw (room_asked s L i e, all_room)
 
 -- the other operations have none of the lists of spreading
 pub none_due : (o : Operation) (count : ℕ) → (o ≡ Straighten) ⊎ (o ≡ Check) → if_spread o count ≡ 0
@@ -153,7 +157,7 @@ none_due o count (inl e) = rw e
 none_due o count (inr e) = rw e
 
 -- Lists of these lengths are never too short, so that the answer is the parsed one.
-module _ (s : List ℕ) (L : Lists) (positions : 3 * max_points ≤ length L.positions) (halfedges : halfedge_stride * max_halfedges ≤ length L.halfedges) (tangents : 4 * max_halfedges ≤ length L.tangents) (normals : 3 * max_points ≤ length L.normals) (flags : max_halfedges ≤ length L.flags) where
+module _ (s : List ℕ) (L : Lists) (positions : 3 * max_points ≤ length L.positions) (halfedges : halfedge_stride * max_halfedges ≤ length L.halfedges) (tangents : 4 * max_halfedges ≤ length L.tangents) (normals : 3 * max_points ≤ length L.normals) (fixed : max_halfedges ≤ length L.fixed) where
   due : (o : Operation) (count most : ℕ) → count ≤ most → if_spread o count ≤ most
   due Straighten count most h = omega arith
   due Spread count most h = h
@@ -168,7 +172,7 @@ module _ (s : List ℕ) (L : Lists) (positions : 3 * max_points ≤ length L.pos
         le-leb (4 * i.counts.halfedges) (length L.halfedges) (omega arith),
         le-leb (4 * i.counts.halfedges) (length L.tangents) (omega arith),
         le-leb (if_spread i.operation (3 * i.counts.points)) (length L.normals) (due i.operation _ _ (omega arith)),
-        le-leb (if_spread i.operation i.counts.halfedges) (length L.flags) (due i.operation _ _ (omega arith)),
+        le-leb (if_spread i.operation i.counts.halfedges) (length L.fixed) (due i.operation _ _ (omega arith)),
       )
 
   by_answer : (r : Result Input Refusal) → parse_input s ≡ r → read_answer s L ≡ r

@@ -1,13 +1,14 @@
--- The program's input as document 01 has it: records of a u32 body length, a u16 kind and the body, kinds 1, 2, 3, .. in order. An input is refused by the first question that is answered no: 20 to 24, with its place.
-use Rattle.std.specs.Prelude.{ℕ, ◌+◌, ◌*◌, ◌-◌, ◌/◌, ◌≡◌, List, [], ◌∷◌, Bool, cond, ◌&&◌, length, get_or, take, drop, leb, eqb, Result, Ok, Err}
+-- The records of an input: a u32 body length, a u16 kind and the body, kinds 1, 2, 3, .. in order. An input is refused by the first question that is answered no: 20 to 24, with its place.
+use Rattle.std.specs.Prelude.{ℕ, ◌+◌, ◌*◌, ◌-◌, ◌≡◌, List, [], ◌∷◌, Bool, cond, ◌&&◌, length, get_or, take, drop, leb, eqb, Result}
 use Rattle.little_endian.specs.Numbers.{u16_at, u32_at}
-use Rattle.mesh.specs.Check.{Checked, number_of, place_of, asked, ◌then◌, answer_of, when_accepted}
-use Rattle.mesh.specs.declared.Question.TheVariants.{Fits, Kind as OtherKind, Body, Operation as Unknown, End}
-use Rattle.mesh.specs.declared.Refusal.{Refusal}
+use Rattle.questions.specs.Check.{Checked, number_of, place_of, value_or, asked, ◌then◌, answer_of, when_accepted}
+use Rattle.questions.specs.declared.Question.TheVariants.{Fits, Kind as OtherKind, Body, Operation as Unknown, End}
+use Rattle.questions.specs.declared.Refusal.{Refusal}
+use Rattle.records.specs.declared.TheConstants.{MAX_INPUT, HEADER_BYTES, POINT_BYTES, HALFEDGE_BYTES, TANGENT_BYTES, COUNTS_AT, POSITIONS_AT, MAX_POINTS, MAX_HALFEDGES}
 use Rattle.records.specs.declared.Operation.{Operation}
 use Rattle.records.specs.declared.Operation.TheVariants.{Straighten, Spread, Check}
 use Rattle.records.specs.declared.Kind.{Kind}
-use Rattle.records.specs.declared.Kind.TheVariants.{Operation as OperationKind, Counts as CountsKind, Positions, Halfedges, Tangents, Normals, Flags}
+use Rattle.records.specs.declared.Kind.TheVariants.{Operation as OperationKind, Counts as CountsKind, Positions, Halfedges, Tangents, Normals, Fixed}
 use Rattle.records.specs.declared.Input.{Input}
 
 -- ---- the operations: 1 straighten, 2 spread, 3 check
@@ -31,29 +32,26 @@ check_operation number = asked Unknown 0 (is_operation number)
 unfoldable pub operation_answer : ℕ → Result Operation Refusal
 operation_answer number = answer_of (check_operation number) (operation_of_number number)
 
--- ---- document 01's values of an answer: its number and place (`mesh`), and the operation and the counts of points and halfedges; 0 for a refusal, which has none
+-- ---- the values of an answer: its number and place (`questions`), and the operation and the counts of points and halfedges; 0 for a refusal, which has none
 
 abbrev pub operation_of : Result Input Refusal → ℕ
-operation_of (Ok input) = operation_number input.operation
-operation_of (Err refusal) = 0
+operation_of = value_or 0 (λ (input : Input). operation_number input.operation)
 
 abbrev pub points_of : Result Input Refusal → ℕ
-points_of (Ok input) = input.counts.points
-points_of (Err refusal) = 0
+points_of = value_or 0 (λ (input : Input). input.counts.points)
 
 abbrev pub halfedges_of : Result Input Refusal → ℕ
-halfedges_of (Ok input) = input.counts.halfedges
-halfedges_of (Err refusal) = 0
+halfedges_of = value_or 0 (λ (input : Input). input.counts.halfedges)
 
 -- ---- the records
 
--- the longest input of the program
+-- the longest input; it and the other numbers that the code's constants have stand in src/lib.rt alone
 abbrev pub max_input : ℕ
-max_input = 65536
+max_input = MAX_INPUT
 
 -- a record's header: u32 body length, u16 kind
 abbrev pub header_bytes : ℕ
-header_bytes = 6
+header_bytes = HEADER_BYTES
 
 abbrev pub body_length : List ℕ → ℕ → ℕ
 body_length s at = u32_at s at
@@ -68,11 +66,11 @@ kind_number Positions = 3
 kind_number Halfedges = 4
 kind_number Tangents = 5
 kind_number Normals = 6
-kind_number Flags = 7
+kind_number Fixed = 7
 
 -- the kinds in their order
 abbrev pub kinds : List Kind
-kinds = OperationKind ∷ CountsKind ∷ Positions ∷ Halfedges ∷ Tangents ∷ Normals ∷ Flags ∷ []
+kinds = OperationKind ∷ CountsKind ∷ Positions ∷ Halfedges ∷ Tangents ∷ Normals ∷ Fixed ∷ []
 
 -- Do header and body of the record at `at` fit in the input?
 unfoldable pub record_fits : List ℕ → ℕ → Bool
@@ -87,15 +85,15 @@ check_record s at kind bytes =
 
 -- the bytes of a point's position or normal: three numbers
 abbrev pub point_bytes : ℕ
-point_bytes = 24
+point_bytes = POINT_BYTES
 
 -- of a halfedge: start, end, pair and row
 abbrev pub halfedge_bytes : ℕ
-halfedge_bytes = 16
+halfedge_bytes = HALFEDGE_BYTES
 
 -- of a tangent: four numbers
 abbrev pub tangent_bytes : ℕ
-tangent_bytes = 32
+tangent_bytes = TANGENT_BYTES
 
 -- the body length that p points and n halfedges call for
 abbrev pub body_bytes : ℕ → ℕ → Kind → ℕ
@@ -105,7 +103,7 @@ body_bytes p n Positions = point_bytes * p
 body_bytes p n Halfedges = halfedge_bytes * n
 body_bytes p n Tangents = tangent_bytes * n
 body_bytes p n Normals = point_bytes * p
-body_bytes p n Flags = n
+body_bytes p n Fixed = n
 
 -- the length of the records of these kinds
 abbrev pub records_length : ℕ → ℕ → List Kind → ℕ
@@ -116,18 +114,18 @@ records_length p n (kind ∷ further) = header_bytes + body_bytes p n kind + rec
 abbrev pub mesh_kinds : List Kind
 mesh_kinds = take 5 kinds
 
--- the most points, and the most halfedges, that the longest input has room for
+-- the most points, and the most halfedges, that the longest input has room for: as many as their bytes fit into it beside the records up to the tangents without any (`counts_bound`, proofs/Accepted.antt)
 abbrev pub max_points : ℕ
-max_points = (max_input - records_length 0 0 mesh_kinds) / point_bytes
+max_points = MAX_POINTS
 
 abbrev pub max_halfedges : ℕ
-max_halfedges = (max_input - records_length 0 0 mesh_kinds) / (halfedge_bytes + tangent_bytes)
+max_halfedges = MAX_HALFEDGES
 
 -- where the body of a kind is: past the records before it, and its own header
 abbrev pub body_at : ℕ → ℕ → Kind → ℕ
 body_at p n kind = records_length p n (take (kind_number kind - 1) kinds) + header_bytes
 
--- the number of the last kind: spreading has point normals and flags too
+-- the number of the last kind: spreading has point normals and fixed halfedges too
 abbrev pub last_kind : Operation → ℕ
 last_kind Straighten = 5
 last_kind Spread = 7
@@ -146,13 +144,13 @@ check_bodies s p n (kind ∷ further) place =
     check_record s place kind (body_bytes p n kind)
     then check_bodies s p n further (place + (header_bytes + body_bytes p n kind))
 
--- where the record of the counts is
+-- where the record of the counts is: past that of the operation, which has one byte
 abbrev pub counts_at : ℕ
-counts_at = header_bytes + 1
+counts_at = COUNTS_AT
 
--- where the record of the positions is
+-- where the record of the positions is: past the counts, which have two u16
 abbrev pub positions_at : ℕ
-positions_at = counts_at + header_bytes + 4
+positions_at = POSITIONS_AT
 
 -- the bodies of the first two records: the operation, and the two counts
 abbrev pub operation_in : List ℕ → ℕ

@@ -1,18 +1,19 @@
-// Reads the input of the program `tangents` (document 01) into lent lists.
+// Reads the records of an input, an operation and a mesh, into lent lists. The format is specs/Records.antt's; it is the input of the
+// program `tangents`.
 #![tactic(auto)]
 
 ghost use Rattle.std.specs.Prelude.{◌≡◌, ◌+◌, ◌*◌, ◌<◌, ◌≤◌, ◌^◌, length};
 ghost use Rattle.little_endian.specs.Numbers.{f64_item, i32_item, byte_item};
 ghost use Rattle.little_endian.specs.Filled.{filled};
 ghost use Rattle.mesh.specs.Mesh.{halfedge_stride};
-ghost use Rattle.mesh.specs.Check.{answer_of};
+ghost use Rattle.questions.specs.Check.{answer_of};
 ghost use Rattle.records.specs.Records.{operation_answer, check_record, body_bytes, body_at, bodies, positions_at, check_bodies, check_records, input_in, parse_input, Values};
 ghost use Rattle.records.specs.Lists.{MeshRoom, SpreadRoom, if_spread, has_room, lists_of, check_reading, read_answer, read_lists};
 
 use little_endian::LittleEndian;
-use mesh::{Question, Refusal};
+use questions::{Question, Refusal};
 
-// The longest input of the program.
+// The longest input.
 pub const MAX_INPUT: usize = 65536;
 
 // A record's header: u32 body length, u16 kind.
@@ -38,7 +39,7 @@ pub const MAX_POINTS: usize = (MAX_INPUT - LEAST_INPUT) / POINT_BYTES;
 
 pub const MAX_HALFEDGES: usize = (MAX_INPUT - LEAST_INPUT) / (HALFEDGE_BYTES + TANGENT_BYTES);
 
-// What the program does with an input, each with its number.
+// What is to be done with the mesh of an input, each with its number.
 #[derive(Clone, Copy, PartialEq, Eq)]
 pub enum Operation {
     Straighten = 1,
@@ -73,7 +74,7 @@ pub enum Kind {
     Halfedges = 4,
     Tangents = 5,
     Normals = 6,
-    Flags = 7,
+    Fixed = 7,
 }
 
 const KINDS: [Kind; 7] = [
@@ -83,7 +84,7 @@ const KINDS: [Kind; 7] = [
     Kind::Halfedges,
     Kind::Tangents,
     Kind::Normals,
-    Kind::Flags,
+    Kind::Fixed,
 ];
 
 // How many points and halfedges an input has.
@@ -101,16 +102,17 @@ pub struct Input {
 }
 
 // The questions of the record of a kind, with so many bytes, that is due at `at`.
+#[tactic(auto, using(crate::proofs::Parse::steps))]
 fn check_record(s: &[u8], at: usize, kind: Kind, bytes: usize) -> Result<(), Refusal>
     requires { at ≤ length s.now }
     ensures { result ≡ check_record s.now at kind bytes }
 {
     let left = s.len() - at;
-    mesh::ask_at(Question::Fits, at, HEADER_BYTES <= left)?;
+    questions::ask_at(Question::Fits, at, HEADER_BYTES <= left)?;
     let body_length = u32::read(s, at) as usize;
-    mesh::ask_at(Question::Fits, at, body_length <= left - HEADER_BYTES)?;
-    mesh::ask_at(Question::Kind, at, u16::read(s, at + 4) == kind as u16)?;
-    mesh::ask_at(Question::Body, at, body_length == bytes)
+    questions::ask_at(Question::Fits, at, body_length <= left - HEADER_BYTES)?;
+    questions::ask_at(Question::Kind, at, u16::read(s, at + 4) == kind as u16)?;
+    questions::ask_at(Question::Body, at, body_length == bytes)
 }
 
 // The body length that the counts call for.
@@ -126,7 +128,7 @@ fn body_bytes(counts: Counts, kind: Kind) -> usize
         Kind::Positions | Kind::Normals => POINT_BYTES * points,
         Kind::Halfedges => HALFEDGE_BYTES * halfedges,
         Kind::Tangents => TANGENT_BYTES * halfedges,
-        Kind::Flags => halfedges,
+        Kind::Fixed => halfedges,
     }
 }
 
@@ -141,7 +143,7 @@ fn body_at(counts: Counts, kind: Kind) -> usize
     at
 }
 
-// The records after the counts: spreading has point normals and flags too.
+// The records after the counts: spreading has point normals and fixed halfedges too.
 fn bodies(operation: Operation) -> &'static [Kind]
     ensures { result.now ≡ bodies operation }
 {
@@ -163,11 +165,11 @@ fn check_bodies(s: &[u8], kinds: &[Kind], counts: Counts) -> Result<(), Refusal>
         check_record(s, place, *kind, bytes)?;
         place += HEADER_BYTES + bytes;
     }
-    mesh::ask_at(Question::End, place, place == s.len())
+    questions::ask_at(Question::End, place, place == s.len())
 }
 
-// The records of an input of any length.
-#[tactic(auto, unfolding(crate::specs::Records::check_records))]
+// The records of an input that is not too long.
+#[tactic(auto, using(crate::proofs::Parse::within, crate::proofs::Parse::known), unfolding(crate::specs::Records::check_records))]
 fn parse_records(s: &[u8]) -> Result<Input, Refusal>
     ensures { result ≡ answer_of (check_records s.now) (input_in s.now) }
 {
@@ -182,16 +184,16 @@ fn parse_records(s: &[u8]) -> Result<Input, Refusal>
     Ok(Input { operation, counts })
 }
 
-// The program's input.
+// An input of any length.
 #[tactic(auto, unfolding(crate::specs::Records::parse_input, crate::specs::Records::check_input))]
 fn parse_input(s: &[u8]) -> Result<Input, Refusal>
     ensures { result ≡ parse_input s.now }
 {
-    mesh::ask_at(Question::Fits, 0, s.len() <= MAX_INPUT)?;
+    questions::ask_at(Question::Fits, 0, s.len() <= MAX_INPUT)?;
     parse_records(s)
 }
 
-// So many, if the operation is spreading, which alone has point normals and flags.
+// So many, if the operation is spreading, which alone has point normals and fixed halfedges.
 fn if_spread(operation: Operation, count: usize) -> usize
     ensures { result ≡ if_spread operation count }
 {
@@ -203,8 +205,8 @@ fn if_spread(operation: Operation, count: usize) -> usize
 
 // Have lists of these lengths room for the numbers?
 #[tactic(auto, unfolding(crate::specs::Lists::has_room))]
-fn has_room(input: Input, pos: usize, h: usize, t: usize, vn: usize, flags: usize) -> bool
-    ensures { result ≡ has_room input.operation input.counts.points input.counts.halfedges pos h t vn flags }
+fn has_room(input: Input, pos: usize, h: usize, t: usize, normals: usize, fixed: usize) -> bool
+    ensures { result ≡ has_room input.operation input.counts.points input.counts.halfedges pos h t normals fixed }
 {
     let points = usize::from(input.counts.points);
     let halfedges = usize::from(input.counts.halfedges);
@@ -212,8 +214,8 @@ fn has_room(input: Input, pos: usize, h: usize, t: usize, vn: usize, flags: usiz
     (3 * points <= pos)
         & (mesh::HALFEDGE_STRIDE * halfedges <= h)
         & (4 * halfedges <= t)
-        & (if_spread(input.operation, 3 * points) <= vn)
-        & (if_spread(input.operation, halfedges) <= flags)
+        & (if_spread(input.operation, 3 * points) <= normals)
+        & (if_spread(input.operation, halfedges) <= fixed)
 }
 
 // The positions, the halfedges and the tangents.
@@ -236,19 +238,19 @@ fn fill_mesh(s: &[u8], counts: Counts, pos: &mut [f64], h: &mut [i32], t: &mut [
     little_endian::fill(s, body_at(counts, Kind::Tangents), 4 * halfedges, t);
 }
 
-// The point normals and the flags.
-fn fill_spread(s: &[u8], counts: Counts, vn: &mut [f64], flags: &mut [u8])
-    requires { SpreadRoom counts.points counts.halfedges (length s.now) (length vn.old) (length flags.old) }
-    ensures { (vn.new ≡ filled (f64_item s.now (body_at counts.points counts.halfedges Kind.Normals)) (3 * counts.points) vn.old)
-        × (flags.new ≡ filled (byte_item s.now (body_at counts.points counts.halfedges Kind.Flags)) counts.halfedges flags.old) }
+// The point normals and the fixed halfedges.
+fn fill_spread(s: &[u8], counts: Counts, normals: &mut [f64], fixed: &mut [u8])
+    requires { SpreadRoom counts.points counts.halfedges (length s.now) (length normals.old) (length fixed.old) }
+    ensures { (normals.new ≡ filled (f64_item s.now (body_at counts.points counts.halfedges Kind.Normals)) (3 * counts.points) normals.old)
+        × (fixed.new ≡ filled (byte_item s.now (body_at counts.points counts.halfedges Kind.Fixed)) counts.halfedges fixed.old) }
 {
     let points = usize::from(counts.points);
     let halfedges = usize::from(counts.halfedges);
-    little_endian::fill(s, body_at(counts, Kind::Normals), 3 * points, vn);
-    little_endian::fill(s, body_at(counts, Kind::Flags), halfedges, flags);
+    little_endian::fill(s, body_at(counts, Kind::Normals), 3 * points, normals);
+    little_endian::fill(s, body_at(counts, Kind::Fixed), halfedges, fixed);
 }
 
-// Reads the program's input into lent lists: positions, halfedges, tangents, point normals, flags. A refusal writes
+// Reads an input into lent lists: positions, halfedges, tangents, point normals, fixed halfedges. A refusal writes
 // nothing, and places past the numbers stay as lent. The lists are parameters: with a struct that lends them each clause
 // would read `lists.entry.pos.now` for `pos.old`.
 pub fn read_input(
@@ -256,20 +258,27 @@ pub fn read_input(
     pos: &mut [f64],
     h: &mut [i32],
     t: &mut [f64],
-    vn: &mut [f64],
-    flags: &mut [u8],
+    normals: &mut [f64],
+    fixed: &mut [u8],
 ) -> Result<Input, Refusal>
-    ensures answer { result ≡ read_answer input.now (lists_of h.old pos.old vn.old flags.old t.old) }
-    ensures lists { lists_of h.new pos.new vn.new flags.new t.new
-        ≡ read_lists result input.now (lists_of h.old pos.old vn.old flags.old t.old) }
-    ensures values { Values (check_reading input.now (lists_of h.old pos.old vn.old flags.old t.old)) input.now result }
+    ensures answer { result ≡ read_answer input.now (lists_of h.old pos.old normals.old fixed.old t.old) }
+    ensures lists { lists_of h.new pos.new normals.new fixed.new t.new
+        ≡ read_lists result input.now (lists_of h.old pos.old normals.old fixed.old t.old) }
+    ensures values { Values (check_reading input.now (lists_of h.old pos.old normals.old fixed.old t.old)) input.now result }
 {
     let parsed = parse_input(input)?;
-    let room = has_room(parsed, pos.len(), h.len(), t.len(), vn.len(), flags.len());
-    mesh::ask_at(Question::Lengths, 0, room)?;
+    let room = has_room(
+        parsed,
+        pos.len(),
+        h.len(),
+        t.len(),
+        normals.len(),
+        fixed.len(),
+    );
+    questions::ask_at(Question::Lengths, 0, room)?;
     fill_mesh(input, parsed.counts, pos, h, t);
     match parsed.operation {
-        Operation::Spread => fill_spread(input, parsed.counts, vn, flags),
+        Operation::Spread => fill_spread(input, parsed.counts, normals, fixed),
         Operation::Straighten | Operation::Check => {}
     }
     Ok(parsed)

@@ -16,13 +16,13 @@ use Rattle.std.proofs.lemmas.Grind.{flat_map-append}
 use Rattle.common.specs.Fold.{fold_to}
 use Rattle.common.specs.Count.{sum, count_below}
 use Rattle.common.proofs.Front.{front_two, range_next}
-use Rattle.linalg.specs.Vec.{dot_of}
+use Rattle.linalg.specs.Vec.{is_zero, dot_of}
 use Rattle.mesh.specs.Mesh.{paired_halfedge, is_forward, Halfedges}
 use Rattle.mesh.specs.Sound.{Sound}
-use Rattle.mesh.specs.Check.{Checked}
-use Rattle.sharpen.specs.Crease.{min_radians, dihedral_of, is_zero, own_normal, other_normal, touches_zero, edge_kind, is_listed}
+use Rattle.questions.specs.Check.{Checked}
+use Rattle.sharpen.specs.Crease.{min_radians, dihedral_of, own_normal, other_normal, touches_zero, edge_kind, is_listed}
 use Rattle.sharpen.specs.Entries.{Entries, entries_in, push_entry, push_edge, list_edge, list_edges}
-use Rattle.sharpen.specs.Sharpen.{check_lists, creases, crease_tally, entries_after}
+use Rattle.sharpen.specs.Sharpen.{check_lists, creases, crease_tally, tally_of, sharpen_edges, entries_after}
 use Rattle.sharpen.specs.Edges.{edge_entries, edges_of, edges_after, HoldEdges, EntriesFiltered}
 use Rattle.sharpen.specs.declared.edge.Rule.{Rule}
 use Rattle.sharpen.specs.declared.edge.Rule.TheVariants.{Ported, Clean}
@@ -156,14 +156,7 @@ module _ (H : Halfedges) (A : List Float) (angle : Float) (n : ℕ) where
     holds_edges : (rule : Rule) (smooth : Float) → HoldEdges H smooth I Q (edges_of rule H A angle n) (creases rule H A angle smooth I Q n)
     holds_edges rule smooth =
         let lists = lists_checked H A I Q n p accepted in
-        rw (edges_are rule) at (edges_held H smooth I Q (is_listed rule H A (min_radians angle)) n lists.halfedges lists.smoothness (entries_room rule A (min_radians angle) lists.sound) n (omega arith))
-
-    -- lists with the entries of the loop, and its tally
-    pub edges_of_call : (rule : Rule) (smooth : Float) {s : Entries} → s ≡ creases rule H A angle smooth I Q n → HoldEdges H smooth I Q (edges_after rule H A angle I Q n p) s
-    edges_of_call rule smooth e = rw (e, accepted) (holds_edges rule smooth)
-
-    pub tally_of_call : {tally : ℕ} → tally ≡ crease_tally H A angle n → tally ≡ length (edges_after Clean H A angle I Q n p)
-    tally_of_call e = rw accepted (e ∙ tally_counts)
+        rw (edges_are rule) at (edges_held H smooth I Q (is_listed rule H A (min_radians angle)) n lists.entries lists.smoothness (entries_room rule A (min_radians angle) lists.sound) n (omega arith))
 
 -- what is in front of the lists
 entries_front : {H : Halfedges} {smooth : Float} {I : List ℕ} {Q : List Float} {edges : List ℕ} {s : Entries} → HoldEdges H smooth I Q edges s → take s.count s.halfedges ≡ entries_of H edges
@@ -171,8 +164,26 @@ entries_front {H} {I = I} {edges = edges} {s = s} h =
     let long : length (entries_of H edges) ≡ s.count = entries_length H edges ∙ sym h.count in
     ap (take s.count) h.halfedges ∙ (rw long at (take-append_seam (entries_of H edges) (drop s.count I)))
 
--- what the clean call leaves in front of its lists
+-- ---- the calls, for any lists
+
 module _ (H : Halfedges) (A : List Float) (angle smooth : Float) (I : List ℕ) (Q : List Float) (n p : ℕ) where
+  -- what either call leaves in the lists
+  pub edges_held_after : (rule : Rule) → HoldEdges H smooth I Q (edges_after rule H A angle I Q n p) (entries_after rule H A angle smooth I Q n p)
+  edges_held_after rule = go (check_lists H A I Q n p) refl
+    where
+      go : (checked : Checked) → check_lists H A I Q n p ≡ checked → HoldEdges H smooth I Q (edges_after rule H A angle I Q n p) (entries_after rule H A angle smooth I Q n p)
+      go (Ok unit) accepted = rw accepted (holds_edges H A angle n I Q p accepted rule smooth)
+      go (Err refusal) refused = rw refused (record { count = refl; halfedges = refl; smoothness = refl })
+
+  -- its tally
+  pub tally_after : (rule : Rule) → tally_of (sharpen_edges rule H A angle smooth I Q n p) ≡ length (edges_after Clean H A angle I Q n p)
+  tally_after rule = go (check_lists H A I Q n p) refl
+    where
+      go : (checked : Checked) → check_lists H A I Q n p ≡ checked → tally_of (sharpen_edges rule H A angle smooth I Q n p) ≡ length (edges_after Clean H A angle I Q n p)
+      go (Ok unit) accepted = rw accepted (tally_counts H A angle n)
+      go (Err refusal) refused = rw refused refl
+
+  -- what the clean call leaves in front of its lists
   clean_entries : EntriesFiltered H A angle smooth I Q n p (entries_after Clean H A angle smooth I Q n p)
   clean_entries = go (check_lists H A I Q n p) refl
     where

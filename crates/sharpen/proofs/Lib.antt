@@ -3,4 +3,4 @@ pub mod Entries
 pub mod Room
 pub mod Edges
 mod Slivers
-mod Values
+mod Outcome

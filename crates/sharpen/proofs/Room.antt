@@ -12,7 +12,7 @@ use Rattle.mesh.specs.Sound.{Sound}
 use Rattle.std.specs.Prelude.{Ok}
 use Rattle.common.specs.Count.{count_below}
 use Rattle.common.proofs.Count.{count_room}
-use Rattle.mesh.proofs.Accepted.{accepted}
+use Rattle.questions.proofs.Accepted.{accepted}
 use Rattle.mesh.proofs.Pairs.{one_forward, paired_injective}
 use Rattle.sharpen.specs.Crease.{edge_kind, is_listed}
 use Rattle.sharpen.specs.Turn.{listed_by, EdgeFits}
@@ -41,8 +41,8 @@ module _ {H : Halfedges} {n p : ℕ} (rule : Rule) (A : List Float) (limit : Flo
 pub record Lists (H : Halfedges) (A : List Float) (E : List ℕ) (S : List Float) (n p : ℕ) : Type 0 where
   pub sound : Sound H n p
   pub whole : H.numbers ≡ n * halfedge_stride
-  pub normals : length A ≡ n
-  pub halfedges : length E ≡ n
+  pub face_normals : length A ≡ n
+  pub entries : length E ≡ n
   pub smoothness : length S ≡ n
 
 module _ (H : Halfedges) (A : List Float) (E : List ℕ) (S : List Float) (n p : ℕ) where
@@ -52,8 +52,8 @@ module _ (H : Halfedges) (A : List Float) (E : List ℕ) (S : List Float) (n p :
       record {
         sound = b.1;
         whole = grind (arith, common_steps);
-        normals = grind (arith, common_steps, b.1.triangles);
-        halfedges = grind (arith, common_steps);
+        face_normals = grind (arith, common_steps, b.1.triangles);
+        entries = grind (arith, common_steps);
         smoothness = grind (arith, common_steps);
       }
 
@@ -61,6 +61,6 @@ module _ (H : Halfedges) (A : List Float) (E : List ℕ) (S : List Float) (n p :
 pub edge_fits : (lists : CreaseLists) (e : ℕ) → e < lists.n → {k : ℕ} {E : List ℕ} {S : List Float} → k ≡ 2 * count_below (listed_by lists.rule lists) e → length E ≡ lists.n → length S ≡ lists.n → EdgeFits lists e k E S
 edge_fits lists e h q le ls = record {
   below = h;
-  halfedges = λ crease. omega (arith, entries_room lists.rule lists.normals.now lists.limit lists.sound e h crease);
-  smoothness = λ crease. omega (arith, entries_room lists.rule lists.normals.now lists.limit lists.sound e h crease);
+  entries = λ crease. omega (arith, entries_room lists.rule lists.face_normals.now lists.limit lists.sound e h crease);
+  smoothness = λ crease. omega (arith, entries_room lists.rule lists.face_normals.now lists.limit lists.sound e h crease);
 }

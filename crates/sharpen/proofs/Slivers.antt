@@ -16,10 +16,10 @@ use Rattle.float.specs.Ops.{zero as zero_float}
 use Rattle.float.specs.F64.{clamp_of}
 use Rattle.math.specs.Kernels.{abs_high_word}
 use Rattle.math.specs.Acos.{acos_beyond, acos_of}
-use Rattle.linalg.specs.Vec.{dot_of}
+use Rattle.linalg.specs.Vec.{is_zero, dot_of}
 use Rattle.linalg.specs.declared.Vec3.{Vec3}
 use Rattle.mesh.specs.Mesh.{is_forward, Halfedges}
-use Rattle.sharpen.specs.Crease.{dihedral_of, is_zero, own_normal, other_normal, edge_kind}
+use Rattle.sharpen.specs.Crease.{dihedral_of, own_normal, other_normal, edge_kind}
 use Rattle.sharpen.specs.declared.edge.EdgeKind.TheVariants.{Crease}
 
 -- zero of either sign, or not a number

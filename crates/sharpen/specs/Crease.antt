@@ -1,10 +1,10 @@
--- The rule for one edge: that of `sharpen_edges` of src/smoothing_tangents.rs, and what request 6 of document 02 adds. H are the halfedges, A the face normals.
+-- The rule for one edge: that of `sharpen_edges` of src/smoothing_tangents.rs, and what the clean listing adds (docs/changes/06-clean-listing.md). H are the halfedges, A the face normals.
 use Rattle.std.specs.Prelude.{ℕ, ◌/◌, List, Bool, true, false, cond, ◌&&◌, ◌||◌, Float}
-use Rattle.std.specs.Float.Ieee.{eq, lt, neg}
-use Rattle.float.specs.Ops.{lit, zero, one}
+use Rattle.std.specs.Float.Ieee.{lt, neg}
+use Rattle.float.specs.Ops.{lit, one}
 use Rattle.float.specs.F64.{max_of, clamp_of}
 use Rattle.math.specs.Acos.{acos_of}
-use Rattle.linalg.specs.Vec.{dot_of}
+use Rattle.linalg.specs.Vec.{is_zero, dot_of}
 use Rattle.linalg.specs.declared.Vec3.{Vec3}
 use Rattle.mesh.specs.Mesh.{paired_halfedge, is_forward, Halfedges}
 use Rattle.mesh.specs.Scalar.{radians_of}
@@ -22,10 +22,6 @@ min_radians angle = radians_of (max_of angle (lit 0x3f1a_36e2_eb1c_432d))
 unfoldable pub dihedral_of : Float → Float
 dihedral_of d = acos_of (clamp_of d (neg one) one)
 
--- "an all-zero face normal (either sign of zero)"
-unfoldable pub is_zero : Vec3 → Bool
-is_zero a = eq a.x zero && eq a.y zero && eq a.z zero
-
 -- the face normals of the two triangles at halfedge e: its own, and its pair's
 abbrev pub own_normal : List Float → ℕ → Vec3
 own_normal A e = point_at A (e / 3)
@@ -33,7 +29,7 @@ own_normal A e = point_at A (e / 3)
 abbrev pub other_normal : Halfedges → List Float → ℕ → Vec3
 other_normal H A e = point_at A (paired_halfedge H e / 3)
 
--- does the edge of halfedge e touch such a normal?
+-- does the edge of halfedge e touch "an all-zero face normal (either sign of zero)"?
 abbrev pub touches_zero : Halfedges → List Float → ℕ → Bool
 touches_zero H A e = is_zero (own_normal A e) || is_zero (other_normal H A e)
 

@@ -1,17 +1,17 @@
 -- Both crease listings as public calls: the questions, the answer, and the lists after it. Each definition is handed the rule: `Ported` for `sharpen_edges`, `Clean` for `sharpen_edges_clean`. H are the halfedges, A the face normals, I and Q the two lent lists, n and p the counts.
-use Rattle.std.specs.Prelude.{ℕ, ◌*◌, ◌/◌, ◌≡◌, List, Bool, ◌&&◌, length, Float, Result, Ok, Err}
+use Rattle.std.specs.Prelude.{ℕ, ◌*◌, ◌/◌, ◌≡◌, List, Bool, ◌&&◌, length, Float, Result}
 use Rattle.common.specs.Count.{count_below}
 use Rattle.mesh.specs.Mesh.{halfedge_stride, Halfedges}
-use Rattle.mesh.specs.Questions.{has_length}
-use Rattle.mesh.specs.Check.{Checked, number_of, place_of, check_mesh, answer_of, when_accepted}
-use Rattle.mesh.specs.declared.Refusal.{Refusal}
+use Rattle.questions.specs.Questions.{has_length}
+use Rattle.questions.specs.Check.{Checked, number_of, place_of, value_or, check_mesh, answer_of, when_accepted}
+use Rattle.questions.specs.declared.Refusal.{Refusal}
 use Rattle.sharpen.specs.Crease.{min_radians, is_listed}
 use Rattle.sharpen.specs.Entries.{Entries, entries_in, list_edges}
 use Rattle.sharpen.specs.declared.Listed.{Listed}
 use Rattle.sharpen.specs.declared.edge.Rule.{Rule}
 use Rattle.sharpen.specs.declared.edge.Rule.TheVariants.{Clean}
 
--- ---- document 01's values of an answer
+-- ---- the values of an answer
 
 -- what was listed, or the refusal
 abbrev pub Listing : Type 0
@@ -19,12 +19,10 @@ Listing = Result Listed Refusal
 
 -- the number of entries, and the crease tally; 0 for a refusal, which lists nothing
 abbrev pub entries_of : Listing → ℕ
-entries_of (Ok listed) = listed.entries
-entries_of (Err refusal) = 0
+entries_of = value_or 0 (λ (listed : Listed). listed.entries)
 
 abbrev pub tally_of : Listing → ℕ
-tally_of (Ok listed) = listed.tally
-tally_of (Err refusal) = 0
+tally_of = value_or 0 (λ (listed : Listed). listed.tally)
 
 -- ---- the questions
 

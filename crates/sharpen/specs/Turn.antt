@@ -8,14 +8,14 @@ use Rattle.sharpen.specs.declared.crease_lists.CreaseLists.{CreaseLists}
 
 -- what the edge of halfedge e is
 abbrev pub kind_of : CreaseLists → ℕ → EdgeKind
-kind_of lists e = edge_kind (as_halfedges lists.h.now) lists.normals.now lists.limit e
+kind_of lists e = edge_kind (as_halfedges lists.h.now) lists.face_normals.now lists.limit e
 
 -- is it listed by the rule?
 abbrev pub listed_by : Rule → CreaseLists → ℕ → Bool
-listed_by rule lists = is_listed rule (as_halfedges lists.h.now) lists.normals.now lists.limit
+listed_by rule lists = is_listed rule (as_halfedges lists.h.now) lists.face_normals.now lists.limit
 
 -- what one turn of the loop needs at halfedge e, after k entries: room for two entries more where its edge is listed
 pub record EdgeFits (lists : CreaseLists) (e k : ℕ) (I : List ℕ) (Q : List Float) : Type 0 where
   pub below : e < lists.n
-  pub halfedges : listed_by lists.rule lists e ≡ true → k + 2 ≤ length I
+  pub entries : listed_by lists.rule lists e ≡ true → k + 2 ≤ length I
   pub smoothness : listed_by lists.rule lists e ≡ true → k + 2 ≤ length Q

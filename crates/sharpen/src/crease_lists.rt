@@ -14,11 +14,11 @@ pub struct CreaseLists<'a> {
     pub n: usize,
     pub p: usize,
     pub h: &'a [i32],
-    pub normals: &'a [f64],
+    pub face_normals: &'a [f64],
     pub limit: f64,
     pub smooth: f64,
     pub rule: Rule,
     pub ghost sound: { Sound (as_halfedges h.now) n p },
     pub ghost whole: { (as_halfedges h.now).numbers ≡ n * halfedge_stride },
-    pub ghost triangle_normals: { length normals.now ≡ n },
+    pub ghost triangle_normals: { length face_normals.now ≡ n },
 }

@@ -1,11 +1,10 @@
 // The rule for one edge, from which both listings and the tally follow.
 
 ghost use Rattle.std.specs.Prelude.{◌≡◌, ◌<◌};
-ghost use Rattle.sharpen.specs.Crease.{min_radians, dihedral_of, is_zero, is_crease};
+ghost use Rattle.sharpen.specs.Crease.{min_radians, dihedral_of, is_crease};
 ghost use Rattle.sharpen.specs.Turn.{kind_of};
 
 use crate::crease_lists::CreaseLists;
-use linalg::Vec3;
 
 // What an edge is: no crease, a crease, or a crease only by a sliver: a triangle at it has the face normal zero.
 #[derive(Clone, Copy)]
@@ -15,7 +14,7 @@ pub enum EdgeKind {
     SliverCrease,
 }
 
-// By which rule an edge is a crease: the Rust's, or the clean one of document 02's request 6.
+// By which rule an edge is a crease: the Rust's, or the clean one (docs/changes/06-clean-listing.md).
 #[derive(Clone, Copy)]
 pub enum Rule {
     Ported,
@@ -38,14 +37,6 @@ fn dihedral(d: f64) -> f64
     math::acos(float::clamp(d, -1.0, 1.0))
 }
 
-// Is each number of a face normal zero, of either sign?
-#[tactic(auto, unfolding(crate::specs::Crease::is_zero))]
-fn is_zero(a: Vec3) -> bool
-    ensures { result ≡ is_zero a }
-{
-    (a.x == 0.0) & (a.y == 0.0) & (a.z == 0.0)
-}
-
 // What the edge of halfedge e is. Of its two halfedges the forward one stands for it, and the other for no crease.
 #[tactic(auto, using(crate::proofs::Slivers::crease_alone), unfolding(crate::specs::Crease::edge_kind))]
 pub fn edge_kind(lists: &CreaseLists<'_>, e: usize) -> EdgeKind
@@ -56,13 +47,13 @@ pub fn edge_kind(lists: &CreaseLists<'_>, e: usize) -> EdgeKind
         return EdgeKind::NoCrease;
     }
     let pair = mesh::paired_halfedge(lists.h, e);
-    let own = smoothing::point_at(lists.normals, e / 3);
-    let other = smoothing::point_at(lists.normals, pair / 3);
+    let own = smoothing::point_at(lists.face_normals, e / 3);
+    let other = smoothing::point_at(lists.face_normals, pair / 3);
     let d = linalg::dot(own, other);
     if dihedral(d) > lists.limit {
         // A crease that touches a zero normal has the dot product zero.
         if d == 0.0 {
-            if is_zero(own) | is_zero(other) {
+            if linalg::is_zero(own) | linalg::is_zero(other) {
                 return EdgeKind::SliverCrease;
             }
         }

@@ -1,25 +1,27 @@
-// The crease listings: `sharpen_edges` of src/smoothing_tangents.rs over lent lists, and the clean one of document 02's request 6.
+// The crease listings: `sharpen_edges` of src/smoothing_tangents.rs over lent lists, and the clean one (docs/changes/06-clean-listing.md).
 // `edge` has the rule for one edge; what lists an edge stands apart from it.
 // Each function asks for its own place (`e < n`, room for two entries more): the place differs from call to call, so no struct of
 // the lists can hold it. The two lists that are written stay parameters, with the number of their entries: the C interface lends
-// them flat, and of a struct that lends them a clause would say `entries.new.halfedges.now` for `halfedges.new`.
+// them flat, and of a struct that lends them a clause would say `lists.new.entries.now` for `entries.new`.
 #![tactic(auto)]
 
-ghost use Rattle.std.specs.Prelude.{◌≡◌, ◌+◌, ◌≤◌, ◌<◌, length, cond};
+ghost use Rattle.std.specs.Prelude.{◌≡◌, ℕ, List, Float, ◌+◌, ◌≤◌, ◌<◌, length, cond};
 ghost use Rattle.common.specs.Count.{count_below};
 ghost use Rattle.mesh.specs.Mesh.{as_halfedges};
+ghost use Rattle.mesh.specs.Rows.{RowsUnread};
+ghost use Rattle.sharpen.specs.declared.edge.Rule.{Rule};
 ghost use Rattle.sharpen.specs.declared.edge.Rule.TheVariants.{Ported, Clean};
 ghost use Rattle.sharpen.specs.Entries.{entries_in, push_edge, list_edge, list_edges};
 ghost use Rattle.sharpen.specs.Turn.{listed_by, EdgeFits};
-ghost use Rattle.sharpen.specs.Sharpen.{entries_of, tally_of, lengths_fit, sharpen_edges, entries_after, Values};
-ghost use Rattle.sharpen.specs.Edges.{HoldEdges, EntriesFiltered, edges_after};
+ghost use Rattle.sharpen.specs.Sharpen.{entries_of, tally_of, lengths_fit, sharpen_edges, entries_after};
+ghost use Rattle.sharpen.specs.Edges.{EntriesFiltered, Outcome};
 
 mod crease_lists;
 mod edge;
 
 use crease_lists::CreaseLists;
 use edge::{Rule, edge_kind, is_crease, min_radians};
-use mesh::Refusal;
+use questions::Refusal;
 
 // How many entries the lists have, and the crease tally: how many edges the clean listing names.
 #[derive(Clone, Copy)]
@@ -28,8 +30,8 @@ pub struct Listed {
     pub tally: usize,
 }
 
-// How many entries the lists have; 0 where the call is refused. Here and below there is one function for each value of an answer, as
-// document 01 names each.
+// How many entries the lists have; 0 where the call is refused. Here and below there is one function for each value of an
+// answer.
 pub fn entries_of(listing: Result<Listed, Refusal>) -> usize
     ensures { result ≡ entries_of listing }
 {
@@ -48,19 +50,19 @@ pub fn tally_of(listing: Result<Listed, Refusal>) -> usize
 fn push_edge(
     lists: &CreaseLists<'_>,
     e: usize,
-    entries: usize,
-    halfedges: &mut [usize],
+    count: usize,
+    entries: &mut [usize],
     smoothness: &mut [f64],
 ) -> usize
-    requires { (e < lists.now.n) × (entries + 2 ≤ length halfedges.old) × (entries + 2 ≤ length smoothness.old) }
-    ensures { entries_in halfedges.new smoothness.new result ≡ push_edge (as_halfedges lists.now.h.now) lists.now.smooth (entries_in halfedges.old smoothness.old entries) e }
+    requires { (e < lists.now.n) × (count + 2 ≤ length entries.old) × (count + 2 ≤ length smoothness.old) }
+    ensures { entries_in entries.new smoothness.new result ≡ push_edge (as_halfedges lists.now.h.now) lists.now.smooth (entries_in entries.old smoothness.old count) e }
 {
     let pair = mesh::paired_halfedge(lists.h, e);
-    halfedges[entries] = e;
-    smoothness[entries] = lists.smooth;
-    halfedges[entries + 1] = pair;
-    smoothness[entries + 1] = lists.smooth;
-    entries + 2
+    entries[count] = e;
+    smoothness[count] = lists.smooth;
+    entries[count + 1] = pair;
+    smoothness[count + 1] = lists.smooth;
+    count + 2
 }
 
 // One turn of the loop: halfedge e, after what was listed before it.
@@ -69,12 +71,12 @@ fn list_edge(
     lists: &CreaseLists<'_>,
     e: usize,
     listed: Listed,
-    halfedges: &mut [usize],
+    entries: &mut [usize],
     smoothness: &mut [f64],
 ) -> Listed
-    requires fits { EdgeFits lists.now e listed.entries halfedges.old smoothness.old }
+    requires fits { EdgeFits lists.now e listed.entries entries.old smoothness.old }
     requires below { listed.tally < lists.now.n }
-    ensures entries { entries_in halfedges.new smoothness.new result.entries ≡ list_edge (as_halfedges lists.now.h.now) (listed_by lists.now.rule lists.now) lists.now.smooth (entries_in halfedges.old smoothness.old listed.entries) e }
+    ensures entries { entries_in entries.new smoothness.new result.entries ≡ list_edge (as_halfedges lists.now.h.now) (listed_by lists.now.rule lists.now) lists.now.smooth (entries_in entries.old smoothness.old listed.entries) e }
     ensures tally { result.tally ≡ listed.tally + cond (listed_by Clean lists.now e) 1 0 }
 {
     let kind = edge_kind(lists, e);
@@ -82,15 +84,18 @@ fn list_edge(
         return listed;
     }
     let tally = listed.tally + usize::from(is_crease(Rule::Clean, kind));
-    let entries = push_edge(lists, e, listed.entries, halfedges, smoothness);
-    Listed { entries, tally }
+    let count = push_edge(lists, e, listed.entries, entries, smoothness);
+    Listed {
+        entries: count,
+        tally,
+    }
 }
 
 // The loop over the halfedges; what it lists.
 #[tactic(auto, using(common::proofs::Fold::fold_none, common::proofs::Fold::fold_turn, common::proofs::Count::count_start, common::proofs::Sums::sum_turn), unfolding(common::specs::Count::count_below))]
-fn list_edges(lists: &CreaseLists<'_>, halfedges: &mut [usize], smoothness: &mut [f64]) -> Listed
-    requires { (length halfedges.old ≡ lists.now.n) × (length smoothness.old ≡ lists.now.n) }
-    ensures entries { entries_in halfedges.new smoothness.new result.entries ≡ list_edges (as_halfedges lists.now.h.now) (listed_by lists.now.rule lists.now) lists.now.smooth (entries_in halfedges.old smoothness.old 0) lists.now.n }
+fn list_edges(lists: &CreaseLists<'_>, entries: &mut [usize], smoothness: &mut [f64]) -> Listed
+    requires { (length entries.old ≡ lists.now.n) × (length smoothness.old ≡ lists.now.n) }
+    ensures entries { entries_in entries.new smoothness.new result.entries ≡ list_edges (as_halfedges lists.now.h.now) (listed_by lists.now.rule lists.now) lists.now.smooth (entries_in entries.old smoothness.old 0) lists.now.n }
     ensures tally { result.tally ≡ count_below (listed_by Clean lists.now) lists.now.n }
 {
     let mut listed = Listed {
@@ -98,7 +103,7 @@ fn list_edges(lists: &CreaseLists<'_>, halfedges: &mut [usize], smoothness: &mut
         tally: 0,
     };
     for e in 0..lists.n {
-        listed = list_edge(lists, e, listed, halfedges, smoothness);
+        listed = list_edge(lists, e, listed, entries, smoothness);
     }
     listed
 }
@@ -108,86 +113,82 @@ fn list_edges(lists: &CreaseLists<'_>, halfedges: &mut [usize], smoothness: &mut
 fn lengths_fit(
     n: usize,
     h: &[i32],
-    normals: &[f64],
-    halfedges: &[usize],
+    face_normals: &[f64],
+    entries: &[usize],
     smoothness: &[f64],
 ) -> bool
-    ensures { result ≡ lengths_fit (as_halfedges h.now) normals.now halfedges.now smoothness.now n }
+    ensures { result ≡ lengths_fit (as_halfedges h.now) face_normals.now entries.now smoothness.now n }
 {
-    mesh::has_length(h.len(), n, mesh::HALFEDGE_STRIDE)
-        & mesh::has_length(normals.len(), n / 3, 3)
-        & (mesh::has_length(halfedges.len(), n, 1) & mesh::has_length(smoothness.len(), n, 1))
+    questions::has_length(h.len(), n, mesh::HALFEDGE_STRIDE)
+        & questions::has_length(face_normals.len(), n / 3, 3)
+        & (questions::has_length(entries.len(), n, 1)
+            & questions::has_length(smoothness.len(), n, 1))
 }
 
 // The listing by a rule: what both calls do.
-#[tactic(auto, using(crate::proofs::Room::lists_checked, crate::proofs::Values::values_of, crate::proofs::Values::parts_of))]
+#[tactic(auto, using(crate::proofs::Room::lists_checked, crate::proofs::Outcome::outcome_refused))]
 fn sharpen_by(
     rule: Rule,
     n: usize,
     p: usize,
     h: &[i32],
-    normals: &[f64],
+    face_normals: &[f64],
     angle: f64,
     smooth: f64,
-    halfedges: &mut [usize],
+    entries: &mut [usize],
     smoothness: &mut [f64],
 ) -> Result<Listed, Refusal>
-    ensures answer { result ≡ sharpen_edges rule (as_halfedges h.now) normals.now angle smooth halfedges.old smoothness.old n p }
-    ensures listed { halfedges.new ≡ (entries_after rule (as_halfedges h.now) normals.now angle smooth halfedges.old smoothness.old n p).halfedges }
-    ensures copied { smoothness.new ≡ (entries_after rule (as_halfedges h.now) normals.now angle smooth halfedges.old smoothness.old n p).smoothness }
-    ensures values { Values rule (as_halfedges h.now) normals.now angle smooth halfedges.old smoothness.old n p result }
-    ensures edges { HoldEdges (as_halfedges h.now) smooth halfedges.old smoothness.old (edges_after rule (as_halfedges h.now) normals.now angle halfedges.old smoothness.old n p) (entries_in halfedges.new smoothness.new (entries_of result)) }
-    ensures counted { tally_of result ≡ length (edges_after Clean (as_halfedges h.now) normals.now angle halfedges.old smoothness.old n p) }
+    ensures outcome { Outcome rule (as_halfedges h.now) face_normals.now angle smooth entries.old smoothness.old n p entries.new smoothness.new result }
 {
-    let checked = mesh::check_mesh(h, n, p, lengths_fit(n, h, normals, halfedges, smoothness));
-    // Document 01's form by place: the check's answer is opened by `let .. else`.
+    let checked = questions::check_mesh(
+        h,
+        n,
+        p,
+        lengths_fit(n, h, face_normals, entries, smoothness),
+    );
+    // The check's answer is opened by `let .. else`.
     let Ok(()) = checked else {
-        return mesh::refused(checked);
+        return questions::refused(checked);
     };
     let limit = min_radians(angle);
     let lists = CreaseLists {
         n,
         p,
         h,
-        normals,
+        face_normals,
         limit,
         smooth,
         rule,
     };
-    Ok(list_edges(&lists, halfedges, smoothness))
+    Ok(list_edges(&lists, entries, smoothness))
 }
 
 // The edges at which the two triangles' normals make an angle above `angle` (the Rust's `min_sharp_angle`, in degrees):
 // each with its forward halfedge first, both with the smoothness `smooth` (the Rust's `min_smoothness`, copied
-// unchecked). `normals` has three numbers for each triangle; `halfedges` and `smoothness` take the entries, and have a
+// unchecked). `face_normals` has three numbers for each triangle; `entries` and `smoothness` take the entries, and have a
 // place for each halfedge.
 // The signature stays flat, as the C interface lends: counts, lists read, lists written, scratch.
 pub fn sharpen_edges(
     n: usize,
     p: usize,
     h: &[i32],
-    normals: &[f64],
+    face_normals: &[f64],
     angle: f64,
     smooth: f64,
-    halfedges: &mut [usize],
+    entries: &mut [usize],
     smoothness: &mut [f64],
 ) -> Result<Listed, Refusal>
-    ensures answer { result ≡ sharpen_edges Ported (as_halfedges h.now) normals.now angle smooth halfedges.old smoothness.old n p }
-    ensures listed { halfedges.new ≡ (entries_after Ported (as_halfedges h.now) normals.now angle smooth halfedges.old smoothness.old n p).halfedges }
-    ensures copied { smoothness.new ≡ (entries_after Ported (as_halfedges h.now) normals.now angle smooth halfedges.old smoothness.old n p).smoothness }
-    ensures values { Values Ported (as_halfedges h.now) normals.now angle smooth halfedges.old smoothness.old n p result }
-    ensures edges { HoldEdges (as_halfedges h.now) smooth halfedges.old smoothness.old (edges_after Ported (as_halfedges h.now) normals.now angle halfedges.old smoothness.old n p) (entries_in halfedges.new smoothness.new (entries_of result)) }
-    ensures counted { tally_of result ≡ length (edges_after Clean (as_halfedges h.now) normals.now angle halfedges.old smoothness.old n p) }
+    ensures outcome { Outcome Ported (as_halfedges h.now) face_normals.now angle smooth entries.old smoothness.old n p entries.new smoothness.new result }
 {
     sharpen_by(
         Rule::Ported,
         n,
         p,
         h,
-        normals,
+        face_normals,
         angle,
         smooth,
-        halfedges,
+        entries,
         smoothness,
     )
 }
@@ -197,29 +198,31 @@ pub fn sharpen_edges_clean(
     n: usize,
     p: usize,
     h: &[i32],
-    normals: &[f64],
+    face_normals: &[f64],
     angle: f64,
     smooth: f64,
-    halfedges: &mut [usize],
+    entries: &mut [usize],
     smoothness: &mut [f64],
 ) -> Result<Listed, Refusal>
-    ensures answer { result ≡ sharpen_edges Clean (as_halfedges h.now) normals.now angle smooth halfedges.old smoothness.old n p }
-    ensures listed { halfedges.new ≡ (entries_after Clean (as_halfedges h.now) normals.now angle smooth halfedges.old smoothness.old n p).halfedges }
-    ensures copied { smoothness.new ≡ (entries_after Clean (as_halfedges h.now) normals.now angle smooth halfedges.old smoothness.old n p).smoothness }
-    ensures values { Values Clean (as_halfedges h.now) normals.now angle smooth halfedges.old smoothness.old n p result }
-    ensures edges { HoldEdges (as_halfedges h.now) smooth halfedges.old smoothness.old (edges_after Clean (as_halfedges h.now) normals.now angle halfedges.old smoothness.old n p) (entries_in halfedges.new smoothness.new (entries_of result)) }
-    ensures counted { tally_of result ≡ length (edges_after Clean (as_halfedges h.now) normals.now angle halfedges.old smoothness.old n p) }
-    ensures filtered { EntriesFiltered (as_halfedges h.now) normals.now angle smooth halfedges.old smoothness.old n p (entries_in halfedges.new smoothness.new (entries_of result)) }
+    ensures outcome { Outcome Clean (as_halfedges h.now) face_normals.now angle smooth entries.old smoothness.old n p entries.new smoothness.new result }
+    ensures filtered { EntriesFiltered (as_halfedges h.now) face_normals.now angle smooth entries.old smoothness.old n p (entries_in entries.new smoothness.new (entries_of result)) }
 {
     sharpen_by(
         Rule::Clean,
         n,
         p,
         h,
-        normals,
+        face_normals,
         angle,
         smooth,
-        halfedges,
+        entries,
         smoothness,
     )
 }
+
+// Law: both listings carry the rows of the halfedges unread (`RowsUnread`, crates/mesh/specs/Rows.antt).
+#[tactic(auto, using(mesh::proofs::Rows::rows_unread))]
+pub fn rows_unread()
+    ensures answer { (rule : Rule) (A : List Float) (angle smooth : Float) (I : List ℕ) (Q : List Float) (n p : ℕ) → RowsUnread (λ H. sharpen_edges rule H A angle smooth I Q n p) }
+    ensures entries { (rule : Rule) (A : List Float) (angle smooth : Float) (I : List ℕ) (Q : List Float) (n p : ℕ) → RowsUnread (λ H. entries_after rule H A angle smooth I Q n p) }
+{}

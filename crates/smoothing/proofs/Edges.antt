@@ -9,7 +9,7 @@ use lib.Ieee.{Float}
 use Rattle.mesh.specs.Mesh.{halfedge_stride, paired_halfedge, next_halfedge, Halfedges}
 use Rattle.mesh.specs.Sound.{Sound}
 use Rattle.mesh.proofs.Halfedges.{next_cases, next_below}
-use Rattle.mesh.proofs.Accepted.{inside}
+use Rattle.mesh.proofs.Inside.{inside}
 use Rattle.smoothing.specs.Edges.{EdgeIn, NormalsIn, FacesIn, QuadIn, TriangleIn, InsideQuadIn}
 
 pub edge_in : (H : Halfedges) (n p : ℕ) (P : List Float) → Sound H n p → H.numbers ≡ n * halfedge_stride → length P ≡ p * 3 → (e : ℕ) → e < n → EdgeIn H P e

@@ -6,3 +6,7 @@ mod Floats
 pub mod Inner
 pub mod Pairs
 pub mod Places
+pub mod Lent
+pub mod Flat
+mod Codes
+pub mod VertFaces

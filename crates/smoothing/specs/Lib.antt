@@ -1,5 +1,7 @@
--- The specs of `smoothing`, in the order of reading. `Inner` is for the contracts inside a call.
+-- The specs of `smoothing`, in the order of reading. `Inner` and `Lent` are for the contracts inside a call.
 pub mod Directions
 pub mod Lists
 pub mod Edges
 pub mod Inner
+pub mod Faces
+pub mod Lent

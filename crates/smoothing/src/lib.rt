@@ -3,6 +3,8 @@
 // differs from call to call, so no struct of the lists can hold it.
 #![tactic(auto)]
 
+pub mod faces;
+
 ghost use Rattle.std.specs.Prelude.{◌≡◌, ◌+◌, ◌*◌, ◌≤◌, length};
 ghost use Rattle.mesh.specs.Mesh.{as_halfedges, paired_halfedge};
 ghost use Rattle.mesh.specs.Inside.{Inside};
@@ -413,7 +415,7 @@ fn same_face_across(h: &[i32], refs: &[i32], e: usize, t: usize) -> bool
 }
 
 // Has neither of the other two halfedges of e's triangle its face across?
-#[tactic(auto, using(mesh::proofs::Accepted::inside_list, crate::proofs::Edges::next_at_most), unfolding(crate::specs::Edges::no_other_neighbor))]
+#[tactic(auto, using(mesh::proofs::Inside::inside_list, crate::proofs::Edges::next_at_most), unfolding(crate::specs::Edges::no_other_neighbor))]
 fn no_other_neighbor(h: &[i32], refs: &[i32], e: usize) -> bool
     requires { TriangleIn (as_halfedges h.now) e }
     ensures { result ≡ no_other_neighbor (as_halfedges h.now) refs.now e }

@@ -13,17 +13,17 @@ use lib.ListN.{length}
 use Rattle.std.specs.Prelude.{Ok, Err}
 use Rattle.std.proofs.lemmas.Bool.{ltb-false}
 use Rattle.mesh.specs.Mesh.{max_points}
-use Rattle.mesh.specs.Questions.{number}
-use Rattle.mesh.specs.Check.{Checked, refused, number_of, cond_checked, asked, each, ◌then◌, answer_of}
-use Rattle.mesh.specs.Lowest.{lowest}
-use Rattle.mesh.specs.declared.Question.{Question}
-use Rattle.mesh.specs.declared.Question.TheVariants.{Lengths, Size, Corners, Pairing}
-use Rattle.mesh.proofs.Lowest.{lowest_found, lowest_before}
-use Rattle.mesh.proofs.Accepted.{then_accepted, each_accepted, accepted_each}
-use Rattle.stl_file.specs.File.{length_fits, triangle_count, halfedge_count}
-use Rattle.stl_file.specs.Points.{point_count}
-use Rattle.stl_file.specs.Edges.{same_edge, pair_of, is_paired}
-use Rattle.stl_file.proofs.Edges.{count_other, false_or_true, corners_edge, edge_corners, twice_bad, alone_bad, unpaired, pair_least}
+use Rattle.questions.specs.Questions.{number}
+use Rattle.questions.specs.Check.{Checked, refused, number_of, cond_checked, asked, each, ◌then◌, answer_of}
+use Rattle.common.specs.Lowest.{lowest}
+use Rattle.questions.specs.declared.Question.{Question}
+use Rattle.questions.specs.declared.Question.TheVariants.{Lengths, Size, Corners, Pairing}
+use Rattle.common.proofs.Lowest.{lowest_found, lowest_before}
+use Rattle.questions.proofs.Accepted.{then_accepted, each_accepted, accepted_each}
+use Rattle.stl.specs.File.File.{length_fits, triangle_count, halfedge_count}
+use Rattle.stl.specs.File.Points.{point_count}
+use Rattle.stl.specs.File.Edges.{same_edge, pair_of, is_paired}
+use Rattle.stl.proofs.FileLaws.Edges.{count_other, false_or_true, corners_edge, edge_corners, twice_bad, alone_bad, unpaired, pair_least}
 use Rattle.stl.specs.Questions.{has_room, triangle_fits, check_file, check_stl}
 use Rattle.stl.specs.Stl.{Reading, counts_of, check_lists, read_stl}
 use Rattle.stl.specs.Pairing.{OccursTwice, HasNoReverse, RefusedExactly, PairedExactly}
@@ -95,8 +95,8 @@ module _ (k : ℕ) where
       asked_below true h = h
       asked_below false h = absurd (d h)
 
-module _ (s : List ℕ) (points halfedges normals : ℕ) where
-  last_refused : number_of (check_stl s points halfedges normals) ≡ 32 → each Pairing (is_paired s) (halfedge_count s) ≡ Ok tt → ⊥
+module _ (s : List ℕ) (pos_len h_len face_normals_len : ℕ) where
+  last_refused : number_of (check_stl s pos_len h_len face_normals_len) ≡ 32 → each Pairing (is_paired s) (halfedge_count s) ≡ Ok tt → ⊥
   unfolding check_file
   last_refused e q = first (then_number 32 _ _ e)
     where
@@ -106,19 +106,19 @@ module _ (s : List ℕ) (points halfedges normals : ℕ) where
       fourth : number_of (each Pairing (is_paired s) (halfedge_count s)) ≡ 32 → ⊥
       fourth h = zero_not (sym (ap number_of q) ∙ h)
 
-      third : (number_of (asked Lengths 0 (has_room s points halfedges normals) then each Corners (triangle_fits s) (triangle_count s)) ≡ 32) ⊎ (number_of (asked Size 0 (leb (point_count s) max_points)) ≡ 32) → ⊥
+      third : (number_of (asked Lengths 0 (has_room s pos_len h_len face_normals_len) then each Corners (triangle_fits s) (triangle_count s)) ≡ 32) ⊎ (number_of (asked Size 0 (leb (point_count s) max_points)) ≡ 32) → ⊥
       third (inl h) = pick (then_number 32 _ _ h)
         where
-          pick : (number_of (asked Lengths 0 (has_room s points halfedges normals)) ≡ 32) ⊎ (number_of (each Corners (triangle_fits s) (triangle_count s)) ≡ 32) → ⊥
+          pick : (number_of (asked Lengths 0 (has_room s pos_len h_len face_normals_len)) ≡ 32) ⊎ (number_of (each Corners (triangle_fits s) (triangle_count s)) ≡ 32) → ⊥
           pick (inl a) = let z = asked_number 32 Lengths 0 _ zero_not a in omega arith
           pick (inr a) = let z = each_number 32 Corners _ _ zero_not a in omega arith
       third (inr h) = let z = asked_number 32 Size 0 _ zero_not h in omega arith
 
-      second : (number_of (asked Lengths 0 (has_room s points halfedges normals) then each Corners (triangle_fits s) (triangle_count s) then asked Size 0 (leb (point_count s) max_points)) ≡ 32) ⊎ (number_of (each Pairing (is_paired s) (halfedge_count s)) ≡ 32) → ⊥
+      second : (number_of (asked Lengths 0 (has_room s pos_len h_len face_normals_len) then each Corners (triangle_fits s) (triangle_count s) then asked Size 0 (leb (point_count s) max_points)) ≡ 32) ⊎ (number_of (each Pairing (is_paired s) (halfedge_count s)) ≡ 32) → ⊥
       second (inl h) = third (then_number 32 _ _ h)
       second (inr h) = fourth h
 
-      first : (number_of (asked Size 0 (length_fits s)) ≡ 32) ⊎ (number_of (check_file s (has_room s points halfedges normals)) ≡ 32) → ⊥
+      first : (number_of (asked Size 0 (length_fits s)) ≡ 32) ⊎ (number_of (check_file s (has_room s pos_len h_len face_normals_len)) ≡ 32) → ⊥
       first (inl h) = let z = asked_number 32 Size 0 _ zero_not h in omega arith
       first (inr h) = second (then_number 32 _ _ h)
 

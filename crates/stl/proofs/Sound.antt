@@ -13,19 +13,19 @@ use lib.Dec.{eqb, leb}
 use Rattle.std.specs.Prelude.{Ok}
 use Rattle.std.proofs.lemmas.Bool.{and_parts, and_from, eq-eqb, leb-true, not-true}
 use Rattle.mesh.specs.Mesh.{max_halfedges, max_points, halfedge_stride, number_at, index_of, field, start_vert, end_vert, paired_halfedge, prop_vert, next_halfedge, Halfedges, as_halfedges}
-use Rattle.mesh.specs.Check.{asked, check_mesh, check_rows}
+use Rattle.questions.specs.Check.{asked, check_mesh, check_rows}
 use Rattle.mesh.specs.Sound.{Sound}
-use Rattle.mesh.specs.declared.Question.TheVariants.{Lengths, Size, Corners, Pairing}
-use Rattle.mesh.proofs.Accepted.{then_accepted, asked_accepted, each_accepted, sound_accepted, accepted_rows}
+use Rattle.questions.specs.declared.Question.TheVariants.{Lengths, Size, Corners, Pairing}
+use Rattle.questions.proofs.Accepted.{then_accepted, asked_accepted, each_accepted, sound_accepted, rows_exactly}
 use Rattle.mesh.proofs.Halfedges.{next_below, next_cases}
 use Rattle.little_endian.specs.Filled.{items, filled}
 use Rattle.little_endian.proofs.Filled.{items_length, items_at, filled_items}
-use Rattle.stl_file.specs.File.{length_fits, triangle_count, halfedge_count, corner_at, normal_item}
-use Rattle.stl_file.specs.Points.{same_point, point_of, point_count}
-use Rattle.stl_file.specs.Edges.{pair_of, is_paired}
-use Rattle.stl_file.specs.Lists.{point_item, halfedge_number, halfedge_item}
-use Rattle.stl_file.proofs.Points.{equal_same, same_number, number_same, number_below}
-use Rattle.stl_file.proofs.Edges.{pair_below, pair_corners, pair_back}
+use Rattle.stl.specs.File.File.{length_fits, triangle_count, halfedge_count, corner_at, normal_item}
+use Rattle.stl.specs.File.Points.{same_point, point_of, point_count}
+use Rattle.stl.specs.File.Edges.{pair_of, is_paired}
+use Rattle.stl.specs.File.Lists.{point_item, halfedge_number, halfedge_item}
+use Rattle.stl.proofs.FileLaws.Points.{equal_same, same_number, number_same, number_below}
+use Rattle.stl.proofs.FileLaws.Edges.{pair_below, pair_corners, pair_back}
 use Rattle.stl.specs.Questions.{finite_corner, triangle_fits, check_file, has_room}
 use Rattle.stl.specs.Stl.{counts_of, IsMesh}
 
@@ -50,21 +50,21 @@ file_fits s room accepted =
     )
 
 -- and of the lists lent for it, of these lengths
-pub record ListsFit (s : List ℕ) (triangles points halfedges normals : ℕ) : Type 0 where
-  pub points_room : 9 * triangles ≤ points
-  pub halfedges_room : 12 * triangles ≤ halfedges
-  pub normals_room : 3 * triangles ≤ normals
+pub record ListsFit (s : List ℕ) (triangles pos_len h_len face_normals_len : ℕ) : Type 0 where
+  pub pos_room : 9 * triangles ≤ pos_len
+  pub h_room : 12 * triangles ≤ h_len
+  pub face_normals_room : 3 * triangles ≤ face_normals_len
   pub fits : FileFits s
 
-pub lists_fit : (s : List ℕ) (triangles points halfedges normals : ℕ) → triangles ≡ triangle_count s → check_file s (has_room s points halfedges normals) ≡ Ok tt → ListsFit s triangles points halfedges normals
-lists_fit s triangles points halfedges normals counted accepted =
-    let fit = file_fits s (has_room s points halfedges normals) accepted in
-    let p = and_parts (leb (9 * triangle_count s) points && leb (12 * triangle_count s) halfedges) (leb (3 * triangle_count s) normals) fit.0 in
-    let q = and_parts (leb (9 * triangle_count s) points) (leb (12 * triangle_count s) halfedges) p.0 in
+pub lists_fit : (s : List ℕ) (triangles pos_len h_len face_normals_len : ℕ) → triangles ≡ triangle_count s → check_file s (has_room s pos_len h_len face_normals_len) ≡ Ok tt → ListsFit s triangles pos_len h_len face_normals_len
+lists_fit s triangles pos_len h_len face_normals_len counted accepted =
+    let fit = file_fits s (has_room s pos_len h_len face_normals_len) accepted in
+    let p = and_parts (leb (9 * triangle_count s) pos_len && leb (12 * triangle_count s) h_len) (leb (3 * triangle_count s) face_normals_len) fit.0 in
+    let q = and_parts (leb (9 * triangle_count s) pos_len) (leb (12 * triangle_count s) h_len) p.0 in
     rw counted (record {
-      points_room = leb-true _ _ q.0;
-      halfedges_room = leb-true _ _ q.1;
-      normals_room = leb-true _ _ p.1;
+      pos_room = leb-true _ _ q.0;
+      h_room = leb-true _ _ q.1;
+      face_normals_room = leb-true _ _ p.1;
       fits = fit.1;
     })
 
@@ -154,7 +154,7 @@ module _ (s : List ℕ) where
     }
 
     rows : check_rows (Ok tt) halfedge_list (halfedge_count s) (halfedge_count s) ≡ Ok tt
-    rows = accepted_rows (Ok tt) (halfedge_count s) halfedge_list (halfedge_count s) refl (λ e h. (omega (arith, row_is e h), omega (arith, row_is e h)))
+    rows = (rows_exactly (Ok tt) (halfedge_count s) halfedge_list (halfedge_count s) refl).1 (refl, λ e h. (omega (arith, row_is e h), omega (arith, row_is e h)))
 
     list_is_mesh : (list : List ℤ) (lengths : Bool) → list ≡ halfedge_list → lengths ≡ true → (check_mesh (as_halfedges list) (halfedge_count s) (point_count s) lengths ≡ Ok tt) × (check_rows (Ok tt) list (halfedge_count s) (halfedge_count s) ≡ Ok tt)
     unfolding halfedges

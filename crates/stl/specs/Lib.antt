@@ -2,3 +2,7 @@
 pub mod Questions
 pub mod Stl
 pub mod Pairing
+pub mod File
+pub mod Table
+pub mod Points
+pub mod Pairs

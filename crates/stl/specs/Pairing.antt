@@ -1,9 +1,9 @@
 -- Which files question 32 refuses: exactly those in which some directed edge occurs twice or has no reverse. s are the file's bytes.
 use Rattle.std.specs.Prelude.{ℕ, ◌<◌, ◌≡◌, ◌⊎◌, List, true, false, Ok}
-use Rattle.mesh.specs.Check.{number_of, each}
-use Rattle.mesh.specs.declared.Question.TheVariants.{Pairing}
-use Rattle.stl_file.specs.File.{halfedge_count}
-use Rattle.stl_file.specs.Edges.{same_edge, is_reverse, is_paired}
+use Rattle.questions.specs.Check.{number_of, each}
+use Rattle.questions.specs.declared.Question.TheVariants.{Pairing}
+use Rattle.stl.specs.File.File.{halfedge_count}
+use Rattle.stl.specs.File.Edges.{same_edge, is_reverse, is_paired}
 use Rattle.stl.specs.Stl.{Reading}
 use Rattle.stl.specs.declared.MeshCounts.{MeshCounts}
 

@@ -1,17 +1,17 @@
 -- The questions that are put to a binary STL file and to the lists lent for it, 30, 2, 31, 30 for the points, and 32. s are the file's bytes.
 use Rattle.std.specs.Prelude.{ℕ, ◌+◌, ◌*◌, ◌%◌, List, Bool, not, ◌&&◌, leb, ltb}
 use Rattle.mesh.specs.Mesh.{max_points}
-use Rattle.mesh.specs.Check.{Checked, asked, each, ◌then◌}
-use Rattle.mesh.specs.declared.Question.TheVariants.{Lengths, Size, Corners, Pairing}
-use Rattle.stl_file.specs.File.{triangle_count, halfedge_count, length_fits, corner_at}
-use Rattle.stl_file.specs.Points.{same_point, point_count}
-use Rattle.stl_file.specs.Edges.{is_paired}
-use Rattle.stl_file.specs.declared.Corner.{Corner}
+use Rattle.questions.specs.Check.{Checked, asked, each, ◌then◌}
+use Rattle.questions.specs.declared.Question.TheVariants.{Lengths, Size, Corners, Pairing}
+use Rattle.stl.specs.File.File.{triangle_count, halfedge_count, length_fits, corner_at}
+use Rattle.stl.specs.File.Points.{same_point, point_count}
+use Rattle.stl.specs.File.Edges.{is_paired}
+use Rattle.stl.specs.declared.file.Corner.{Corner}
 
 -- 2: have the lists, of these lengths, room for three points, three halfedges and one normal for each triangle?
 abbrev pub has_room : List ℕ → ℕ → ℕ → ℕ → Bool
-has_room s points halfedges normals =
-    leb (9 * triangle_count s) points && leb (12 * triangle_count s) halfedges && leb (3 * triangle_count s) normals
+has_room s pos_len h_len face_normals_len =
+    leb (9 * triangle_count s) pos_len && leb (12 * triangle_count s) h_len && leb (3 * triangle_count s) face_normals_len
 
 -- 31: are the corners of triangle t finite, and no two of them equal?
 unfoldable pub finite : ℕ → Bool
@@ -35,4 +35,4 @@ check_file s room =
 
 -- all questions, of lists of these lengths
 abbrev pub check_stl : List ℕ → ℕ → ℕ → ℕ → Checked
-check_stl s points halfedges normals = asked Size 0 (length_fits s) then check_file s (has_room s points halfedges normals)
+check_stl s pos_len h_len face_normals_len = asked Size 0 (length_fits s) then check_file s (has_room s pos_len h_len face_normals_len)

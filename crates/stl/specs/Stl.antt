@@ -1,13 +1,13 @@
--- The reading of binary STL as a public call: its answer, and the lists after it. s are the file's bytes, P, L and A the lists that are lent for points, halfedges and normals.
+-- The reading of binary STL as a public call: its answer, and the lists after it. s are the file's bytes, P, L and A the lists that are lent for positions, halfedges and face normals.
 use Rattle.std.specs.Prelude.{ℕ, ◌*◌, ◌/◌, ◌≡◌, List, ◌&&◌, length, take, ℤ, Float, Result, Ok, Err, ⊤}
 use Rattle.mesh.specs.Mesh.{halfedge_stride, as_halfedges}
-use Rattle.mesh.specs.Questions.{has_length}
-use Rattle.mesh.specs.Check.{Checked, number_of, place_of, answer_of, when_accepted, check_mesh, check_rows}
-use Rattle.mesh.specs.declared.Refusal.{Refusal}
+use Rattle.questions.specs.Questions.{has_length}
+use Rattle.questions.specs.Check.{Checked, number_of, place_of, value_or, answer_of, when_accepted, check_mesh, check_rows}
+use Rattle.questions.specs.declared.Refusal.{Refusal}
 use Rattle.little_endian.specs.Filled.{filled}
-use Rattle.stl_file.specs.File.{triangle_count, halfedge_count, normal_item}
-use Rattle.stl_file.specs.Points.{point_count}
-use Rattle.stl_file.specs.Lists.{point_item, halfedge_item}
+use Rattle.stl.specs.File.File.{triangle_count, halfedge_count, normal_item}
+use Rattle.stl.specs.File.Points.{point_count}
+use Rattle.stl.specs.File.Lists.{point_item, halfedge_item}
 use Rattle.stl.specs.Questions.{check_stl}
 use Rattle.stl.specs.declared.MeshCounts.{MeshCounts}
 
@@ -19,12 +19,10 @@ Reading = Result MeshCounts Refusal
 
 -- each count; 0 for a refusal, which reads nothing
 abbrev pub halfedges_of : Reading → ℕ
-halfedges_of (Ok counts) = counts.halfedges
-halfedges_of (Err refusal) = 0
+halfedges_of = value_or 0 (λ (counts : MeshCounts). counts.halfedges)
 
 abbrev pub points_of : Reading → ℕ
-points_of (Ok counts) = counts.points
-points_of (Err refusal) = 0
+points_of = value_or 0 (λ (counts : MeshCounts). counts.points)
 
 -- the counts of a file
 abbrev pub counts_of : List ℕ → MeshCounts
@@ -40,14 +38,14 @@ read_stl s P L A = answer_of (check_lists s P L A) (counts_of s)
 
 -- ---- the lists after it: their first places are filled, and further places stay; all stay where it refuses
 
-abbrev pub points_after : List ℕ → List Float → List ℤ → List Float → List Float
-points_after s P L A = when_accepted (check_lists s P L A) (filled (point_item s) (3 * point_count s) P) P
+abbrev pub pos_after : List ℕ → List Float → List ℤ → List Float → List Float
+pos_after s P L A = when_accepted (check_lists s P L A) (filled (point_item s) (3 * point_count s) P) P
 
-abbrev pub halfedges_after : List ℕ → List Float → List ℤ → List Float → List ℤ
-halfedges_after s P L A = when_accepted (check_lists s P L A) (filled (halfedge_item s) (halfedge_count s * halfedge_stride) L) L
+abbrev pub h_after : List ℕ → List Float → List ℤ → List Float → List ℤ
+h_after s P L A = when_accepted (check_lists s P L A) (filled (halfedge_item s) (halfedge_count s * halfedge_stride) L) L
 
-abbrev pub normals_after : List ℕ → List Float → List ℤ → List Float → List Float
-normals_after s P L A = when_accepted (check_lists s P L A) (filled (normal_item s) (3 * triangle_count s) A) A
+abbrev pub face_normals_after : List ℕ → List Float → List ℤ → List Float → List Float
+face_normals_after s P L A = when_accepted (check_lists s P L A) (filled (normal_item s) (3 * triangle_count s) A) A
 
 -- ---- what follows
 
@@ -63,9 +61,9 @@ abbrev pub IsMesh : Reading → List Float → List ℤ → List Float → Type 
 IsMesh (Ok counts) P L A =
     let n = counts.halfedges in
     let p = counts.points in
-    let points = take (p * 3) P in
+    let positions = take (p * 3) P in
     let halfedges = take (n * halfedge_stride) L in
-    let normals = take n A in
-    (check_mesh (as_halfedges halfedges) n p (has_length (length points) p 3 && has_length (length halfedges) n halfedge_stride && has_length (length normals) (n / 3) 3) ≡ Ok tt)
+    let face_normals = take n A in
+    (check_mesh (as_halfedges halfedges) n p (has_length (length positions) p 3 && has_length (length halfedges) n halfedge_stride && has_length (length face_normals) (n / 3) 3) ≡ Ok tt)
     × (check_rows (Ok tt) halfedges n n ≡ Ok tt)
 IsMesh (Err refusal) P L A = ⊤

@@ -32,7 +32,7 @@ fn answer_to<W: Write>(input: &[u8], output: &mut W) -> io::Result<()>
     let mut h = [0i32; HALFEDGE_ROOM];
     let mut t = [0.0f64; TANGENT_ROOM];
     let mut normals = [0.0f64; POSITION_ROOM];
-    let mut flags = [0u8; FLAG_ROOM];
+    let mut fixed = [0u8; FLAG_ROOM];
     let mut current = [0.0f64; FLAG_ROOM];
     let mut desired = [0.0f64; FLAG_ROOM];
     let mut out = [0u8; OUTPUT_ROOM];
@@ -42,7 +42,7 @@ fn answer_to<W: Write>(input: &[u8], output: &mut W) -> io::Result<()>
         &mut h,
         &mut t,
         &mut normals,
-        &mut flags,
+        &mut fixed,
         &mut current,
         &mut desired,
         &mut out,

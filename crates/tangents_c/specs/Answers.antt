@@ -1,6 +1,6 @@
 -- How an answer goes back through a lent list: the number of the refusal (0 where the call is accepted), its place, and the two numbers of an accepted call. Places that the list lacks are left out.
 use Rattle.std.specs.Prelude.{ℕ, List, set}
-use Rattle.mesh.specs.Check.{Checked, number_of, place_of}
+use Rattle.questions.specs.Check.{Checked, number_of, place_of}
 use Rattle.validate.specs.Validate.{Validity, value_of}
 use Rattle.sharpen.specs.Sharpen.{Listing, entries_of, tally_of}
 use Rattle.create_shared.specs.Answer.{Making, directionless_of}

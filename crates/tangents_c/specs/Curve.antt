@@ -3,9 +3,9 @@ use Rattle.std.specs.Prelude.{ℕ, List, Bool, ◌&&◌, length, Float}
 use Rattle.linalg.specs.declared.Vec3.{Vec3}
 use Rattle.linalg.specs.declared.Vec4.{Vec4}
 use Rattle.smoothing.specs.Lists.{tangent_at, put_point}
-use Rattle.mesh.specs.Questions.{has_length}
-use Rattle.mesh.specs.Check.{Checked, asked, ◌then◌, when_accepted}
-use Rattle.mesh.specs.declared.Question.TheVariants.{Lengths}
+use Rattle.questions.specs.Questions.{has_length}
+use Rattle.questions.specs.Check.{Checked, asked, ◌then◌, when_accepted}
+use Rattle.questions.specs.declared.Question.TheVariants.{Lengths}
 use Rattle.curve.specs.Questions.{check_parameter, check_points}
 use Rattle.curve.specs.Curve.{position_at, direction_at, points_of}
 use Rattle.tangents_c.specs.declared.controls.Controls.{Controls}

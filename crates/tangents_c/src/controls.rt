@@ -4,7 +4,7 @@ ghost use Rattle.std.specs.Prelude.{◌≡◌, length};
 ghost use Rattle.tangents_c.specs.Curve.{controls_of, check_curve_at, point_after, check_curve_points, points_after};
 
 use linalg::Vec4;
-use mesh::{Question, Refusal};
+use questions::{Question, Refusal};
 use smoothing::tangent_at;
 
 // Four control points.
@@ -35,8 +35,9 @@ pub fn curve_at(controls: &[f64], x: f64, point: &mut [f64]) -> Result<(), Refus
     ensures answer { result ≡ check_curve_at controls.now x point.old }
     ensures point { point.new ≡ point_after controls.now x point.old }
 {
-    let fit = mesh::has_length(controls.len(), 4, 4) & mesh::has_length(point.len(), 2, 3);
-    mesh::ask_at(Question::Lengths, 0, fit)?;
+    let fit = questions::has_length(controls.len(), 4, 4)
+        & questions::has_length(point.len(), 2, 3);
+    questions::ask_at(Question::Lengths, 0, fit)?;
     let Controls { p0, p1, p2, p3 } = controls_of(controls);
     let found = curve::curve_at(p0, p1, p2, p3, x)?;
     smoothing::put_point(point, 0, found.position);
@@ -49,7 +50,11 @@ pub fn curve_points(controls: &[f64], count: usize, points: &mut [f64]) -> Resul
     ensures answer { result ≡ check_curve_points controls.now count points.old }
     ensures points { points.new ≡ points_after controls.now count points.old }
 {
-    mesh::ask_at(Question::Lengths, 0, mesh::has_length(controls.len(), 4, 4))?;
+    questions::ask_at(
+        Question::Lengths,
+        0,
+        questions::has_length(controls.len(), 4, 4),
+    )?;
     let Controls { p0, p1, p2, p3 } = controls_of(controls);
     curve::curve_points(p0, p1, p2, p3, count, points)
 }

@@ -11,22 +11,22 @@ ghost use Rattle.sharpen.specs.declared.edge.Rule.TheVariants.{Ported, Clean};
 ghost use Rattle.sharpen.specs.Sharpen.{sharpen_edges, entries_after};
 ghost use Rattle.distribute.specs.Distribute.{distribute_tangents, scratch_after, check_lists};
 ghost use Rattle.distribute.specs.Distribute.{tangents_after as spread_after};
-ghost use Rattle.preview.specs.Preview.{preview_tangents, bytes_after};
+ghost use Rattle.distribute.specs.Preview.Preview.{preview_tangents, bytes_after};
 ghost use Rattle.mesh.specs.Mesh.{as_halfedges};
-ghost use Rattle.mesh.specs.Check.{number_of, place_of, when_accepted};
-ghost use Rattle.create_smoothness.specs.Entries.{entries_of};
+ghost use Rattle.questions.specs.Check.{number_of, place_of, when_accepted};
+ghost use Rattle.create.specs.Sharp.Entries.{entries_of};
 ghost use Rattle.create_shared.specs.Answer.{checked_of};
 ghost use Rattle.create.specs.Create.{create_answer, tangents_after as created_tangents};
 ghost use Rattle.create_from_normals.specs.FromNormals.{create_answer as from_normals_answer, tangents_after as tangents_from_normals};
-ghost use Rattle.stl.specs.Stl.{read_stl, points_after, halfedges_after, normals_after};
+ghost use Rattle.stl.specs.Stl.{read_stl, pos_after, h_after, face_normals_after};
 ghost use Rattle.tangents_c.specs.Curve.{check_curve_at, point_after, check_curve_points};
 ghost use Rattle.tangents_c.specs.Curve.{points_after as curve_points_after};
 ghost use Rattle.tangents_c.specs.Answers.{put, put_checked, put_validity, put_listing, put_spreading, put_making, put_reading};
 
 mod controls;
 
-use distribute::Counts;
-use mesh::Refusal;
+use distribute::{Counts, preview};
+use questions::Refusal;
 use sharpen::Listed;
 use stl::MeshCounts;
 
@@ -48,8 +48,8 @@ fn put_answer<T: Copy>(
 )
     ensures { answer.new ≡ put answer.old (number_of answered) (place_of answered) first second }
 {
-    let number = mesh::number_of(answered);
-    let place = mesh::place_of(answered);
+    let number = questions::number_of(answered);
+    let place = questions::place_of(answered);
     put_at(answer, 0, number);
     put_at(answer, 1, place);
     put_at(answer, 2, first);
@@ -147,18 +147,18 @@ pub extern "C" fn tangents_sharpen_edges(
     n: usize,
     p: usize,
     h: &[i32],
-    normals: &[f64],
+    face_normals: &[f64],
     angle: f64,
     smooth: f64,
-    halfedges: &mut [usize],
+    entries: &mut [usize],
     smoothness: &mut [f64],
     answer: &mut [usize],
 )
-    ensures halfedges_after { halfedges.new ≡ (entries_after Ported (as_halfedges h.now) normals.now angle smooth halfedges.old smoothness.old n p).halfedges }
-    ensures smoothness_after { smoothness.new ≡ (entries_after Ported (as_halfedges h.now) normals.now angle smooth halfedges.old smoothness.old n p).smoothness }
-    ensures answer_after { answer.new ≡ put_listing answer.old (sharpen_edges Ported (as_halfedges h.now) normals.now angle smooth halfedges.old smoothness.old n p) }
+    ensures entries_after { entries.new ≡ (entries_after Ported (as_halfedges h.now) face_normals.now angle smooth entries.old smoothness.old n p).halfedges }
+    ensures smoothness_after { smoothness.new ≡ (entries_after Ported (as_halfedges h.now) face_normals.now angle smooth entries.old smoothness.old n p).smoothness }
+    ensures answer_after { answer.new ≡ put_listing answer.old (sharpen_edges Ported (as_halfedges h.now) face_normals.now angle smooth entries.old smoothness.old n p) }
 {
-    let listing = sharpen::sharpen_edges(n, p, h, normals, angle, smooth, halfedges, smoothness);
+    let listing = sharpen::sharpen_edges(n, p, h, face_normals, angle, smooth, entries, smoothness);
     put_listing(answer, listing);
 }
 
@@ -168,19 +168,26 @@ pub extern "C" fn tangents_sharpen_edges_clean(
     n: usize,
     p: usize,
     h: &[i32],
-    normals: &[f64],
+    face_normals: &[f64],
     angle: f64,
     smooth: f64,
-    halfedges: &mut [usize],
+    entries: &mut [usize],
     smoothness: &mut [f64],
     answer: &mut [usize],
 )
-    ensures halfedges_after { halfedges.new ≡ (entries_after Clean (as_halfedges h.now) normals.now angle smooth halfedges.old smoothness.old n p).halfedges }
-    ensures smoothness_after { smoothness.new ≡ (entries_after Clean (as_halfedges h.now) normals.now angle smooth halfedges.old smoothness.old n p).smoothness }
-    ensures answer_after { answer.new ≡ put_listing answer.old (sharpen_edges Clean (as_halfedges h.now) normals.now angle smooth halfedges.old smoothness.old n p) }
+    ensures entries_after { entries.new ≡ (entries_after Clean (as_halfedges h.now) face_normals.now angle smooth entries.old smoothness.old n p).halfedges }
+    ensures smoothness_after { smoothness.new ≡ (entries_after Clean (as_halfedges h.now) face_normals.now angle smooth entries.old smoothness.old n p).smoothness }
+    ensures answer_after { answer.new ≡ put_listing answer.old (sharpen_edges Clean (as_halfedges h.now) face_normals.now angle smooth entries.old smoothness.old n p) }
 {
     let listing = sharpen::sharpen_edges_clean(
-        n, p, h, normals, angle, smooth, halfedges, smoothness,
+        n,
+        p,
+        h,
+        face_normals,
+        angle,
+        smooth,
+        entries,
+        smoothness,
     );
     put_listing(answer, listing);
 }
@@ -193,19 +200,19 @@ pub extern "C" fn tangents_distribute_tangents(
     h: &[i32],
     pos: &[f64],
     normals: &[f64],
-    flags: &[u8],
+    fixed: &[u8],
     t: &mut [f64],
     current: &mut [f64],
     desired: &mut [f64],
     answer: &mut [usize],
 )
-    ensures t_after { t.new ≡ spread_after (as_halfedges h.now) pos.now normals.now flags.now t.old current.old desired.old n p }
-    ensures current_after { current.new ≡ scratch_after (check_lists (as_halfedges h.now) pos.now normals.now flags.now t.old current.old desired.old n p) current.old n }
-    ensures desired_after { desired.new ≡ scratch_after (check_lists (as_halfedges h.now) pos.now normals.now flags.now t.old current.old desired.old n p) desired.old n }
-    ensures answer_after { answer.new ≡ put_spreading answer.old (distribute_tangents (as_halfedges h.now) pos.now normals.now flags.now t.old current.old desired.old n p) }
+    ensures t_after { t.new ≡ spread_after (as_halfedges h.now) pos.now normals.now fixed.now t.old current.old desired.old n p }
+    ensures current_after { current.new ≡ scratch_after (check_lists (as_halfedges h.now) pos.now normals.now fixed.now t.old current.old desired.old n p) current.old n }
+    ensures desired_after { desired.new ≡ scratch_after (check_lists (as_halfedges h.now) pos.now normals.now fixed.now t.old current.old desired.old n p) desired.old n }
+    ensures answer_after { answer.new ≡ put_spreading answer.old (distribute_tangents (as_halfedges h.now) pos.now normals.now fixed.now t.old current.old desired.old n p) }
 {
     let spreading = distribute::distribute_tangents(
-        n, p, h, pos, normals, flags, t, current, desired,
+        n, p, h, pos, normals, fixed, t, current, desired,
     );
     put_spreading(answer, spreading);
 }
@@ -218,15 +225,15 @@ pub extern "C" fn tangents_preview_tangents(
     h: &[i32],
     pos: &[f64],
     normals: &[f64],
-    flags: &[u8],
+    fixed: &[u8],
     t: &[f64],
     bytes: &mut [u8],
     answer: &mut [usize],
 )
-    ensures bytes_after { bytes.new ≡ bytes_after (as_halfedges h.now) pos.now normals.now flags.now t.now bytes.old n p }
-    ensures answer_after { answer.new ≡ put_spreading answer.old (preview_tangents (as_halfedges h.now) pos.now normals.now flags.now t.now bytes.old n p) }
+    ensures bytes_after { bytes.new ≡ bytes_after (as_halfedges h.now) pos.now normals.now fixed.now t.now bytes.old n p }
+    ensures answer_after { answer.new ≡ put_spreading answer.old (preview_tangents (as_halfedges h.now) pos.now normals.now fixed.now t.now bytes.old n p) }
 {
-    let previewed = preview::preview_tangents(n, p, h, pos, normals, flags, t, bytes);
+    let previewed = preview::preview_tangents(n, p, h, pos, normals, fixed, t, bytes);
     put_spreading(answer, previewed);
 }
 
@@ -242,7 +249,7 @@ pub extern "C" fn tangents_create_tangents(
     face_normals: &[f64],
     refs: &[i32],
     entries: &[usize],
-    values: &[f64],
+    smoothness: &[f64],
     old: usize,
     t: &mut [f64],
     fixed: &mut [u8],
@@ -253,7 +260,7 @@ pub extern "C" fn tangents_create_tangents(
     link: &mut [usize],
     answer: &mut [usize],
 )
-    ensures { let r = create_answer (as_halfedges h.now) pos.now normals.now face_normals.now refs.now entries.now values.now t.old fixed.old flat.old smooth.old desired.old at.old link.old (not (eqb old 0)) n p in (t.new ≡ created_tangents (checked_of r) (as_halfedges h.now) pos.now normals.now face_normals.now refs.now (entries_of entries.now values.now) t.old (not (eqb old 0)) n p) × (fixed.new ≡ when_accepted (checked_of r) (replicate n 0) fixed.old) × (flat.new ≡ when_accepted (checked_of r) (replicate n 0) flat.old) × (smooth.new ≡ when_accepted (checked_of r) (replicate n zero) smooth.old) × (desired.new ≡ when_accepted (checked_of r) (replicate n zero) desired.old) × (at.new ≡ when_accepted (checked_of r) (replicate p 0) at.old) × (link.new ≡ when_accepted (checked_of r) (replicate n 0) link.old) × (answer.new ≡ put_making answer.old r) }
+    ensures { let r = create_answer (as_halfedges h.now) pos.now normals.now face_normals.now refs.now entries.now smoothness.now t.old fixed.old flat.old smooth.old desired.old at.old link.old (not (eqb old 0)) n p in (t.new ≡ created_tangents (checked_of r) (as_halfedges h.now) pos.now normals.now face_normals.now refs.now (entries_of entries.now smoothness.now) t.old (not (eqb old 0)) n p) × (fixed.new ≡ when_accepted (checked_of r) (replicate n 0) fixed.old) × (flat.new ≡ when_accepted (checked_of r) (replicate n 0) flat.old) × (smooth.new ≡ when_accepted (checked_of r) (replicate n zero) smooth.old) × (desired.new ≡ when_accepted (checked_of r) (replicate n zero) desired.old) × (at.new ≡ when_accepted (checked_of r) (replicate p 0) at.old) × (link.new ≡ when_accepted (checked_of r) (replicate n 0) link.old) × (answer.new ≡ put_making answer.old r) }
 {
     let making = create::create_tangents(
         n,
@@ -264,7 +271,7 @@ pub extern "C" fn tangents_create_tangents(
         face_normals,
         refs,
         entries,
-        values,
+        smoothness,
         old != 0,
         t,
         fixed,
@@ -324,17 +331,17 @@ pub extern "C" fn tangents_create_tangents_from_normals(
 #[unsafe(no_mangle)]
 pub extern "C" fn tangents_read_stl(
     file: &[u8],
-    points: &mut [f64],
-    halfedges: &mut [i32],
-    normals: &mut [f64],
+    pos: &mut [f64],
+    h: &mut [i32],
+    face_normals: &mut [f64],
     answer: &mut [usize],
 )
-    ensures points_after { points.new ≡ points_after file.now points.old halfedges.old normals.old }
-    ensures halfedges_after { halfedges.new ≡ halfedges_after file.now points.old halfedges.old normals.old }
-    ensures normals_after { normals.new ≡ normals_after file.now points.old halfedges.old normals.old }
-    ensures answer_after { answer.new ≡ put_reading answer.old (read_stl file.now points.old halfedges.old normals.old) }
+    ensures pos_after { pos.new ≡ pos_after file.now pos.old h.old face_normals.old }
+    ensures h_after { h.new ≡ h_after file.now pos.old h.old face_normals.old }
+    ensures face_normals_after { face_normals.new ≡ face_normals_after file.now pos.old h.old face_normals.old }
+    ensures answer_after { answer.new ≡ put_reading answer.old (read_stl file.now pos.old h.old face_normals.old) }
 {
-    let reading = stl::read_stl(file, points, halfedges, normals);
+    let reading = stl::read_stl(file, pos, h, face_normals);
     put_reading(answer, reading);
 }
 

@@ -1,7 +1,6 @@
--- Laws of the mark check: that its loop over the triangles finds what the fold over the halfedges does, and what the lists of an accepted call hold. Assumes nothing.
+-- Laws of the mark check: that its loop over the triangles finds what the fold over the halfedges does. Assumes nothing.
 use Prim.Native.Nat.{ℕ, zero, suc, ◌+◌, ◌-◌, ◌*◌, ◌/◌, ◌%◌, ◌<◌}
 use native.Mathlib.Omega.{arith}
-use Rattle.std.proofs.lemmas.Grind.{common_steps}
 use native.Mathlib.Decide.{ℕ_discrete}
 use mathlib.Core.Path.{◌≡◌, refl, sym, ◌∙◌}
 use mathlib.Core.Logic.{⊎_elim}
@@ -9,18 +8,15 @@ use mathlib.Core.List.{List}
 use mathlib.Core.Bool.{Bool, true, false, not, ◌&&◌, beq}
 use borrow.Author.Tests.{not-true}
 use lib.Ieee.{Float}
-use Rattle.mesh.specs.Mesh.{halfedge_stride, paired_halfedge, next_halfedge, prev_halfedge, Halfedges}
+use Rattle.mesh.specs.Mesh.{paired_halfedge, next_halfedge, prev_halfedge, Halfedges}
 use Rattle.common.specs.Fold.{fold_to}
 use Rattle.mesh.specs.Sound.{Sound}
-use Rattle.std.specs.Prelude.{Ok, Err}
 use Rattle.std.specs.List.{list_all, range_with_len}
-use Rattle.mesh.specs.Check.{Checked, check_mesh, answer_of}
 use Rattle.std.proofs.lemmas.Bool.{and_parts, both_ways}
 use Rattle.common.proofs.Fold.{fold_next}
-use Rattle.mesh.proofs.Accepted.{accepted}
 use Rattle.mesh.proofs.Halfedges.{next_cases, prev_is}
 use Rattle.smoothing.specs.Lists.{is_marked_inside_quad}
-use Rattle.validate.specs.Validate.{no_marked_neighbor, valid_at, valid_so_far, lengths_fit, Validity, Values}
+use Rattle.validate.specs.Validate.{no_marked_neighbor, valid_at, valid_so_far}
 use Rattle.validate.specs.Marks.{mark_valid, triangle_valid}
 
 -- ---- the fold over the halfedges below n
@@ -159,18 +155,3 @@ module _ (H : Halfedges) (T : List Float) where
 
     pub triangles_are : list_all (λ (t : ℕ). triangle_valid H T (t * 3)) (range_with_len 0 (n / 3)) ≡ fold_to (valid_so_far H T) true n
     triangles_are = triangles_from (n / 3) 0 (omega (arith, s.triangles)) (λ k h. absurd (omega arith))
-
--- ---- the lists of an accepted call
-
-pub accepted_lists : (H : Halfedges) (P : List Float) (n p : ℕ) → check_mesh H n p (lengths_fit H P n p) ≡ Ok tt → Sound H n p × (H.numbers ≡ n * halfedge_stride)
-accepted_lists H P n p e = let a = accepted H n p (lengths_fit H P n p) e in (a.1, grind (arith, common_steps))
-
--- ---- number, place and value of the answer
-
-values_are : (checked : Checked) (valid : Bool) → Values checked valid (answer_of checked valid)
-values_are (Ok tt) true = record { number = refl; place = refl; value = refl }
-values_are (Ok tt) false = record { number = refl; place = refl; value = refl }
-values_are (Err refusal) valid = record { number = refl; place = refl; value = refl }
-
-pub with_values : (checked : Checked) (valid : Bool) {r : Validity} → r ≡ answer_of checked valid → Values checked valid r
-with_values checked valid e = rw e (values_are checked valid)

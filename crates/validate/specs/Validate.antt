@@ -1,11 +1,11 @@
--- `valid_tangents` of src/smoothing_tangents.rs (document 01's mark check). H are the halfedges, P the positions, T the tangents, n and p the counts of halfedges and points.
-use Rattle.std.specs.Prelude.{ℕ, ◌≡◌, List, Bool, true, false, cond, not, ◌&&◌, ◌||◌, length, Float, Result, Ok, Err}
+-- `valid_tangents` of src/smoothing_tangents.rs (the mark check). H are the halfedges, P the positions, T the tangents, n and p the counts of halfedges and points.
+use Rattle.std.specs.Prelude.{ℕ, ◌≡◌, List, Bool, true, cond, not, ◌&&◌, ◌||◌, length, Float, Result}
 use Rattle.std.specs.Bool.{beq}
-use Rattle.mesh.specs.Mesh.{halfedge_stride, paired_halfedge, next_halfedge, prev_halfedge, Halfedges}
-use Rattle.mesh.specs.Questions.{has_length}
-use Rattle.mesh.specs.Check.{Checked, number_of, place_of, check_mesh, answer_of, when_accepted}
+use Rattle.mesh.specs.Mesh.{paired_halfedge, next_halfedge, prev_halfedge, Halfedges}
+use Rattle.questions.specs.Questions.{has_length, mesh_fits}
+use Rattle.questions.specs.Check.{Checked, number_of, place_of, value_or, check_mesh, answer_of, when_accepted}
 use Rattle.common.specs.Fold.{fold_to}
-use Rattle.mesh.specs.declared.Refusal.{Refusal}
+use Rattle.questions.specs.declared.Refusal.{Refusal}
 use Rattle.smoothing.specs.Lists.{is_marked_inside_quad}
 
 -- ---- the marks
@@ -34,7 +34,7 @@ valid_tangents H T n = cond (has_length (length T) n 4) (fold_to (valid_so_far H
 
 -- question 2: 3 numbers per halfedge and 3 per point; it is not asked of the tangents
 abbrev pub lengths_fit : Halfedges → List Float → ℕ → ℕ → Bool
-lengths_fit H P n p = has_length H.numbers n halfedge_stride && has_length (length P) p 3
+lengths_fit H P n p = mesh_fits H.numbers (length P) n p
 
 -- whether the marks are valid, or the refusal
 abbrev pub Validity : Type 0
@@ -44,11 +44,9 @@ Validity = Result Bool Refusal
 abbrev pub valid_answer : Halfedges → List Float → List Float → ℕ → ℕ → Validity
 valid_answer H P T n p = answer_of (check_mesh H n p (lengths_fit H P n p)) (valid_tangents H T n)
 
--- document 01's value of an answer: 1 for yes, 0 for no, and 0 for a refused call, which has none
+-- the value of an answer: 1 for yes, 0 for no, and 0 for a refused call, which has none
 abbrev pub value_of : Validity → ℕ
-value_of (Ok true) = 1
-value_of (Ok false) = 0
-value_of (Err refusal) = 0
+value_of = value_or 0 (λ valid. cond valid 1 0)
 
 -- what the definitions give of an answer `r`, after the answer `checked` of the questions, where the marks are `valid`: number, place and value
 pub record Values (checked : Checked) (valid : Bool) (r : Validity) : Type 0 where

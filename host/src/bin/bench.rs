@@ -37,11 +37,11 @@ type Times = Vec<(f64, f64)>;
 /// ns per halfedge of the unit for an operation on a case, the least.
 fn unit(c: &Block, op: &str, repeats: usize) -> Result<f64, Failure> {
     let (n, p) = c.counts();
-    let (h, pos, vn, fnm, flags) = (c.halfedges(), c.floats("pos"), c.floats("vn"), c.floats("fn"), c.bytes("fl"));
+    let (h, pos, normals, face_normals, fixed) = (c.halfedges(), c.floats("pos"), c.floats("vn"), c.floats("fn"), c.bytes("fl"));
     let lent = c.floats("tan");
     let (mut current, mut desired, mut bytes) = (vec![0.0; n], vec![0.0; n], vec![0; n]);
-    let (mut list, mut smooth) = (vec![0usize; n], vec![0.0; n]);
-    let (refs, entries, values) = (c.signed("ref"), c.numbers("sh"), c.floats("ss"));
+    let (mut listed, mut listed_smoothness) = (vec![0usize; n], vec![0.0; n]);
+    let (refs, entries, smoothness) = (c.signed("ref"), c.numbers("sh"), c.floats("ss"));
     let rows = c.rows();
     let (mut scratch, mut scratch2) = (CreateScratch::new(n, p, 0), NormalsScratch::new(n, p, 0));
     let old = c.has("tan");
@@ -53,12 +53,12 @@ fn unit(c: &Block, op: &str, repeats: usize) -> Result<f64, Failure> {
         match op {
             "straighten" => linearize_flat_tangents(n, p, &h, &pos, &mut t)?,
             "check" => drop(std::hint::black_box(valid_tangents(n, p, &h, &pos, &t)?)),
-            "crease" => drop(sharpen_edges(n, p, &h, &fnm, 60.0, 0.0, &mut list, &mut smooth)?),
-            "clean" => drop(sharpen_edges_clean(n, p, &h, &fnm, 60.0, 0.0, &mut list, &mut smooth)?),
-            "spread" => drop(distribute_tangents(n, p, &h, &pos, &vn, &flags, &mut t, &mut current, &mut desired)?),
-            "preview" => drop(preview_tangents(n, p, &h, &pos, &vn, &flags, &t, &mut bytes)?),
-            "sharp" => drop(create_tangents(n, p, &h, &pos, &vn, &fnm, &refs, &entries, &values, old, &mut t, &mut scratch)?),
-            "normals" => drop(create_tangents_from_normals(n, p, &h, &pos, &vn, &fnm, &refs, &rows, old, &mut t, &mut scratch2)?),
+            "crease" => drop(sharpen_edges(n, p, &h, &face_normals, 60.0, 0.0, &mut listed, &mut listed_smoothness)?),
+            "clean" => drop(sharpen_edges_clean(n, p, &h, &face_normals, 60.0, 0.0, &mut listed, &mut listed_smoothness)?),
+            "spread" => drop(distribute_tangents(n, p, &h, &pos, &normals, &fixed, &mut t, &mut current, &mut desired)?),
+            "preview" => drop(preview_tangents(n, p, &h, &pos, &normals, &fixed, &t, &mut bytes)?),
+            "sharp" => drop(create_tangents(n, p, &h, &pos, &normals, &face_normals, &refs, &entries, &smoothness, old, &mut t, &mut scratch)?),
+            "normals" => drop(create_tangents_from_normals(n, p, &h, &pos, &normals, &face_normals, &refs, &rows, old, &mut t, &mut scratch2)?),
             op => return Err(format!("the oracle answers a case of {op}, which is not timed").into()),
         }
         least = least.min(start.elapsed().as_nanos() as f64 / n as f64);
@@ -67,12 +67,12 @@ fn unit(c: &Block, op: &str, repeats: usize) -> Result<f64, Failure> {
     Ok(least)
 }
 
-/// What is taken from an STL file: points, halfedges and normals as `read_stl` gives them.
+/// What is taken from an STL file: positions, halfedges and face normals as `read_stl` gives them.
 #[derive(PartialEq)]
 struct Taken {
-    points: Vec<f64>,
-    halfedges: Vec<i32>,
-    normals: Vec<f64>,
+    pos: Vec<f64>,
+    h: Vec<i32>,
+    face_normals: Vec<f64>,
 }
 
 /// The u32 at an offset of a file.
@@ -109,17 +109,17 @@ fn corners(file: &[u8]) -> Option<Vec<[u32; 3]>> {
 /// The plain reader that `read_stl` is timed beside. Nothing where the file is refused.
 fn taken_by_maps(file: &[u8]) -> Option<Taken> {
     let corners = corners(file)?;
-    let (mut points, mut numbers) = (Vec::new(), HashMap::new());
+    let (mut pos, mut numbers) = (Vec::new(), HashMap::new());
     let number = |corner: &[u32; 3]| {
         *numbers.entry(*corner).or_insert_with(|| {
-            points.extend(widened(*corner));
-            points.len() as i32 / 3 - 1
+            pos.extend(widened(*corner));
+            pos.len() as i32 / 3 - 1
         })
     };
     let starts: Vec<i32> = corners.iter().map(number).collect();
-    let halfedges = paired_by_map(&starts)?;
-    let normals = file[84..].chunks_exact(50).flat_map(|triangle| widened(three_at(triangle, 0))).collect();
-    Some(Taken { points, halfedges, normals })
+    let h = paired_by_map(&starts)?;
+    let face_normals = file[84..].chunks_exact(50).flat_map(|triangle| widened(three_at(triangle, 0))).collect();
+    Some(Taken { pos, h, face_normals })
 }
 
 /// Start, end, pair and row of each halfedge, by where it starts. Nothing where a directed edge occurs twice or has no reverse.
@@ -131,15 +131,15 @@ fn paired_by_map(starts: &[i32]) -> Option<Vec<i32>> {
             return None;
         }
     }
-    let mut halfedges = Vec::with_capacity(4 * starts.len());
+    let mut h = Vec::with_capacity(4 * starts.len());
     for (e, &start) in starts.iter().enumerate() {
-        halfedges.extend([start, end(e), *edges.get(&(end(e), start))?, e as i32]);
+        h.extend([start, end(e), *edges.get(&(end(e), start))?, e as i32]);
     }
-    Some(halfedges)
+    Some(h)
 }
 
 fn taken_by_unit(file: &[u8], lists: &mut Taken) -> Option<MeshCounts> {
-    read_stl(file, &mut lists.points, &mut lists.halfedges, &mut lists.normals).ok()
+    read_stl(file, &mut lists.pos, &mut lists.h, &mut lists.face_normals).ok()
 }
 
 /// The least time of a job, in ns for each of n halfedges.
@@ -155,10 +155,10 @@ fn least<T>(n: usize, repeats: usize, mut job: impl FnMut() -> T) -> f64 {
 /// The halfedges of a file, and the times of the plain reader and of the unit. Both have to take the same from it.
 fn file_times(file: &[u8], repeats: usize, runs: usize) -> Result<(usize, Times), Failure> {
     let n = file.len().saturating_sub(84) / 50 * 3;
-    let mut lists = Taken { points: vec![0.0; 3 * n], halfedges: vec![0; 4 * n], normals: vec![0.0; n] };
+    let mut lists = Taken { pos: vec![0.0; 3 * n], h: vec![0; 4 * n], face_normals: vec![0.0; n] };
     let times = (0..runs).map(|_| (least(n, repeats, || taken_by_maps(file)), least(n, repeats, || taken_by_unit(file, &mut lists)))).collect();
     let taken = taken_by_unit(file, &mut lists).map(|counts| {
-        lists.points.truncate(3 * counts.points);
+        lists.pos.truncate(3 * counts.points);
         lists
     });
     if taken != taken_by_maps(file) {

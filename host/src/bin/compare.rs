@@ -3,7 +3,7 @@
 //!     compare ORACLE KIND SEED COUNT
 //!
 //! ORACLE is the program that runs the unchanged Rust behind a text format: `./build.sh` in the oracle's folder builds it and prints its path.
-//! KIND is a call, for random accepted cases of it, or `any`, for those of any call of document 01; or it is `refuse`, for damaged cases of these calls.
+//! KIND is a call, for random accepted cases of it, or `any`, for those of any of the calls ported from the Rust; or it is `refuse`, for damaged cases of these calls.
 //! `rows` and `refuse-rows` are making from normals with a row list; in `normals` each halfedge has a row of its own. `preview` and `refuse-preview` are
 //! the preview of spreading, which is also held against the unit's own spreading of copies. `count` is both makings with the count of edges without
 //! direction, which the other kinds do not compare. `stl` and `refuse-stl` are the reading of binary STL files. `clean` is the clean crease listing and
@@ -78,7 +78,7 @@ impl Sums {
     }
 }
 
-/// Is it a mark check, accepted, whose list of tangents ends within a tangent? The oracle leaves such an end out; in document 01's words another length answers yes.
+/// Is it a mark check, accepted, whose list of tangents ends within a tangent? The oracle leaves such an end out; in the unit another length answers yes.
 fn of_another_length(case: &Block, lines: &[String], rust: &Block) -> bool {
     case.op() == "check" && case.floats("tan").len() % 4 != 0 && lines == ["valid 1"] && !rust.has("refused")
 }

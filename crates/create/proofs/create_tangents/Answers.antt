@@ -1,65 +1,41 @@
 -- `create::create_tangents` meets its contract. Assumes nothing.
-use Prim.Native.Nat.{ℕ}
-use mathlib.Core.Path.{◌≡◌, sym, subst, ◌∙◌}
-use mathlib.Core.Bool.{Bool, ◌&&◌}
-use mathlib.Core.List.{List}
-use lib.ListN.{length}
-use lib.IntN.{ℤ}
-use lib.Ieee.{Float}
+use mathlib.Core.Path.{refl}
 use Rattle.mesh.specs.Mesh.{as_halfedges}
-use Rattle.std.proofs.Common.{Ok, rules}
-use Rattle.mesh.specs.Check.{Checked}
+use Rattle.std.proofs.Common.{rules}
 use Rattle.create_shared.proofs.Answered.{values_of}
-use Rattle.create_smoothness.specs.Entries.{entries_of}
-use Rattle.create_smoothness.specs.EntrySmoothness.{EntriesIn}
-use Rattle.create_smoothness.proofs.Flat.{flat_entries_in}
-use Rattle.create.specs.Create.{lists_fit, scratch_fits, check_create, check_lists}
-use Rattle.create.proofs.Accepted.{AcceptedLists, accepted_lists, written, made}
+use Rattle.create.specs.Sharp.Entries.{entries_of}
+use Rattle.create.proofs.Accepted.{Asked, asked, accepted_lists, entries_in, written, made}
 use Rattle.create.proofs.create_tangents.Goals as goal
-use Rattle.create.proofs.create_tangents.Goals.{After-check_create-checked}
+use Rattle.create.proofs.create_tangents.Goals.{After-check_entries-checked}
 
--- the answer of the questions, from what the calls answer
-answer : (h : List ℤ) (P N A : List Float) (R : List ℤ) (I : List ℕ) (Q T : List Float) (X F : List ℕ) (S D : List Float) (C L : List ℕ) (n p : ℕ) {lists scratch : Bool} {checked : Checked}
-    → lists ≡ lists_fit (length h) (length P) (length N) (length A) (length R) (length I) (length Q) (length T) n p
-    → scratch ≡ scratch_fits (length X) (length F) (length S) (length D) (length C) (length L) n p
-    → checked ≡ check_create (as_halfedges h) R I Q n p (lists && scratch)
-    → checked ≡ check_lists (as_halfedges h) P N A R I Q T X F S D C L n p
-unfolding as_halfedges
-answer h P N A R I Q T X F S D C L n p a b e = rw (← a, ← b) e
-
-checked_is : (c : After-check_create-checked) → let a = c.args in c.check_create-checked.result ≡ check_lists (as_halfedges a.h.now) a.pos.now a.normals.now a.face_normals.now a.refs.now a.entries.now a.values.now a.t.now a.fixed.now a.flat.now a.smooth.now a.desired.now a.at.now a.link.now a.n a.p
-checked_is c =
-    let a = c.args in
-    answer a.h.now a.pos.now a.normals.now a.face_normals.now a.refs.now a.entries.now a.values.now a.t.now a.fixed.now a.flat.now a.smooth.now a.desired.now a.at.now a.link.now a.n a.p c.lists_fit-lists.ensures c.scratch_fits-scratch.ensures c.check_create-checked.ensures
-
-lists : (c : After-check_create-checked) → c.check_create-checked.result ≡ Ok tt → let a = c.args in AcceptedLists (as_halfedges a.h.now) a.pos.now a.normals.now a.face_normals.now a.entries.now a.values.now a.t.now a.fixed.now a.flat.now a.smooth.now a.desired.now a.at.now a.link.now a.n a.p
-lists c e =
-    let a = c.args in
-    accepted_lists (as_halfedges a.h.now) a.pos.now a.normals.now a.face_normals.now a.refs.now a.entries.now a.values.now a.t.now a.fixed.now a.flat.now a.smooth.now a.desired.now a.at.now a.link.now a.n a.p (sym (checked_is c) ∙ e)
+asked_of : (c : After-check_entries-checked) → let a = c.args in Asked (as_halfedges a.h.now) a.pos.now a.normals.now a.face_normals.now a.refs.now a.entries.now a.smoothness.now a.t.now a.fixed.now a.flat.now a.smooth.now a.desired.now a.at.now a.link.now a.n a.p (entries_of a.entries.now a.smoothness.now) c.check_entries-checked.result
+asked_of c = asked refl refl (λ l. refl) c.check_mesh_lists-mesh_lists.ensures c.check_entries-checked.ensures.answer
 
 pub entry_smoothness-requires : goal.entry_smoothness-requires
 entry_smoothness-requires c =
-    let a = c.args in
-    let w = lists (goal.at.entry_smoothness-requires c).After-check_create-checked c.in-Ok.is in
-    (w.values, subst (EntriesIn (entries_of a.entries.now a.values.now)) (sym w.scratch.smooth) (flat_entries_in a.entries.now a.values.now a.n w.values w.named w.clear))
+    let w = asked_of (goal.at.entry_smoothness-requires c).After-check_entries-checked in
+    ((accepted_lists w c.in-Ok.is).smoothness, entries_in w c.in-Ok.is)
+
+pub returns-in_default-clause-answer : goal.returns-in_default-clause-answer
+returns-in_default-clause-answer c = rw (asked_of (goal.at.returns-in_default-clause-answer c).After-check_entries-checked).is at c.refused.ensures.answer _
+
+pub returns-in_default-clause-values : goal.returns-in_default-clause-values
+returns-in_default-clause-values c = values_of _ _ (returns-in_default-clause-answer c)
 
 pub invariant_of-mesh : goal.invariant_of-mesh
 invariant_of-mesh c =
-    let w = lists (goal.at.invariant_of-mesh c).After-check_create-checked c.in-Ok.is in
+    let w = accepted_lists (asked_of (goal.at.invariant_of-mesh c).After-check_entries-checked) c.in-Ok.is in
     let m = w.mesh_lists in
     record { sound = w.sound; whole = m.halfedges; positions = m.positions; point_normals = m.normals; triangle_normals = m.face_normals w.sound.triangles }
 
 pub make_tangents-directionless-requires : goal.make_tangents-directionless-requires
-make_tangents-directionless-requires c =
-    written (lists (goal.at.make_tangents-directionless-requires c).After-check_create-checked c.in-Ok.is) c.entry_smoothness.auto.smooth
+make_tangents-directionless-requires c = written (asked_of (goal.at.make_tangents-directionless-requires c).After-check_entries-checked) c.in-Ok.is c.entry_smoothness.auto.smooth
 
 -- what an accepted call answers and leaves
 pub returns : goal.returns
 returns c =
-    let a = c.args in
     let m = c.make_tangents-directionless in
-    let r = made (as_halfedges a.h.now) a.pos.now a.normals.now a.face_normals.now a.refs.now a.entries.now a.values.now a.t.now a.fixed.now a.flat.now a.smooth.now a.desired.now a.at.now a.link.now a.n a.p (entries_of a.entries.now a.values.now) a.old (checked_is (goal.at.returns c).After-check_create-checked)
-    (λ w. flat_entries_in a.entries.now a.values.now a.n w.values w.named w.clear) c.in-Ok.is c.entry_smoothness.ensures m.ensures.tangents m.ensures.directionless in
+    let r = made (asked_of (goal.at.returns c).After-check_entries-checked) c.args.old c.in-Ok.is c.entry_smoothness.ensures m.ensures.tangents m.ensures.directionless in
     record {
       answer = r.0;
       tangents = r.1;

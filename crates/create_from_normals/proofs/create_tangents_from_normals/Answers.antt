@@ -1,8 +1,8 @@
 -- `create_from_normals::create_tangents_from_normals` meets its contract: the questions, and then the core. Assumes nothing.
 use mathlib.Core.Path.{◌≡◌}
 use Rattle.std.proofs.Common.{Ok}
-use Rattle.normals_core.proofs.Core.{from_normals_within}
-use Rattle.normals_weights.proofs.Weights.{weights}
+use Rattle.create_from_normals.proofs.WholeLaws.Core.{from_normals_within}
+use Rattle.create_from_normals.proofs.WeightsLaws.Weights.{weights}
 use Rattle.create_from_normals.proofs.Accepted.{Lists, lists_of}
 use Rattle.create_from_normals.proofs.OldNormals.{old_tangents, old_count}
 use Rattle.create_from_normals.proofs.create_tangents_from_normals.Goals as goal

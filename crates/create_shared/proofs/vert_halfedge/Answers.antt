@@ -9,9 +9,9 @@ use lib.ListN.{set, length, get_or}
 use lib.Seq.{get_or-set_same, get_or-set_other}
 use borrow.Author.Tests.{eqb-true, eqb-false}
 use Rattle.mesh.specs.Mesh.{start_vert, Halfedges, as_halfedges}
-use Rattle.mesh.proofs.Lowest.{lowest_start, lowest_yes, lowest_no, lowest_end}
-use Rattle.mesh.specs.Lowest.{lowest_from}
-use Rattle.create_shared.specs.Faces.{vert_halfedge, starts_elsewhere}
+use Rattle.common.proofs.Lowest.{lowest_start, lowest_yes, lowest_no, lowest_end}
+use Rattle.common.specs.Lowest.{lowest_from}
+use Rattle.create_shared.specs.Verts.{vert_halfedge, starts_elsewhere}
 use Rattle.common.proofs.Filled.{filled_at}
 use Rattle.create_shared.proofs.vert_halfedge.Goals as goal
 

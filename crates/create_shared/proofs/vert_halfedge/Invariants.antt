@@ -3,8 +3,8 @@ use Prim.Native.Nat.{ℕ, ◌-◌, ◌<◌}
 use mathlib.Core.Path.{◌≡◌}
 use lib.ListN.{length, get_or}
 use Rattle.mesh.specs.Mesh.{as_halfedges}
-use Rattle.mesh.specs.Lowest.{lowest_from}
-use Rattle.create_shared.specs.Faces.{starts_elsewhere}
+use Rattle.common.specs.Lowest.{lowest_from}
+use Rattle.create_shared.specs.Verts.{starts_elsewhere}
 use Rattle.create_shared.proofs.vert_halfedge.Given as goal
 
 abbrev pub invariant-loop-e : goal.invariant-loop-e

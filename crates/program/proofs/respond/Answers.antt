@@ -1,7 +1,7 @@
 -- `program::respond` meets its contract: an accepted input is operated on, and a refusal is the answer. Assumes nothing.
 use Rattle.std.proofs.Common.{rules, ℕ, ◌≡◌, List, length, Result, Err, arith}
 use Rattle.std.proofs.lemmas.Grind.{common_steps}
-use Rattle.mesh.specs.declared.Refusal.{Refusal}
+use Rattle.questions.specs.declared.Refusal.{Refusal}
 use Rattle.records.specs.Lists.{Lists, read_answer, read_lists}
 use Rattle.records.specs.declared.Input.{Input}
 use Rattle.program.specs.Program.{Room}
@@ -10,7 +10,7 @@ use Rattle.program.proofs.respond.Goals as goal
 
 -- what is known after the reading
 reading : {s : List ℕ} {L L' : Lists} {r : Result Input Refusal} {current desired : ℕ} → r ≡ read_answer s L → L' ≡ read_lists r s L →
-    Room (length L.positions) (length L.halfedges) (length L.tangents) (length L.normals) (length L.flags) current desired → Reading s L L' r current desired
+    Room (length L.positions) (length L.halfedges) (length L.tangents) (length L.normals) (length L.fixed) current desired → Reading s L L' r current desired
 reading answer lists room = record { answer = answer; lists = lists; room = room }
 
 pub returns-in_err-read : goal.returns-in_err-read
@@ -27,7 +27,7 @@ returns-in_err-read c =
       halfedges = l.1;
       tangents = tangents_as_lent w refusal c.in_err-read.was;
       normals = l.2;
-      flags = l.3;
+      fixed = l.3;
       current = scratch_as_lent w refusal c.in_err-read.was _;
       desired = scratch_as_lent w refusal c.in_err-read.was _;
     })
@@ -51,7 +51,7 @@ returns c =
       halfedges = l.1;
       tangents = tangents_left w _ _ _ i.was _ d.tangents;
       normals = l.2;
-      flags = l.3;
+      fixed = l.3;
       current = scratch_left w _ _ _ i.was _ _ d.current;
       desired = scratch_left w _ _ _ i.was _ _ d.desired;
     }

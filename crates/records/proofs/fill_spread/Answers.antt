@@ -7,5 +7,5 @@ use Rattle.records.proofs.fill_spread.Goals as goal
 pub returns : goal.returns
 unfolding f64_item
 returns c =
-    let flags = rw (c.body_at-2.ensures, c.from-halfedges.ensures) at (c.fill-2.ensures ∙ bytes_filled _ _ _ _) in
-    (search rules, flags)
+    let fixed = rw (c.body_at-2.ensures, c.from-halfedges.ensures) at (c.fill-2.ensures ∙ bytes_filled _ _ _ _) in
+    (search rules, fixed)

@@ -15,8 +15,8 @@ list_edge-listed-requires-clause-fits c =
     let a = c.args in
     let lists = a.lists.now in
     edge_fits lists l.e c.loop-e-test.true
-    (ap (λ (x : Entries). x.count) l.invariant.0 ∙ entries_twice a.halfedges.now a.smoothness.now (as_halfedges lists.h.now) (listed_by lists.rule lists) lists.smooth l.e)
-    (l.auto.halfedges ∙ c.requires.0)
+    (ap (λ (x : Entries). x.count) l.invariant.0 ∙ entries_twice a.entries.now a.smoothness.now (as_halfedges lists.h.now) (listed_by lists.rule lists) lists.smooth l.e)
+    (l.auto.entries ∙ c.requires.0)
     (l.auto.smoothness ∙ c.requires.1)
 
 pub list_edge-listed-requires-clause-below : goal.list_edge-listed-requires-clause-below

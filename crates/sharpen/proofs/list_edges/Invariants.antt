@@ -9,5 +9,5 @@ use Rattle.sharpen.proofs.list_edges.Given as goal
 
 abbrev pub invariant-loop-e : goal.invariant-loop-e
 invariant-loop-e l =
-    (entries_in l.halfedges l.smoothness l.listed.entries ≡ list_edges (as_halfedges l.lists.h.now) (listed_by l.lists.rule l.lists) l.lists.smooth (entries_in l.initial.halfedges l.initial.smoothness 0) l.e)
+    (entries_in l.entries l.smoothness l.listed.entries ≡ list_edges (as_halfedges l.lists.h.now) (listed_by l.lists.rule l.lists) l.lists.smooth (entries_in l.initial.entries l.initial.smoothness 0) l.e)
     × (l.listed.tally ≡ count_below (listed_by Clean l.lists) l.e)

@@ -3,4 +3,4 @@ use Rattle.sharpen.proofs.Edges.{entries_filtered}
 use Rattle.sharpen.proofs.sharpen_edges_clean.Goals as goal
 
 pub returns-clause-filtered : goal.returns-clause-filtered
-returns-clause-filtered c = entries_filtered _ _ _ _ _ _ _ _ c.sharpen_by.ensures.listed c.sharpen_by.ensures.values.entries
+returns-clause-filtered c = entries_filtered _ _ _ _ _ _ _ _ c.sharpen_by.ensures.outcome.listed c.sharpen_by.ensures.outcome.values.entries

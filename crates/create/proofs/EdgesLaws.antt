@@ -1,0 +1,3 @@
+-- The laws of the module `edges`.
+pub mod Boundaries
+pub mod Edges

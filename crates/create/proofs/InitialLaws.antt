@@ -1,0 +1,3 @@
+-- The laws of the module `initial`.
+pub mod Counts
+pub mod First

@@ -1,0 +1,3 @@
+-- The laws of the module `shapes`.
+pub mod Lent
+pub mod Bound

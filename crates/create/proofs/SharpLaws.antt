@@ -1,0 +1,3 @@
+-- The laws of the module `sharp`.
+pub mod Adding
+pub mod Flat

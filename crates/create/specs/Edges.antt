@@ -1,0 +1,4 @@
+-- The specs of the module `edges`, in the order of reading.
+pub mod Edges
+pub mod Smoothness
+pub mod Lent

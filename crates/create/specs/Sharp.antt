@@ -1,0 +1,3 @@
+-- The specs of the module `sharp`.
+pub mod Entries
+pub mod EntrySmoothness

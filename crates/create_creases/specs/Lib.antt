@@ -1,4 +1,0 @@
--- The specs of `create_creases`, in the order of reading.
-pub mod Creases
-pub mod Linked
-pub mod Lists

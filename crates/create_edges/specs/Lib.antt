@@ -1,4 +1,0 @@
--- The specs of `create_edges`, in the order of reading.
-pub mod Edges
-pub mod Smoothness
-pub mod Lent

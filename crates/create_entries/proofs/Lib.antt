@@ -1,2 +1,0 @@
--- The laws of `create_entries`.
-mod Answer

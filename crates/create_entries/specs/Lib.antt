@@ -1,2 +1,0 @@
--- The specs of `create_entries`.
-pub mod CreateEntries

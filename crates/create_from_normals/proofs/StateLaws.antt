@@ -1,0 +1,4 @@
+-- The laws of the module `state`.
+pub mod Tests
+pub mod Carried
+pub mod Units

@@ -1,0 +1,4 @@
+-- The laws of the module `whole`.
+pub mod Core
+pub mod Flags
+pub mod Lent

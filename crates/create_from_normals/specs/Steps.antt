@@ -1,0 +1,3 @@
+-- The specs of the module `steps`.
+pub mod Steps
+pub mod Carried

@@ -1,0 +1,3 @@
+-- The specs of the module `walks`.
+pub mod Walks
+pub mod Lists

@@ -1,3 +1,0 @@
--- The laws of `create_initial`: those that the crates above cite are public.
-pub mod Counts
-mod First

@@ -1,4 +1,0 @@
--- The specs of `create_initial`, in the order of reading. `Faces` and `Lent` are for the contracts inside a call.
-pub mod First
-pub mod Faces
-pub mod Lent

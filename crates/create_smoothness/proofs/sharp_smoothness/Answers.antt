@@ -1,9 +1,0 @@
--- `create_smoothness::sharp_smoothness` meets its contract. Assumes nothing.
-use Rattle.create_smoothness.proofs.Adding.{all_added}
-use Rattle.std.proofs.Common.{◌∙◌, arith}
-use Rattle.create_smoothness.proofs.sharp_smoothness.Goals as goal
-
-pub returns : goal.returns
-returns c =
-    let l = c.loop-entry in
-    l.invariant ∙ all_added _ c.args.sharp.now l.entry-index _ (omega arith) (c.fill.ensures.after (λ y e. e))

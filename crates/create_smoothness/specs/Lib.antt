@@ -1,3 +1,0 @@
--- The specs of `create_smoothness`.
-pub mod Entries
-pub mod EntrySmoothness

@@ -1,0 +1,6 @@
+-- The laws of the module `preview`, for the crates above.
+pub mod Bytes
+pub mod First
+pub mod Second
+pub mod Pass
+pub mod Order

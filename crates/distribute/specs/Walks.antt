@@ -1,0 +1,2 @@
+-- The specs of the module `walks`.
+pub mod Walks

@@ -1,2 +1,0 @@
--- The laws of `distribute_steps`, for the crates above.
-pub mod Angles

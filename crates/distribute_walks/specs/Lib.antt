@@ -1,2 +1,0 @@
--- The specs of `distribute_walks`.
-pub mod Walks

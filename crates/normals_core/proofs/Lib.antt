@@ -1,4 +1,0 @@
--- The laws of `normals_core`: those that the crates above cite are public.
-pub mod Core
-mod Flags
-mod Lent

@@ -1,8 +1,0 @@
--- `normals_core::inside_quads` meets its contract: the invariant: the list is the fold over the halfedges passed. Assumes nothing.
-use mathlib.Core.Path.{◌≡◌}
-use Rattle.common.specs.Fold.{fold_to}
-use Rattle.normals_core.specs.Flags.{halfedges_of, inside_quad_step}
-use Rattle.normals_core.proofs.inside_quads.Given as goal
-
-abbrev pub invariant-loop-e : goal.invariant-loop-e
-invariant-loop-e l = l.inside ≡ fold_to (inside_quad_step (halfedges_of l.lists) l.lists.mesh.refs.now l.lists.t.now l.lists.old) l.initial.inside l.e

@@ -1,4 +1,0 @@
--- The laws of `normals_state`, which the crates above cite, but for `Tests`.
-mod Tests
-pub mod Carried
-pub mod Units

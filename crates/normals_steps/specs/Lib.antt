@@ -1,3 +1,0 @@
--- The specs of `normals_steps`.
-pub mod Steps
-pub mod Carried

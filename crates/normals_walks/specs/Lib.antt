@@ -1,3 +1,0 @@
--- The specs of `normals_walks`.
-pub mod Walks
-pub mod Lists

@@ -1,2 +1,0 @@
--- The specs of `normals_weights`.
-pub mod Weights

@@ -1,2 +1,0 @@
--- The specs of `preview`.
-pub mod Preview

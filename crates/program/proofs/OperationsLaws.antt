@@ -1,0 +1,3 @@
+-- The laws that the proofs of the module `operations` share.
+pub mod Shown
+pub mod Lengths

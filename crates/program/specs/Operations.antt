@@ -1,0 +1,2 @@
+-- The specs of the module `operations`.
+pub mod Operations

@@ -1,3 +1,0 @@
--- The specs of `program_lines`, in the order of reading.
-pub mod Text
-pub mod Lines

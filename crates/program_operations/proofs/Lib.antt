@@ -1,3 +1,0 @@
--- The laws that the proofs of `program_operations` share; `Lengths` is for the crates above.
-mod Shown
-pub mod Lengths

@@ -1,2 +1,0 @@
--- The specs of `program_operations`.
-pub mod Operations

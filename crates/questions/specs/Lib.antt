@@ -1,0 +1,4 @@
+-- The specs of `questions`, in the order of reading.
+pub mod Questions
+pub mod Check
+pub mod All

@@ -1,2 +1,0 @@
--- The laws that the proofs of `replay_mesh_faces` share.
-mod Lent

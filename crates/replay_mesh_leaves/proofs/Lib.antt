@@ -1,2 +1,0 @@
--- The laws of `replay_mesh_leaves`.
-mod Lent

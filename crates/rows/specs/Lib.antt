@@ -1,2 +1,0 @@
--- The specs of `rows`.
-pub mod Rows

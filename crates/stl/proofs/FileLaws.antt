@@ -1,0 +1,4 @@
+-- The laws of `file`.
+pub mod Points
+pub mod Edges
+pub mod Signed

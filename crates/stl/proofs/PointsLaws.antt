@@ -1,0 +1,4 @@
+-- The laws of `points`.
+pub mod Marks
+pub mod Counts
+pub mod Writing

@@ -1,5 +1,0 @@
--- The laws of `stl_pairs`.
-mod Backs
-mod Scans
-mod Covers
-mod Written

@@ -1,5 +1,0 @@
-use Rattle.stl_table.specs.Tree.{Indexed}
-use Rattle.stl_pairs.proofs.enter_all.Given as goal
-
-abbrev pub invariant-loop-m : goal.invariant-loop-m
-invariant-loop-m l = Indexed l.block l.m l.table l.tags

@@ -1,4 +1,0 @@
--- The laws of `stl_points`.
-mod Marks
-mod Counts
-mod Writing

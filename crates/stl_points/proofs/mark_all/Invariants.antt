@@ -1,6 +1,0 @@
--- `stl_points::mark_all` meets its contract: the marks are right for the places from j on. Assumes nothing.
-use Rattle.stl_points.specs.Firsts.{Marked}
-use Rattle.stl_points.proofs.mark_all.Given as goal
-
-abbrev pub invariant-loop-j : goal.invariant-loop-j
-invariant-loop-j l = Marked l.block l.j l.first

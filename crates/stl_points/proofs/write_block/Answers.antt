@@ -1,9 +1,0 @@
-use native.Mathlib.Omega.{arith}
-use Rattle.stl_points.proofs.Writing.{can_next, written_more}
-use Rattle.stl_points.proofs.write_block.Goals as goal
-
-pub write_start-written-requires : goal.write_start-written-requires
-write_start-written-requires c = can_next c.requires c.loop-k.invariant c.loop-k-test.true c.loop-k.auto.points
-
-pub loop-k-preserved : goal.loop-k-preserved
-loop-k-preserved c = written_more c.loop-k.invariant c.write_start-written.ensures (omega arith)

@@ -1,4 +1,0 @@
--- The specs of `stl_table`, in the order of reading. Only contracts inside the reading of STL cite them.
-pub mod Size
-pub mod Keys
-pub mod Tree
