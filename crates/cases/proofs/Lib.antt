@@ -10,3 +10,4 @@ pub mod Create
 pub mod Curves
 pub mod Stl
 pub mod Program
+pub mod Limits

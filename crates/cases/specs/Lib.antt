@@ -16,3 +16,4 @@ pub mod Curves
 pub mod Stl
 pub mod Records
 pub mod Output
+pub mod Limits

@@ -13,6 +13,7 @@ ghost use Rattle.cases.specs.Curves.{CurvesHold};
 ghost use Rattle.cases.specs.Stl.{StlHolds};
 ghost use Rattle.cases.specs.Records.{RecordsHold};
 ghost use Rattle.cases.specs.Output.{OutputHolds};
+ghost use Rattle.cases.specs.Limits.{LimitsHold};
 
 // Law: 2, the largest and the smallest value have the stated square roots (specs/Roots.antt).
 #[tactic(auto, using(crate::proofs::Roots::roots_hold))]
@@ -85,4 +86,10 @@ pub fn records_hold()
 #[tactic(auto, using(crate::proofs::Program::output_holds))]
 pub fn output_holds()
     ensures { OutputHolds }
+{}
+
+// Law: the limits and sizes that the definitions name by the code's constants are the stated numbers (specs/Limits.antt).
+#[tactic(auto, using(crate::proofs::Limits::limits_hold))]
+pub fn limits_hold()
+    ensures { LimitsHold }
 {}

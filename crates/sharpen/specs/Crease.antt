@@ -29,7 +29,7 @@ own_normal A e = point_at A (e / 3)
 abbrev pub other_normal : Halfedges → List Float → ℕ → Vec3
 other_normal H A e = point_at A (paired_halfedge H e / 3)
 
--- does the edge of halfedge e touch "an all-zero face normal (either sign of zero)"?
+-- does the edge of halfedge e touch a face normal whose three numbers are all zero, of either sign?
 abbrev pub touches_zero : Halfedges → List Float → ℕ → Bool
 touches_zero H A e = is_zero (own_normal A e) || is_zero (other_normal H A e)
 

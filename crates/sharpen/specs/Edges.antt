@@ -1,4 +1,4 @@
--- The listings as lists of edges (docs/changes/06-clean-listing.md): the clean one omits the edges that touch an all-zero face normal "and no others, in the same order". Letters as in Sharpen.antt.
+-- The listings as lists of edges (docs/changes/06-clean-listing.md): the clean one has the edges of the ported one, in their order, less those that touch an all-zero face normal. Letters as in Sharpen.antt.
 use Rattle.std.specs.Prelude.{ℕ, ◌*◌, ◌≡◌, List, [], ◌∷◌, ◌++◌, not, filter, flat_map, length, take, drop, replicate, Float}
 use Rattle.std.specs.List.{range_with_len}
 use Rattle.mesh.specs.Mesh.{paired_halfedge, Halfedges}
@@ -39,16 +39,16 @@ EntriesFiltered H A angle smooth I Q n p clean =
     take clean.count clean.halfedges ≡ filter (λ e. not (touches_zero H A e)) (take ported.count ported.halfedges)
 
 -- what either call says of its answer `r` and of the two lists after it, by its rule
-pub record Outcome (rule : Rule) (H : Halfedges) (A : List Float) (angle smooth : Float) (I : List ℕ) (Q : List Float) (n p : ℕ) (halfedges : List ℕ) (smoothness : List Float) (r : Listing) : Type 0 where
+pub record Outcome (rule : Rule) (H : Halfedges) (A : List Float) (angle smooth : Float) (I : List ℕ) (Q : List Float) (n p : ℕ) (entries : List ℕ) (smoothness : List Float) (r : Listing) : Type 0 where
   -- the answer is that of the definition
   pub answer : r ≡ sharpen_edges rule H A angle smooth I Q n p
   -- the halfedges of the entries, in their list
-  pub listed : halfedges ≡ (entries_after rule H A angle smooth I Q n p).halfedges
+  pub listed : entries ≡ (entries_after rule H A angle smooth I Q n p).halfedges
   -- the smoothness of each, in its list
   pub copied : smoothness ≡ (entries_after rule H A angle smooth I Q n p).smoothness
   -- number, place and each value of the answer
   pub values : Values rule H A angle smooth I Q n p r
   -- the lists hold the entries of the rule's edges, edge by edge
-  pub edges : HoldEdges H smooth I Q (edges_after rule H A angle I Q n p) (entries_in halfedges smoothness (entries_of r))
+  pub edges : HoldEdges H smooth I Q (edges_after rule H A angle I Q n p) (entries_in entries smoothness (entries_of r))
   -- the tally is the number of the clean listing's edges
   pub counted : tally_of r ≡ length (edges_after Clean H A angle I Q n p)
