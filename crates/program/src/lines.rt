@@ -42,7 +42,7 @@ impl From<Result<Output, Refusal>> for Output {
         match answer {
             Ok(output) => output,
             Err(refusal) => Output::Refused {
-                number: refusal.question as usize,
+                number: refusal.question.number(),
                 place: refusal.place,
             },
         }
