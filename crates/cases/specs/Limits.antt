@@ -1,5 +1,6 @@
--- The limits and sizes of the calls in literals; those of a mesh stand in crates/mesh/specs/Limits.antt. The definitions name them by the constants of the code, so that each number stands once there; here is what it has to be.
+-- The limits and sizes in literals; those of a mesh are written out in crates/mesh/specs/Limits.antt. The definitions name them by the constants of the code, so that each number stands once there; here is what it has to be.
 use Rattle.std.specs.Prelude.{◌≡◌, true, false}
+use Rattle.mesh.specs.Limits.{MeshLimits}
 use Rattle.questions.specs.Questions.{counts_fit}
 use Rattle.curve.specs.Questions as Curve
 use Rattle.records.specs.Records as Records
@@ -37,6 +38,7 @@ pub record ProgramLimits : Type 0 where
   pub output : output_room ≡ 131136
 
 pub record LimitsHold : Type 0 where
+  pub mesh : MeshLimits
   pub counts : CountLimits
   pub curve : CurveLimits
   pub records : RecordLimits
