@@ -1,22 +1,17 @@
--- The limits and sizes in literals. The definitions name them by the constants of the code, so that each number stands once there; here is what it has to be.
+-- The limits and sizes in literals; those of a mesh are written out in crates/mesh/specs/Limits.antt. The definitions name them by the constants of the code, so that each number stands once there; here is what it has to be.
 use Rattle.std.specs.Prelude.{◌≡◌, true, false}
-use Rattle.mesh.specs.Mesh as Mesh
+use Rattle.mesh.specs.Limits.{MeshLimits}
 use Rattle.questions.specs.Questions.{counts_fit}
 use Rattle.curve.specs.Questions as Curve
 use Rattle.records.specs.Records as Records
 use Rattle.program.specs.Lines.Lines.{line_bytes}
 use Rattle.program.specs.Program.{position_room, halfedge_room, tangent_room, flag_room, output_room}
 
--- a mesh: question 1 at its limits and past each, the numbers of a halfedge and of a face reference, and 2^32 for a negative number
-pub record MeshLimits : Type 0 where
-  pub most_halfedges : Mesh.max_halfedges ≡ 65535
-  pub most_points : Mesh.max_points ≡ 65535
+-- question 1 at its limits and past each
+pub record CountLimits : Type 0 where
   pub accepted : counts_fit 65535 65535 ≡ true
   pub halfedges_refused : counts_fit 65538 65535 ≡ false
   pub points_refused : counts_fit 65535 65536 ≡ false
-  pub halfedge_numbers : Mesh.halfedge_stride ≡ 4
-  pub reference_numbers : Mesh.ref_stride ≡ 3
-  pub negative : Mesh.no_index ≡ 4294967296
 
 -- the points along a curve
 pub record CurveLimits : Type 0 where
@@ -44,6 +39,7 @@ pub record ProgramLimits : Type 0 where
 
 pub record LimitsHold : Type 0 where
   pub mesh : MeshLimits
+  pub counts : CountLimits
   pub curve : CurveLimits
   pub records : RecordLimits
   pub program : ProgramLimits

@@ -1,5 +1,6 @@
 -- The laws of the module `preview`, for the crates above.
 pub mod Bytes
+pub mod Lawful
 pub mod First
 pub mod Second
 pub mod Pass

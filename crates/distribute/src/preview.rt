@@ -6,10 +6,9 @@ ghost use Rattle.mesh.specs.Mesh.{as_halfedges};
 ghost use Rattle.mesh.specs.Rows.{RowsUnread};
 ghost use Rattle.distribute.specs.Spread.Spread.{pass};
 ghost use Rattle.distribute.specs.Steps.FloatSteps.{float_steps};
-ghost use Rattle.distribute.specs.Walks.Walks.{steps_of};
 ghost use Rattle.distribute.specs.Distribute.{spread_tangents, Values};
-ghost use Rattle.distribute.specs.Preview.Walks.{Shows};
-ghost use Rattle.distribute.specs.Preview.Preview.{check_lists, preview_tangents, bytes_after, AsSpreading, AnyOrder};
+ghost use Rattle.distribute.specs.Preview.Walks.{steps_at, Shows};
+ghost use Rattle.distribute.specs.Preview.Preview.{check_lists, preview_tangents, bytes_after, AsSpreading, AnyOrder, LengthsAlone};
 
 mod walks;
 
@@ -21,7 +20,7 @@ use questions::Refusal;
 #[tactic(auto, using(crate::proofs::PreviewLaws::Pass::shown_begin))]
 fn preview_all(lists: &SpreadLists, t: &[f64], bytes: &mut [u8]) -> Counts
     requires { (length t.now ≡ lists.now.n * 4) × (length bytes.old ≡ lists.now.n) }
-    ensures { Shows (steps_of lists.now) (pass (steps_of lists.now) t.now) bytes.new result }
+    ensures { (P N : List Float) → Shows (steps_at lists.now P N) (pass (steps_at lists.now P N) t.now) bytes.new result }
 {
     bytes.fill(0);
     let mut counts = Counts {
@@ -51,6 +50,7 @@ pub fn preview_tangents(
     ensures answer { result ≡ preview_tangents (as_halfedges h.now) pos.now normals.now fixed.now t.now bytes.old n p }
     ensures bytes { bytes.new ≡ bytes_after (as_halfedges h.now) pos.now normals.now fixed.now t.now bytes.old n p }
     ensures spreading { AsSpreading (as_halfedges h.now) pos.now normals.now fixed.now t.now bytes.old n p result }
+    ensures lengths_alone { LengthsAlone (as_halfedges h.now) pos.now normals.now fixed.now t.now bytes.old n p bytes.new result }
     ensures order { AnyOrder (as_halfedges h.now) pos.now normals.now fixed.now t.now bytes.old n p bytes.new result }
     ensures values { Values (check_lists (as_halfedges h.now) pos.now normals.now fixed.now t.now bytes.old n p) (float_steps (as_halfedges h.now) pos.now normals.now fixed.now n) (spread_tangents (as_halfedges h.now) pos.now normals.now fixed.now t.now n) result }
 {

@@ -1,5 +1,5 @@
 -- `linearize_flat_tangents` of src/smoothing_tangents.rs: straightening. H are the halfedges, P the positions, T the tangents, n and p the counts of halfedges and points.
-use Rattle.std.specs.Prelude.{ℕ, ◌*◌, ◌≡◌, List, Bool, cond, ◌&&◌, length, Float}
+use Rattle.std.specs.Prelude.{ℕ, ◌*◌, ◌≡◌, List, Bool, true, false, cond, ◌&&◌, length, Float}
 use Rattle.std.specs.Float.Ieee.{eq}
 use Rattle.float.specs.Ops.{zero, one, two, three}
 use Rattle.linalg.specs.declared.Vec3.{Vec3}
@@ -11,7 +11,7 @@ use Rattle.questions.specs.Check.{Checked, check_mesh, when_accepted}
 use Rattle.common.specs.Fold.{fold_to}
 use Rattle.mesh.specs.Sound.{Sound}
 use Rattle.smoothing.specs.Directions.{vec3_from_vec4, with_weight}
-use Rattle.smoothing.specs.Lists.{tangent_at, put_tangent}
+use Rattle.smoothing.specs.Lists.{tangent_at, put_tangent, is_marked_inside_quad}
 use Rattle.smoothing.specs.Edges.{EdgeIn, QuadIn, edge_vec}
 
 -- ---- one edge
@@ -62,6 +62,15 @@ linearize_answer H P T n p = check_mesh H n p (lengths_fit H P T n p)
 -- the tangents after the call, for every input: as lent when it is refused
 abbrev pub tangents_after : Halfedges → List Float → List Float → ℕ → ℕ → List Float
 tangents_after H P T n p = when_accepted (linearize_answer H P T n p) (linearize_flat_tangents H P T n) T
+
+-- THE CLAIM, of the tangents T as lent and U after the call, for every input: only flat tangents are written over. A diagonal of a quad is marked at both of its halfedges; a mark that is written over at one of them alone spoils the quad.
+pub record TangentsKept (T U : List Float) : Type 0 where
+  -- the list is as long as before
+  pub whole : length U ≡ length T
+  -- at every halfedge d, a tangent that is not flat is the same as before
+  pub unflat : (d : ℕ) → is_flat (tangent_at T d) ≡ false → tangent_at U d ≡ tangent_at T d
+  -- and so is one that is marked inside a quad
+  pub marked : (d : ℕ) → is_marked_inside_quad T d ≡ true → tangent_at U d ≡ tangent_at T d
 
 -- ---- what the inner functions ask of their lists
 

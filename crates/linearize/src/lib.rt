@@ -8,7 +8,7 @@ ghost use Rattle.std.specs.Prelude.{◌≡◌, ℕ, List, Float, length};
 ghost use Rattle.mesh.specs.Mesh.{as_halfedges};
 ghost use Rattle.mesh.specs.Rows.{RowsUnread};
 ghost use Rattle.questions.specs.Check.{Values};
-ghost use Rattle.linearize.specs.Linearize.{lengths_fit, linearize_answer, tangents_after};
+ghost use Rattle.linearize.specs.Linearize.{lengths_fit, linearize_answer, tangents_after, TangentsKept};
 
 use questions::Refusal;
 
@@ -21,7 +21,7 @@ fn lengths_fit(n: usize, p: usize, h: &[i32], pos: &[f64], t: &[f64]) -> bool
 
 // The call, for lists of any length and content.
 // The signature stays flat, as the C interface lends: counts, lists read, lists written, scratch.
-#[tactic(auto, using(questions::proofs::Accepted::accepted))]
+#[tactic(auto, using(questions::proofs::Accepted::accepted, crate::proofs::Laws::tangents_kept))]
 pub fn linearize_flat_tangents(
     n: usize,
     p: usize,
@@ -32,6 +32,7 @@ pub fn linearize_flat_tangents(
     ensures answer { result ≡ linearize_answer (as_halfedges h.now) pos.now t.old n p }
     ensures tangents { t.new ≡ tangents_after (as_halfedges h.now) pos.now t.old n p }
     ensures values { Values (linearize_answer (as_halfedges h.now) pos.now t.old n p) result }
+    ensures kept { TangentsKept t.old t.new }
 {
     let checked = questions::check_mesh(h, n, p, lengths_fit(n, p, h, pos, t));
     let Ok(()) = checked else {

@@ -1,4 +1,4 @@
--- What the reads of an accepted mesh ask of the list of halfedges H. Only contracts inside a call name it; `inside` of proofs/Accepted.antt gives it.
+-- What the reads of an accepted mesh ask of the list of halfedges H. Only contracts inside a call name it; `inside` of proofs/Inside.antt gives it.
 use Rattle.std.specs.Prelude.{ℕ, ◌+◌, ◌*◌, ◌≤◌, ◌<◌}
 use Rattle.mesh.specs.Mesh.{halfedge_stride, no_index, start_vert, end_vert, paired_halfedge, Halfedges}
 

@@ -6,6 +6,7 @@
 ghost use Rattle.std.specs.Prelude.{◌≡◌, ◌+◌, ◌*◌, ◌<◌, ◌≤◌, ◌^◌, length};
 ghost use Rattle.mesh.specs.Mesh.{halfedge_stride, number_at, index_of, field, start_vert, end_vert, paired_halfedge, prop_vert, is_forward, next_halfedge, prev_halfedge, eq_z, ref_at, same_face, as_halfedges, no_index};
 ghost use Rattle.mesh.specs.Inside.{Inside};
+ghost use Rattle.mesh.specs.Limits.{MeshLimits};
 ghost use Rattle.mesh.specs.Scalar.{radians_of};
 
 // The most halfedges and points that a mesh may have (question 1).
@@ -21,6 +22,11 @@ pub const REF_STRIDE: usize = 3;
 // What a negative entry is read as: a number above every count, so that the questions compare it like any other. An Option would be
 // opened in each of them to answer the same no.
 pub const NO_INDEX: usize = 4294967296;
+
+// Law: these are the stated numbers (specs/Limits.antt, `MeshLimits`).
+pub fn limits_hold()
+    ensures { MeshLimits }
+{}
 
 // The index that x is known to be.
 pub fn index_of(x: i32) -> usize

@@ -2,7 +2,7 @@
 // (the crate `records`), the operation is done (`operations`), and the answer goes as lines into a lent buffer (`lines`).
 #![tactic(auto)]
 
-mod lines;
+pub mod lines;
 mod operations;
 
 ghost use Rattle.std.specs.Prelude.{◌≡◌, cond, [], length};

@@ -11,8 +11,7 @@ use questions::Refusal;
 // Room for a line: no line has more bytes.
 pub const LINE_BYTES: usize = 96;
 
-// What the program prints. A refusal stands here by number and place, since `render` prints any: a `Refusal` would ask more
-// of its callers.
+// What the program prints. A refusal stands here by number and place, the two that its line shows; `render` prints any.
 #[derive(Clone, Copy)]
 pub enum Output {
     // Straightened tangents.
@@ -42,7 +41,7 @@ impl From<Result<Output, Refusal>> for Output {
         match answer {
             Ok(output) => output,
             Err(refusal) => Output::Refused {
-                number: refusal.question as usize,
+                number: refusal.question.number(),
                 place: refusal.place,
             },
         }

@@ -4,9 +4,9 @@ use Rattle.std.specs.Int.Signed.{le_z}
 use Rattle.std.specs.Float.{nan, inf, fin}
 use Rattle.mesh.specs.Mesh.{max_halfedges, max_points, halfedge_stride, no_index, start_vert, end_vert, paired_halfedge, prop_vert, next_halfedge, ref_at, Halfedges}
 use Rattle.questions.specs.declared.Question.{Question}
-use Rattle.questions.specs.declared.Question.TheVariants.{Counts, Lengths, Points, Pair, Mutual, Opposite, Joined, Mesh, Entry, Sign, Flag, Row, MovedPoint, Fits, Kind, Body, Operation, End, WideCounts, OutputRoom, Size, Corners, Pairing, Parameter, CurveCount, CurveRoom, Planes, Profile, Jobs, JobLimit, JobTurned}
+use Rattle.questions.specs.declared.Question.TheVariants.{Counts, Lengths, Points, Pair, Mutual, Opposite, Joined, Mesh, Entry, Sign, Flag, Row, MovedPoint, Fits, Kind, Body, Operation, End, WideCounts, OutputRoom, Size, Corners, Pairing, Parameter, CurveCount, CurveRoom, Planes, Profile, Jobs, JobLimit, JobTurned, Own}
 
--- the number of each question
+-- the number of each question; one of a caller's own carries its number
 abbrev pub number : Question → ℕ
 number Counts = 1
 number Lengths = 2
@@ -39,6 +39,7 @@ number Profile = 60
 number Jobs = 80
 number JobLimit = 81
 number JobTurned = 82
+number (Own k) = k
 
 -- 1: is the halfedge count a multiple of 3 and at most its limit, and the point count at most its own?
 abbrev pub counts_fit : ℕ → ℕ → Bool

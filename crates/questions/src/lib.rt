@@ -13,7 +13,7 @@ ghost use Rattle.std.specs.Float.{nan};
 ghost use Rattle.mesh.specs.Mesh.{max_halfedges, max_points, halfedge_stride, prop_vert, ref_at, as_halfedges, no_index};
 ghost use Rattle.mesh.specs.Rows.{RowsUnread};
 ghost use Rattle.mesh.specs.Sound.{Sound};
-ghost use Rattle.questions.specs.Questions.{has_length, mesh_fits, points_fit, sign_clear};
+ghost use Rattle.questions.specs.Questions.{number, has_length, mesh_fits, points_fit, sign_clear};
 ghost use Rattle.questions.specs.All.{triangles_hold, ask_each};
 ghost use Rattle.questions.specs.Check.{number_of, place_of, answer_of, asked, each, check_mesh, check_refs, check_entries, check_flags, check_rows};
 
@@ -25,40 +25,84 @@ use places::{
 use triangles::triangle_holds;
 // The questions, each with its number: of a mesh and the lists that are lent with it, 1 to 12, and of a point to move, 13; of records that
 // are read or written, 20 to 26; of an STL file, 30 to 32; of the points along a curve, 40 to 42; of byte planes, 50; of a profile, 60; of
-// the figures of several jobs, 80 to 82. No call asks 13, 25, 26 or 50 to 82 yet.
+// the figures of several jobs, 80 to 82. No call asks 13, 25, 26 or 50 to 82 yet. `Own` is a question of a caller's own, by its number:
+// no call asks one, and those that are handed an earlier answer hand its refusal on.
 #[derive(Clone, Copy, PartialEq, Eq)]
 pub enum Question {
-    Counts = 1,
-    Lengths = 2,
-    Points = 3,
-    Pair = 4,
-    Mutual = 5,
-    Opposite = 6,
-    Joined = 7,
-    Mesh = 8,
-    Entry = 9,
-    Sign = 10,
-    Flag = 11,
-    Row = 12,
-    MovedPoint = 13,
-    Fits = 20,
-    Kind = 21,
-    Body = 22,
-    Operation = 23,
-    End = 24,
-    WideCounts = 25,
-    OutputRoom = 26,
-    Size = 30,
-    Corners = 31,
-    Pairing = 32,
-    Parameter = 40,
-    CurveCount = 41,
-    CurveRoom = 42,
-    Planes = 50,
-    Profile = 60,
-    Jobs = 80,
-    JobLimit = 81,
-    JobTurned = 82,
+    Counts,
+    Lengths,
+    Points,
+    Pair,
+    Mutual,
+    Opposite,
+    Joined,
+    Mesh,
+    Entry,
+    Sign,
+    Flag,
+    Row,
+    MovedPoint,
+    Fits,
+    Kind,
+    Body,
+    Operation,
+    End,
+    WideCounts,
+    OutputRoom,
+    Size,
+    Corners,
+    Pairing,
+    Parameter,
+    CurveCount,
+    CurveRoom,
+    Planes,
+    Profile,
+    Jobs,
+    JobLimit,
+    JobTurned,
+    Own(usize),
+}
+
+impl Question {
+    // The number of a question, as refusals are told by it.
+    pub fn number(self) -> usize
+        ensures { result ≡ number self }
+    {
+        match self {
+            Question::Counts => 1,
+            Question::Lengths => 2,
+            Question::Points => 3,
+            Question::Pair => 4,
+            Question::Mutual => 5,
+            Question::Opposite => 6,
+            Question::Joined => 7,
+            Question::Mesh => 8,
+            Question::Entry => 9,
+            Question::Sign => 10,
+            Question::Flag => 11,
+            Question::Row => 12,
+            Question::MovedPoint => 13,
+            Question::Fits => 20,
+            Question::Kind => 21,
+            Question::Body => 22,
+            Question::Operation => 23,
+            Question::End => 24,
+            Question::WideCounts => 25,
+            Question::OutputRoom => 26,
+            Question::Size => 30,
+            Question::Corners => 31,
+            Question::Pairing => 32,
+            Question::Parameter => 40,
+            Question::CurveCount => 41,
+            Question::CurveRoom => 42,
+            Question::Planes => 50,
+            Question::Profile => 60,
+            Question::Jobs => 80,
+            Question::JobLimit => 81,
+            Question::JobTurned => 82,
+            Question::Own(number) => number,
+        }
+    }
 }
 
 // The first question that is answered no, and the lowest place that breaks it.
@@ -105,7 +149,7 @@ pub fn points_fit(n: usize, p: usize, halfedges: usize, positions: usize, normal
 pub fn number_of<T: Copy>(answer: Result<T, Refusal>) -> usize
     ensures { result ≡ number_of answer }
 {
-    answer.err().map_or(0, |refusal| refusal.question as usize)
+    answer.err().map_or(0, |refusal| refusal.question.number())
 }
 
 // The place of an answer, 0 where none refuses.

@@ -52,7 +52,7 @@ pub struct Refusal {
 impl From<questions::Refusal> for Refusal {
     fn from(refusal: questions::Refusal) -> Self {
         Refusal {
-            number: refusal.question as usize,
+            number: refusal.question.number(),
             place: refusal.place,
         }
     }

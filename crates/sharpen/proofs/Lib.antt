@@ -3,4 +3,5 @@ pub mod Entries
 pub mod Room
 pub mod Edges
 mod Slivers
+mod Limit
 mod Outcome

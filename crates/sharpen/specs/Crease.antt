@@ -1,5 +1,6 @@
 -- The rule for one edge: that of `sharpen_edges` of src/smoothing_tangents.rs, and what the clean listing adds (docs/changes/06-clean-listing.md). H are the halfedges, A the face normals.
-use Rattle.std.specs.Prelude.{ℕ, ◌/◌, List, Bool, true, false, cond, ◌&&◌, ◌||◌, Float}
+use Rattle.std.specs.Prelude.{ℕ, ◌/◌, ◌≡◌, List, Bool, true, false, cond, ◌&&◌, ◌||◌, Float}
+use Rattle.std.specs.Float.{nan}
 use Rattle.std.specs.Float.Ieee.{lt, neg}
 use Rattle.float.specs.Ops.{lit, one}
 use Rattle.float.specs.F64.{max_of, clamp_of}
@@ -17,6 +18,13 @@ use Rattle.sharpen.specs.declared.edge.Rule.TheVariants.{Ported, Clean}
 -- `min_radians`: `radians(min_sharp_angle.max(1e-4))`
 unfoldable pub min_radians : Float → Float
 min_radians angle = radians_of (max_of angle (lit 0x3f1a_36e2_eb1c_432d))
+
+-- THE CLAIM: what a limit gives that is not a number. The literal is 1e-4, by its bits.
+pub record NanLimit : Type 0 where
+  -- it acts as 1e-4 does
+  pub acts_as : min_radians nan ≡ min_radians (lit 0x3f1a_36e2_eb1c_432d)
+  -- and 1e-4 acts as itself: no larger number stands in its place
+  pub itself : min_radians (lit 0x3f1a_36e2_eb1c_432d) ≡ radians_of (lit 0x3f1a_36e2_eb1c_432d)
 
 -- `dihedral`: the angle between two face normals with the dot product d
 unfoldable pub dihedral_of : Float → Float

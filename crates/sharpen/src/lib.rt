@@ -11,6 +11,7 @@ ghost use Rattle.mesh.specs.Mesh.{as_halfedges};
 ghost use Rattle.mesh.specs.Rows.{RowsUnread};
 ghost use Rattle.sharpen.specs.declared.edge.Rule.{Rule};
 ghost use Rattle.sharpen.specs.declared.edge.Rule.TheVariants.{Ported, Clean};
+ghost use Rattle.sharpen.specs.Crease.{NanLimit};
 ghost use Rattle.sharpen.specs.Entries.{entries_in, push_edge, list_edge, list_edges};
 ghost use Rattle.sharpen.specs.Turn.{listed_by, EdgeFits};
 ghost use Rattle.sharpen.specs.Sharpen.{entries_of, tally_of, lengths_fit, sharpen_edges, entries_after};
@@ -225,4 +226,10 @@ pub fn sharpen_edges_clean(
 pub fn rows_unread()
     ensures answer { (rule : Rule) (A : List Float) (angle smooth : Float) (I : List ℕ) (Q : List Float) (n p : ℕ) → RowsUnread (λ H. sharpen_edges rule H A angle smooth I Q n p) }
     ensures entries { (rule : Rule) (A : List Float) (angle smooth : Float) (I : List ℕ) (Q : List Float) (n p : ℕ) → RowsUnread (λ H. entries_after rule H A angle smooth I Q n p) }
+{}
+
+// Law: a limit that is not a number acts as 1e-4 degrees (specs/Crease.antt, `NanLimit`).
+#[tactic(auto, using(crate::proofs::Limit::nan_limit, crate::proofs::Limit::least_limit))]
+pub fn nan_limit_holds()
+    ensures { NanLimit }
 {}

@@ -98,7 +98,7 @@ module _ (k : ℕ) where
 module _ (s : List ℕ) (pos_len h_len face_normals_len : ℕ) where
   last_refused : number_of (check_stl s pos_len h_len face_normals_len) ≡ 32 → each Pairing (is_paired s) (halfedge_count s) ≡ Ok tt → ⊥
   unfolding check_file
-  last_refused e q = first (then_number 32 _ _ e)
+  last_refused e q = first (then_number 32 (asked Size 0 (length_fits s)) (check_file s (has_room s pos_len h_len face_normals_len)) e)
     where
       zero_not : ◌≡◌ {A = ℕ} 0 32 → ⊥
       zero_not z = omega arith
@@ -107,7 +107,7 @@ module _ (s : List ℕ) (pos_len h_len face_normals_len : ℕ) where
       fourth h = zero_not (sym (ap number_of q) ∙ h)
 
       third : (number_of (asked Lengths 0 (has_room s pos_len h_len face_normals_len) then each Corners (triangle_fits s) (triangle_count s)) ≡ 32) ⊎ (number_of (asked Size 0 (leb (point_count s) max_points)) ≡ 32) → ⊥
-      third (inl h) = pick (then_number 32 _ _ h)
+      third (inl h) = pick (then_number 32 (asked Lengths 0 (has_room s pos_len h_len face_normals_len)) (each Corners (triangle_fits s) (triangle_count s)) h)
         where
           pick : (number_of (asked Lengths 0 (has_room s pos_len h_len face_normals_len)) ≡ 32) ⊎ (number_of (each Corners (triangle_fits s) (triangle_count s)) ≡ 32) → ⊥
           pick (inl a) = let z = asked_number 32 Lengths 0 _ zero_not a in omega arith
@@ -115,12 +115,12 @@ module _ (s : List ℕ) (pos_len h_len face_normals_len : ℕ) where
       third (inr h) = let z = asked_number 32 Size 0 _ zero_not h in omega arith
 
       second : (number_of (asked Lengths 0 (has_room s pos_len h_len face_normals_len) then each Corners (triangle_fits s) (triangle_count s) then asked Size 0 (leb (point_count s) max_points)) ≡ 32) ⊎ (number_of (each Pairing (is_paired s) (halfedge_count s)) ≡ 32) → ⊥
-      second (inl h) = third (then_number 32 _ _ h)
+      second (inl h) = third (then_number 32 (asked Lengths 0 (has_room s pos_len h_len face_normals_len) then each Corners (triangle_fits s) (triangle_count s)) (asked Size 0 (leb (point_count s) max_points)) h)
       second (inr h) = fourth h
 
       first : (number_of (asked Size 0 (length_fits s)) ≡ 32) ⊎ (number_of (check_file s (has_room s pos_len h_len face_normals_len)) ≡ 32) → ⊥
       first (inl h) = let z = asked_number 32 Size 0 _ zero_not h in omega arith
-      first (inr h) = second (then_number 32 _ _ h)
+      first (inr h) = second (then_number 32 (asked Lengths 0 (has_room s pos_len h_len face_normals_len) then each Corners (triangle_fits s) (triangle_count s) then asked Size 0 (leb (point_count s) max_points)) (each Pairing (is_paired s) (halfedge_count s)) h)
 
 pub exactly_of : (s : List ℕ) (P : List Float) (L : List ℤ) (A : List Float) {r : Reading} → r ≡ read_stl s P L A → PairedExactly s r
 exactly_of s P L A e =

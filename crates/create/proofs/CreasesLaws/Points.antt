@@ -118,3 +118,11 @@ module _ {H : Halfedges} {n p : ℕ} (s : Sound H n p) (S : List Float) (v : ℕ
   -- a meeting: the first is one too
   pub meeting_in : (m : Float) → crease_of (pairs_at H S n v) ≡ Meeting m → (first_crease H S n v < n) × (start_vert H (first_crease H S n v) ≡ v)
   meeting_in m e = first_of (λ g. (g < n) × (start_vert H g ≡ v)) (creases_at H S n v) (vert_halfedge H n v) (creases_in s S v) (meeting_is H S (creases_at H S n v) m e)
+
+  -- it is a halfedge, or n
+  pub first_within : first_crease H S n v ≤ n
+  first_within = go (creases_at H S n v) (creases_below s S v)
+    where
+      go : (l : List ℕ) → All (λ g. g < n) l → get_or l 0 (vert_halfedge H n v) ≤ n
+      go [] a = vert_halfedge_within H n v
+      go (e ∷ l) a = omega (arith, a.0)

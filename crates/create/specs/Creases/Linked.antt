@@ -1,4 +1,4 @@
--- How three scratch lists hold the Rust's map `vert_tangents`: M the smoothness of each of the n halfedges, W with a place per point, L with a place per halfedge. Only contracts inside a call name these; `vert_tangents_lem` of `proofs/Verts.antt` says that the two agree.
+-- How three scratch lists hold the Rust's map `vert_tangents`: M the smoothness of each of the n halfedges, W with a place per point, L with a place per halfedge. Only contracts inside a call name these; `vert_tangents_lem` of `proofs/CreasesLaws/Verts.antt` says that the two agree.
 use Rattle.std.specs.Prelude.{ℕ, zero, suc, ◌+◌, ◌*◌, ◌-◌, ◌<◌, ◌≡◌, List, [], ◌∷◌, map, Bool, cond, ◌&&◌, length, get_or, eqb, leb, Float}
 use Rattle.mesh.specs.Mesh.{halfedge_stride, start_vert, paired_halfedge, Halfedges}
 use Rattle.mesh.specs.Sound.{Sound}
@@ -35,7 +35,7 @@ abbrev pub Linked : ℕ → List ℕ → ℕ → ℕ → List ℕ → Type 0
 Linked n L end c [] = c ≡ end
 Linked n L end c (e ∷ l) = (c ≡ suc n + e) × Linked n L end (get_or L e 0) l
 
--- the same as a test, whose answer a struct can keep: `linked_tests` and `linked_all` of `proofs/Lent.antt` say that it is `LinkedAll`
+-- the same as a test, whose answer a struct can keep: `linked_tests` and `linked_all` of `proofs/CreasesLaws/Lent.antt` say that it is `LinkedAll`
 abbrev pub is_linked : ℕ → List ℕ → ℕ → ℕ → List ℕ → Bool
 is_linked n L end c [] = eqb c end
 is_linked n L end c (e ∷ l) = eqb c (suc n + e) && is_linked n L end (get_or L e 0) l
@@ -55,7 +55,7 @@ LinkedFrom H M W L n f = (v : ℕ) → v < length W → Linked n L (vert_halfedg
 abbrev pub LinkedAll : Halfedges → List Float → List ℕ → List ℕ → ℕ → Type 0
 LinkedAll H M W L n = (v : ℕ) → v < length W → Linked n L (vert_halfedge H n v) (get_or W v 0) (creases_at H M n v)
 
--- what the lists must be for a call: `lists_in` of `proofs/Lent.antt` gives it on an accepted mesh
+-- what the lists must be for a call: `lists_in` of `proofs/CreasesLaws/Lent.antt` gives it on an accepted mesh
 pub record Lists (H : Halfedges) (M : List Float) (W L : List ℕ) (n : ℕ) : Type 0 where
   pub sound : Sound H n (length W)
   pub whole : H.numbers ≡ n * halfedge_stride

@@ -1,4 +1,4 @@
--- How a scratch list M with a place for each of the n halfedges holds the Rust's map `edges`: the smoothness of each halfedge, 1 where no entry names it. Only contracts inside a call name these; `same_map` of `proofs/Edges.antt` says that the two agree.
+-- How a scratch list M with a place for each of the n halfedges holds the Rust's map `edges`: the smoothness of each halfedge, 1 where no entry names it. Only contracts inside a call name these; `same_map` of `proofs/EdgesLaws/Edges.antt` says that the two agree.
 use Rattle.std.specs.Prelude.{ℕ, ◌/◌, ◌<◌, ◌≡◌, List, Bool, cond, not, ◌&&◌, ◌||◌, ℤ, Float}
 use Rattle.std.specs.Float.Ieee.{lt}
 use Rattle.float.specs.Ops.{zero, one}

@@ -1,4 +1,4 @@
--- `create_tangents` by its scratch lists. Only contracts inside a call name these; `filled_same` of `proofs/Filled.antt` says that the tangents are those of `create_tangents`, and the count that of `create_directionless`.
+-- `create_tangents` by its scratch lists. Only contracts inside a call name these; `filled_same` of `proofs/WholeLaws/Filled.antt` says that the tangents are those of `create_tangents`, and the count that of `create_directionless`.
 use Rattle.std.specs.Prelude.{ℕ, ◌≡◌, List, Bool, length, ℤ, Float}
 use Rattle.mesh.specs.Mesh.{Halfedges}
 use Rattle.create.specs.Whole.Lent.{CreateLists, pairs_of}

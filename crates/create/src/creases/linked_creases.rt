@@ -8,8 +8,8 @@ ghost use Rattle.create.specs.Creases.Linked.{creases_at, is_linked, Lists};
 // The smoothness of each of n halfedges, and the creases of each point, as `link_creases` leaves them: `at` has the number of a
 // point's first crease, `link` that of the next. `n` stays a field, though it is the length of `smooth`: without it each clause
 // here and in the crates above would say `length creases.now.smooth.now` for `creases.now.n`. That the creases are linked is kept
-// as a test, since a field can keep an answer: `linked_tests` and `linked_all` of proofs/Lent.antt say that it is `LinkedAll`,
-// which `link_creases` ensures.
+// as a test, since a field can keep an answer: `linked_tests` and `linked_all` of proofs/CreasesLaws/Lent.antt say that it is
+// `LinkedAll`, which `link_creases` ensures.
 #[derive(Clone, Copy)]
 pub struct LinkedCreases<'a> {
     pub n: usize,

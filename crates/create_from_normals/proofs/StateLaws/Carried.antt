@@ -1,4 +1,4 @@
--- Two numbers, and two normals, that have the same bits are equal; and with the normals of the lists the state after a halfedge is the Rust's. Assumes nothing.
+-- Two numbers, and two normals, have the same bits exactly where they are equal; and with the normals of the lists the state after a halfedge is the Rust's. Assumes nothing.
 use Prim.Native.Nat.{ℕ, ◌+◌, ◌*◌, ◌/◌, ◌≤◌}
 use mathlib.Core.Path.{◌≡◌, refl, sym, ap, ◌∙◌, subst}
 use mathlib.Core.Bool.{true}
@@ -6,7 +6,7 @@ use mathlib.Core.List.{List}
 use lib.Dec.{T}
 use lib.Ieee.{Float, binary64, fits, of_bits}
 use lib.Ieee.Bits.{of_bits-to_bits}
-use borrow.Author.Tests.{eqb-true}
+use borrow.Author.Tests.{eq-eqb, eqb-true}
 use Rattle.float.specs.F64.{bits_of}
 use Rattle.linalg.specs.declared.Vec3.{Vec3}
 use Rattle.std.proofs.lemmas.Bool.{and_parts}
@@ -31,6 +31,10 @@ same_bits_lem : (a b : Float) → Fits a → Fits b → same_bits a b ≡ true �
 unfolding same_bits
 same_bits_lem a b f g h = sym (read_back a f) ∙ ap (of_bits binary64) (eqb-true (bits_of a) (bits_of b) h) ∙ read_back b g
 
+pub bits_same : (a b : Float) → a ≡ b → same_bits a b ≡ true
+unfolding same_bits
+bits_same a b q = eq-eqb (bits_of a) (bits_of b) (ap bits_of q)
+
 pub record FitsAll (v : Vec3) : Type 0 where
   pub x : Fits v.x
   pub y : Fits v.y
@@ -48,6 +52,10 @@ same_normal_lem a b f g h =
     let q = same_bits_lem a.y b.y f.y g.y j.1 in
     let r = same_bits_lem a.z b.z f.z g.z k.1 in
     λ i. vec (p i) (q i) (r i)
+
+pub normal_same : (a b : Vec3) → a ≡ b → same_normal a b ≡ true
+unfolding same_normal
+normal_same a b q = rw (bits_same a.x b.x (ap (λ (v : Vec3). v.x) q), bits_same a.y b.y (ap (λ (v : Vec3). v.y) q), bits_same a.z b.z (ap (λ (v : Vec3). v.z) q)) refl
 
 -- ---- the state after a halfedge
 

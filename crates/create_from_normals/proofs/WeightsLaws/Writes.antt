@@ -77,6 +77,14 @@ module _ (H : Halfedges) (P : List Float) where
   between A a b true e = from_normal A a e
   between A a b false e = (_, refl)
 
+  -- made before, it is made after a write that makes the one at e
+  pub made_still : {T U : List Float} {e d : ℕ} → Writes T U e → Made U e → Made T d → Made U d
+  made_still {T} {U} {e} {d} w m k = go (ℕ_discrete d e)
+    where
+      go : Dec (d ≡ e) → Made U d
+      go (yes q) = subst (Made U) (sym q) m
+      go (no q) = subst (MadeWeight H P d) (sym (w.others d q)) k
+
   -- ---- the loop where all normals are missing
 
   module _ (A : List Float) (normal : Vec3) (T : List Float) (e : ℕ) where

@@ -1,4 +1,4 @@
--- The code's means: a walk round a vertex cycle carries the normals from halfedge to halfedge, and takes a unit vector over where a normal is the same bit for bit. Only contracts of functions inside the making cite these definitions. They say the outcome for any normals that are handed in; `proofs/Carried.antt` says that for those of the lists it is the Rust's step.
+-- The code's means: a walk round a vertex cycle carries the normals from halfedge to halfedge, and takes a unit vector over where a normal is the same bit for bit. Only contracts of functions inside the making cite these definitions. They say the outcome for any normals that are handed in; `proofs/StateLaws/Carried.antt` says that for those of the lists it is the Rust's step.
 use Rattle.std.specs.Prelude.{ℕ, ◌/◌, List, Bool, ◌&&◌, eqb, Float}
 use Rattle.float.specs.F64.{bits_of}
 use Rattle.linalg.specs.declared.Vec3.{Vec3}

@@ -1,4 +1,4 @@
--- The code's means: the steps at the lists that they are lent, a tangent by its direction, the body of the first loop by the normals that the walk carries, and a list of flags in which the code notes the halfedges inside a quad. Only contracts of functions inside the making cite these definitions. They say the outcome for any normals that are handed in; `proofs/Carried.antt` says that for those of the lists it is the Rust's step.
+-- The code's means: the steps at the lists that they are lent, a tangent by its direction, the body of the first loop by the normals that the walk carries, and a list of flags in which the code notes the halfedges inside a quad. Only contracts of functions inside the making cite these definitions. They say the outcome for any normals that are handed in; `proofs/StepsLaws/Carried.antt` says that for those of the lists it is the Rust's step.
 use Rattle.std.specs.Prelude.{ℕ, List, Bool, cond, ◌||◌, get_or, set, eqb, Float}
 use Rattle.linalg.specs.declared.Vec3.{Vec3}
 use Rattle.linalg.specs.declared.Vec4.{Vec4}

@@ -1,4 +1,4 @@
--- The code's means: a list of flags for the halfedges inside a quad. The Rust reads the old weights while it makes the new tangents; in the code these take the place of the old ones, so it notes first which halfedges are inside a quad. Only contracts of functions inside the making cite these definitions; `proofs/Flags.antt` says that a flag is what `is_inside_quad` says. H are the halfedges, R the face references, T the tangents as lent, `old` whether these are old tangents, n how many halfedges there are.
+-- The code's means: a list of flags for the halfedges inside a quad. The Rust reads the old weights while it makes the new tangents; in the code these take the place of the old ones, so it notes first which halfedges are inside a quad. Only contracts of functions inside the making cite these definitions; `proofs/WholeLaws/Flags.antt` says that a flag is what `is_inside_quad` says. H are the halfedges, R the face references, T the tangents as lent, `old` whether these are old tangents, n how many halfedges there are.
 use Rattle.std.specs.Prelude.{ℕ, List, Bool, true, false, cond, set, replicate, ℤ, Float}
 use Rattle.common.specs.Fold.{fold_to}
 use Rattle.mesh.specs.Mesh.{Halfedges, as_halfedges}

@@ -25,6 +25,12 @@ module _ (S : Steps) (ts : S.Tangents) (start here looked : ℕ) (g : S.Gathered
     unfolding first_walk
     first_passes m q = rw (m, first_walk) (rw (q, first_walk))
 
+    -- marked, and the start: it ends
+    pub first_back : marked S ts (step here) ≡ true → eqb (step here) start ≡ true
+        → first_walk S (suc k) ts start here looked g ≡ record { last = step here; looked = suc looked; gathered = g }
+    unfolding first_walk
+    first_back m q = rw (m, first_walk) (rw q)
+
     -- unmarked and fixed: it gathers and ends
     pub first_last : marked S ts (step here) ≡ false → fixed (step here) ≡ true
         → first_walk S (suc k) ts start here looked g ≡ record { last = step here; looked = suc looked; gathered = gather start (step here) (read ts (step here)) g }

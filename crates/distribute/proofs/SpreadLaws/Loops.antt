@@ -2,7 +2,7 @@
 -- y gives a `FirstStep` or a `SecondStep`: what is kept at y, a measure that falls, and that what is left of the walk is the same. The fuel stays n + 1
 -- throughout. `first_end`, `second_stop` and `second_end` say what a walk that ends at y comes to.
 use mathlib.Core.Path.{◌≡◌, refl, sym, ap, ◌∙◌}
-use mathlib.Core.Bool.{Bool, true, false}
+use mathlib.Core.Bool.{Bool, true, false, true≢false}
 use mathlib.Core.List.{◌∷◌}
 use mathlib.Core.Logic.{◌≢◌}
 use Prim.Native.Nat.{ℕ, suc, ◌+◌, ◌≤◌, ◌<◌, zero-le, suc-le-suc}
@@ -129,6 +129,10 @@ module _ {S : Steps} (L : Lawful S) where
     pub first_end : (l : ℕ) (g : Gathered) → marked S ts y ≡ false → fixed y ≡ true
         → first_walk S (suc n) ts start x l g ≡ record { last = y; looked = suc l; gathered = gather start y (read ts y) g }
     first_end l g m f = rw e (first_last S ts start x l g n (ap (marked S ts) (sym e) ∙ m) (ap fixed (sym e) ∙ f))
+
+    -- a marked halfedge is not the start
+    pub first_other : marked S ts y ≡ true → y ≢ start
+    first_other m q = true≢false (sym m ∙ ap (marked S ts) q ∙ w.from.1)
 
 -- ---- the second walk
 

@@ -32,6 +32,11 @@ abbrev pub AsSpreading : Halfedges → List Float → List Float → List ℕ �
 AsSpreading H P N X T Y n p r =
     (C D : List Float) → has_length (length C) n 1 && has_length (length D) n 1 ≡ has_length (length Y) n 1 → r ≡ distribute_tangents H P N X T C D n p
 
+-- Of the positions and the point normals only the lengths are asked: any others Q and M of these lengths have the same answer r and the same bytes Z.
+abbrev pub LengthsAlone : Halfedges → List Float → List Float → List ℕ → List Float → List ℕ → ℕ → ℕ → List ℕ → Spreading → Type 0
+LengthsAlone H P N X T Y n p Z r =
+    (Q M : List Float) → length Q ≡ length P → length M ≡ length N → (r ≡ preview_tangents H Q M X T Y n p) × (Z ≡ bytes_after H Q M X T Y n p)
+
 -- ---- the order rule
 
 -- Spreading the tangents `ts` from `starts`: the order rule of the counts `looked` and `turned`, and the bytes Y are 1 exactly at the halfedges that it turns.

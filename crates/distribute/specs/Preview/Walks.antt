@@ -1,15 +1,20 @@
--- The two walks of a preview, as its code holds them: only contracts inside the call name these definitions. H are the halfedges, X the flags, T the tangents, which stay as lent, Y the bytes, n and p the counts of halfedges and points.
+-- The two walks of a preview, as its code holds them: only contracts inside the call name these definitions. H are the halfedges, X the flags, T the tangents, which stay as lent, Y the bytes, n and p the counts of halfedges and points. What a start turns does not depend on the positions P and the point normals N.
 use Rattle.std.specs.Prelude.{ℕ, ◌+◌, ◌≡◌, List, length, Float}
 use Rattle.linalg.specs.declared.Vec3.{Vec3}
+use Rattle.mesh.specs.Mesh.{as_halfedges}
 use Rattle.distribute.specs.Spread.Steps.{Steps}
 use Rattle.distribute.specs.Spread.Spread.{State}
-use Rattle.distribute.specs.Steps.FloatSteps.{Gathered, next_normal}
-use Rattle.distribute.specs.Walks.Walks.{state_of, first_found}
+use Rattle.distribute.specs.Steps.FloatSteps.{Gathered, next_normal, float_steps}
+use Rattle.distribute.specs.Walks.Walks.{state_of, first_from}
 use Rattle.distribute.specs.declared.walks.Counts.{Counts}
 use Rattle.distribute.specs.Preview.Bytes.{turned_bytes}
 use Rattle.distribute.specs.declared.preview.walks.Summed.{Summed}
 use Rattle.distribute.specs.declared.preview.walks.Seen.{Seen}
 use Rattle.distribute.specs.declared.walks.lists.SpreadLists.{SpreadLists}
+
+-- the steps of spreading over the lists, at any positions and point normals
+abbrev pub steps_at : SpreadLists → List Float → List Float → Steps
+steps_at lists P N = float_steps (as_halfedges lists.h.now) P N lists.fixed.now lists.n
 
 -- ---- the first walk
 
@@ -24,7 +29,8 @@ add_tangent tangent s = record { count = s.count + 1; normal = next_normal s.nor
 -- r is what spreading's first walk from the start finds, with so many steps looked at before
 abbrev pub Sums : SpreadLists → List Float → ℕ → ℕ → Seen → Type 0
 Sums lists T start looked r =
-    let found = first_found lists T start looked in (r.looked ≡ found.looked) × (r.summed ≡ summed_of found.gathered)
+    (P N : List Float) → let found = first_from (as_halfedges lists.h.now) P N lists.fixed.now lists.n T start looked in
+    (r.looked ≡ found.looked) × (r.summed ≡ summed_of found.gathered)
 
 -- ---- the bytes
 

@@ -10,9 +10,9 @@ ghost use Rattle.mesh.specs.Mesh.{as_halfedges};
 ghost use Rattle.smoothing.specs.Lists.{tangent_at};
 ghost use Rattle.distribute.specs.Spread.Spread.{second_walk, spread_at};
 ghost use Rattle.distribute.specs.Steps.FloatSteps.{Plan, is_mark, is_start, tangent_direction, float_steps};
-ghost use Rattle.distribute.specs.Walks.Walks.{steps_of, Room, more_turned};
+ghost use Rattle.distribute.specs.Walks.Walks.{Room, more_turned};
 ghost use Rattle.distribute.specs.declared.walks.Counts.{Counts};
-ghost use Rattle.distribute.specs.Preview.Walks.{add_tangent, Sums, Previews};
+ghost use Rattle.distribute.specs.Preview.Walks.{steps_at, add_tangent, Sums, Previews};
 
 mod lists;
 
@@ -111,7 +111,7 @@ fn show_unmarked(t: &[f64], bytes: &mut [u8], i: usize, e: usize) -> usize
 // The second walk: leaves by its label at a fixed halfedge other than the start, before that one's mark is read.
 fn second_walk(walk: &Walk, bytes: &mut [u8]) -> usize
     requires { length bytes.old ≡ walk.now.lists.now.n }
-    ensures previews { (by : Plan) (k : Counts) → Previews (steps_of walk.now.lists.now) (second_walk (steps_of walk.now.lists.now) (suc walk.now.lists.now.n) walk.now.start walk.now.start by) walk.now.t.now bytes.old k bytes.new (more_turned k result) }
+    ensures previews { (P N : List Float) (by : Plan) (k : Counts) → Previews (steps_at walk.now.lists.now P N) (second_walk (steps_at walk.now.lists.now P N) (suc walk.now.lists.now.n) walk.now.start walk.now.start by) walk.now.t.now bytes.old k bytes.new (more_turned k result) }
     ensures few { result ≤ walk.now.lists.now.n }
 {
     let mut here = walk.start;
@@ -140,7 +140,7 @@ pub fn preview_at(
 ) -> Counts
     requires lengths { (length t.now ≡ lists.now.n * 4) × (length bytes.old ≡ lists.now.n) }
     requires start_lt_n { (start < lists.now.n) × Room lists.now.n counts }
-    ensures previews { Previews (steps_of lists.now) (spread_at (steps_of lists.now) start) t.now bytes.old counts bytes.new result }
+    ensures previews { (P N : List Float) → Previews (steps_at lists.now P N) (spread_at (steps_at lists.now P N) start) t.now bytes.old counts bytes.new result }
     ensures looked_bound { (result.looked ≤ counts.looked + lists.now.n) × (result.turned ≤ counts.turned + lists.now.n) }
 {
     if !steps::is_start(lists.fixed, t, start) {

@@ -1,4 +1,4 @@
--- `mesh::triangles::index_of` meets its contract.
+-- `mesh::index_of` meets its contract.
 use Rattle.mesh.proofs.Signed.{indexed, not_negative, cast_index}
 use Rattle.mesh.proofs.index_of.Goals as goal
 

@@ -15,4 +15,4 @@ unfolding check_lists
 returns-clause-spreading c = as_spreading _ _ _ _ _ _ _ _ {r = Ok c.preview_all-counts.result} (grind (arith, common_steps))
 
 pub returns-clause-order : goal.returns-clause-order
-returns-clause-order c = any_order _ _ _ _ _ _ _ _ c.preview_all-counts.ensures
+returns-clause-order c = any_order _ _ _ _ _ _ _ _ (c.preview_all-counts.ensures _ _)

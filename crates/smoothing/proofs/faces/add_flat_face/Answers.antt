@@ -1,4 +1,4 @@
--- `create_shared::add_flat_face` meets its contract: each way is what the tests pick. Assumes nothing.
+-- `smoothing::faces::add_flat_face` meets its contract: each way is what the tests pick. Assumes nothing.
 use mathlib.Core.Path.{sym, ◌∙◌}
 use Rattle.smoothing.specs.Faces.{add_flat_face}
 use Rattle.smoothing.proofs.Codes.{face_none, face_one, face_more, face_again}

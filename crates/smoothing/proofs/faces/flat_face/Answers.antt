@@ -1,4 +1,4 @@
--- `create_shared::flat_face` meets its contract: each way is what the tests pick. Assumes nothing.
+-- `smoothing::faces::flat_face` meets its contract: each way is what the tests pick. Assumes nothing.
 use mathlib.Core.Path.{sym, ◌∙◌}
 use borrow.Author.Tests.{eq-eqb, ne_eqb}
 use Rattle.smoothing.proofs.Codes.{face_none, face_some}

@@ -1,4 +1,4 @@
--- `create_shared::flat_faces` meets its contract. The invariant: the list is the fold over the triangles passed. Assumes nothing.
+-- `smoothing::faces::flat_faces` meets its contract. The invariant: the list is the fold over the triangles passed. Assumes nothing.
 use Prim.Native.Nat.{◌/◌}
 use native.Mathlib.Omega.{arith}
 use mathlib.Core.Path.{◌≡◌, sym, ◌∙◌}

@@ -1,4 +1,4 @@
--- `create_shared::flat_faces` meets its contract. The invariant: the list is the fold over the triangles passed. Assumes nothing.
+-- `smoothing::faces::flat_faces` meets its contract. The invariant: the list is the fold over the triangles passed. Assumes nothing.
 use mathlib.Core.Path.{◌≡◌}
 use Rattle.common.specs.Fold.{fold_to}
 use Rattle.mesh.specs.Mesh.{as_halfedges}

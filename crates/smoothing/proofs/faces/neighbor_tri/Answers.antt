@@ -1,4 +1,4 @@
--- `create_shared::neighbor_tri` meets its contract. Assumes nothing.
+-- `smoothing::faces::neighbor_tri` meets its contract. Assumes nothing.
 use Prim.Native.Nat.{◌+◌, ◌*◌, ◌≤◌}
 use native.Mathlib.Omega.{arith}
 use lib.ListN.{length}

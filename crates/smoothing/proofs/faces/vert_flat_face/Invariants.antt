@@ -1,4 +1,4 @@
--- `create_shared::vert_flat_face` meets its contract. The invariant: each place holds the fold over the halfedges passed. Assumes nothing.
+-- `smoothing::faces::vert_flat_face` meets its contract. The invariant: each place holds the fold over the halfedges passed. Assumes nothing.
 use Prim.Native.Nat.{ℕ, ◌<◌}
 use mathlib.Core.Path.{◌≡◌}
 use lib.ListN.{length, get_or}
